@@ -1,0 +1,1 @@
+-- Laws of a list cut into pieces of equal size.

@@ -1,0 +1,6 @@
+-- Laws that several crates cite.
+pub mod Choices
+pub mod Orders
+pub mod Pasting
+pub mod Every
+pub mod Chunks

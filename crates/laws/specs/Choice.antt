@@ -1,0 +1,6 @@
+-- A choice by a test.
+use mathlib.Core.Bool.{Bool, true, false}
+
+unfoldable pub choose {ℓ} : {A : Type ℓ} → Bool → A → A → A
+choose true a b = a
+choose false a b = b

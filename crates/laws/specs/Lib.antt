@@ -1,0 +1,3 @@
+-- Words that contracts of several crates use.
+pub mod Choice
+pub mod Lists

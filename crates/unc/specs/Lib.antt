@@ -1,0 +1,3 @@
+-- Document 01, "Paths".
+pub mod Names
+pub mod Paths

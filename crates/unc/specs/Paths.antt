@@ -1,0 +1,119 @@
+-- Paths: document 01, "Paths". A path's text is cut at its backslashes; every rule goes by the pieces.
+use Prim.Native.Nat.{ℕ, _+_, _-_}
+use mathlib.Core.Bool.{Bool, true, false, _&&_, _||_, not}
+use mathlib.Core.List.{List, [], _∷_, _++_}
+use lib.ListN.{length, getD, take, drop}
+use lib.Dec.{leb, eqb}
+use Rattle.laws.specs.Choice.{choose}
+use Rattle.laws.specs.Lists.{every, roomed}
+use Rattle.unc.specs.Names.{sameName, backslash, goodComponent}
+use Rattle.unc.specs.declared.Form.{Form}
+use Rattle.unc.specs.declared.Form.the-variants.{Bad, Long, Good}
+use Rattle.unc.specs.declared.Written.{Written}
+use Rattle.unc.specs.declared.Written.the-variants.{Units, TooLong}
+
+-- one unit more before the pieces of a text: a backslash opens a new piece, any other unit goes before the first
+unfoldable pub before : Bool → ℕ → List (List ℕ) → List (List ℕ)
+before true u ps = [] ∷ ps
+before false u [] = (u ∷ []) ∷ []
+before false u (p ∷ ps) = (u ∷ p) ∷ ps
+
+-- what stands before, between and after the backslashes of a text
+unfoldable pub pieces : List ℕ → List (List ℕ)
+pieces [] = [] ∷ []
+pieces (u ∷ s) = before (eqb u backslash) u (pieces s)
+
+-- pieces parted by single backslashes
+unfoldable pub joined : List (List ℕ) → List ℕ
+joined [] = []
+joined (p ∷ []) = p
+joined (p ∷ (q ∷ qs)) = p ++ (backslash ∷ joined (q ∷ qs))
+
+-- a path's components: the pieces after its leading backslash
+unfoldable pub components : List ℕ → List (List ℕ)
+components s = drop 1 (pieces s)
+
+unfoldable pub componentCount : List ℕ → ℕ
+componentCount s = length (components s)
+
+-- the first k components, as a path
+unfoldable pub firstOf : ℕ → List ℕ → List ℕ
+firstOf k s = joined (take (k + 1) (pieces s))
+
+-- the leading backslashes of a path: one or two; 0 where there is none
+unfoldable pub leads : List ℕ → ℕ
+leads s = choose (eqb (getD s 0 0) backslash) (choose (eqb (getD s 1 0) backslash) 2 1) 0
+
+-- one trailing backslash is dropped
+unfoldable pub withoutTrail : List ℕ → List ℕ
+withoutTrail s = choose (eqb (getD s (length s - 1) 0) backslash) (take (length s - 1) s) s
+
+-- what stands between the leading backslashes and a trailing one
+unfoldable pub body : List ℕ → List ℕ
+body s = withoutTrail (drop (leads s) s)
+
+-- Bad are: no leading backslash, no component, an empty component, a unit 0, a "/", a component "." or ".."
+unfoldable pub goodPath : List ℕ → Bool
+goodPath s = not (eqb (leads s) 0) && every goodComponent (pieces (body s))
+
+-- "Normalised it has one leading backslash"
+unfoldable pub normalised : List ℕ → List ℕ
+normalised s = backslash ∷ body s
+
+-- a text that is a normalised path as it stands
+unfoldable pub isNormalised : List ℕ → Bool
+isNormalised s = eqb (getD s 0 0) backslash && every goodComponent (pieces (drop 1 s))
+
+-- "A normalised path has at most 256 units, leading backslash included"
+abbrev pub pathUnits : ℕ
+pathUnits = 256
+
+-- the form of a text as a path of at most n units normalised: bad, good but longer, or good with its length and its number of components
+unfoldable pub formWithin : ℕ → List ℕ → Form
+formWithin n s =
+    choose (goodPath s)
+    (choose (leb (length (normalised s)) n) (Good (length (normalised s)) (componentCount (normalised s))) Long)
+    Bad
+
+-- a room after a text was normalised into it: the path with zeros after it, or the room as it was where the path is not good or does not fit
+unfoldable pub roomAfter : List ℕ → List ℕ → List ℕ
+roomAfter s room =
+    choose (goodPath s)
+    (choose (leb (length (normalised s)) (length room)) (roomed (length room) (normalised s)) room)
+    room
+
+-- the number of components of a normalised path of at most 256 units; 0 of any other text
+unfoldable pub normalisedCount : List ℕ → ℕ
+normalisedCount s = choose (leb (length s) pathUnits && isNormalised s) (componentCount s) 0
+
+-- the first list's pieces are equal names to the second's first ones
+unfoldable pub begins : List (List ℕ) → List (List ℕ) → Bool
+begins [] qs = true
+begins (p ∷ ps) [] = false
+begins (p ∷ ps) (q ∷ qs) = sameName p q && begins ps qs
+
+-- "A prefix matches by whole components"
+unfoldable pub matches : List ℕ → List ℕ → Bool
+matches prefix s = begins (pieces prefix) (pieces s)
+
+-- the second component is SYSVOL or NETLOGON
+unfoldable pub isSysvol : List ℕ → Bool
+isSysvol s = sameName (getD (components s) 1 []) sysvol || sameName (getD (components s) 1 []) netlogon
+  where
+    sysvol : List ℕ
+    sysvol = 83 ∷ 89 ∷ 83 ∷ 86 ∷ 79 ∷ 76 ∷ []
+
+    netlogon : List ℕ
+    netlogon = 78 ∷ 69 ∷ 84 ∷ 76 ∷ 79 ∷ 71 ∷ 79 ∷ 78 ∷ []
+
+-- Steps 3 and 11: the portion of the path that is its first k units, those of the prefix, is replaced by the target
+unfoldable pub replaced : List ℕ → ℕ → List ℕ → List ℕ
+replaced target k s = target ++ drop k s
+
+-- a text written into a room of n units, or told to be too long for it
+unfoldable pub written : ℕ → List ℕ → Written
+written n s = choose (leb (length s) n) (Units (length s)) TooLong
+
+-- the room after that
+unfoldable pub roomWith : List ℕ → List ℕ → List ℕ
+roomWith s room = choose (leb (length s) (length room)) (roomed (length room) s) room

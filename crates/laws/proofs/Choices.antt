@@ -1,6 +1,9 @@
--- Laws of a choice by a test.
-use mathlib.Core.Path.{_≡_, refl, ap}
-use mathlib.Core.Bool.{Bool, true, false}
+-- Laws of a choice by a test, and of tests joined by "and".
+use mathlib.Core.Path.{_≡_, refl, ap, sym, _∙_}
+use mathlib.Core.Bool.{Bool, true, false, _&&_, not, true≢false}
+use Prim.Native.Nat.{ℕ}
+use lib.Dec.{eqb}
+use borrow.Author.Tests.{eqb-true, eq-eqb, ne-eqb, eqb-false}
 use Rattle.laws.specs.Choice.{choose}
 
 module _ {ℓ} {A : Type ℓ} where
@@ -11,3 +14,31 @@ module _ {ℓ} {A : Type ℓ} where
   pub choose-no : {t : Bool} (a b : A) → t ≡ false → choose t a b ≡ b
   unfolding choose
   choose-no a b h = ap (λ x. choose x a b) h
+
+pub and-left : (a b : Bool) → (a && b) ≡ true → a ≡ true
+and-left true b h = refl
+and-left false b h = h
+
+pub and-right : (a b : Bool) → (a && b) ≡ true → b ≡ true
+and-right true b h = h
+and-right false b h = absurd (true≢false (sym h))
+
+pub and-both : {a b : Bool} → a ≡ true → b ≡ true → (a && b) ≡ true
+and-both p q = rw (p, q)
+
+pub and-no-left : {a : Bool} (b : Bool) → a ≡ false → (a && b) ≡ false
+and-no-left b p = rw p
+
+pub and-no-right : (a : Bool) {b : Bool} → b ≡ false → (a && b) ≡ false
+and-no-right true q = q
+and-no-right false q = refl
+
+-- a test of equal numbers
+pub eqb-refl : (n : ℕ) → eqb n n ≡ true
+eqb-refl n = eq-eqb n n refl
+
+pub eqb-sym : (a b : ℕ) → eqb a b ≡ true → eqb b a ≡ true
+eqb-sym a b h = eq-eqb b a (sym (eqb-true a b h))
+
+pub eqb-trans : (a b c : ℕ) → eqb a b ≡ true → eqb b c ≡ true → eqb a c ≡ true
+eqb-trans a b c h k = eq-eqb a c (eqb-true a b h ∙ eqb-true b c k)

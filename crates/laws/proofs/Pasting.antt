@@ -88,11 +88,16 @@ module _ {ℓ} {A : Type ℓ} where
       let e : length (take n d) ≡ n = simp length-take (omega arith) in
       let l : n + length p ≡ length (take n d ++ p) = simp length-append (omega arith) in
       let w : length (take n d ++ p) + length q ≡ n + (length p + length q) = omega arith in
-      rw (← append-assoc (take n d) p (drop (n + length p) d), l,
-          lib.Seq.take-append-seam (take n d ++ p) (drop (length (take n d ++ p)) d),
-          lib.Seq.drop-append-add (take n d ++ p) (drop (length (take n d ++ p)) d) (length q),
-          drop-drop (length q) (length (take n d ++ p)) d,
-          length-append p q, append-assoc (take n d) p (q ++ drop (length (take n d ++ p) + length q) d), append-assoc p q)
+      rw (
+        ← append-assoc (take n d) p (drop (n + length p) d),
+        l,
+        lib.Seq.take-append-seam (take n d ++ p) (drop (length (take n d ++ p)) d),
+        lib.Seq.drop-append-add (take n d ++ p) (drop (length (take n d ++ p)) d) (length q),
+        drop-drop (length q) (length (take n d ++ p)) d,
+        length-append p q,
+        append-assoc (take n d) p (q ++ drop (length (take n d ++ p) + length q) d),
+        append-assoc p q,
+      )
       (ap (λ (k : ℕ). take n d ++ (p ++ (q ++ drop k d))) w)
 
   -- a loop that stores one element more each turn
@@ -189,6 +194,13 @@ module _ {ℓ} {A : Type ℓ} where
       ap (part m k) (sym (pasted-in-part d m k n p h u))
       ∙ (ap (λ (x : ℕ). part m x (pasted d m (pasted (part m k d) n p))) (sym c) ∙ part-pasted d m _ (omega arith))
 
+  -- a piece over the whole
+  pub pasted-whole : (d p : List A) → length p ≡ length d → pasted d 0 p ≡ p
+  unfolding pasted
+  pasted-whole d p e =
+      let h : length d ≤ 0 + length p = omega arith in
+      ap (λ (x : List A). p ++ x) (lib.ListN.drop-of-length-le d h) ∙ append-nil p
+
 -- a text in its room
 pub length-roomed : (n : ℕ) (s : List ℕ) → length s ≤ n → length (roomed n s) ≡ n
 unfolding roomed
@@ -205,6 +217,22 @@ unfolding roomed
 pasted-room d at n s e f h u =
     f ∙ (ap (λ (x : List ℕ). pasted x (at + length s) (replicate (n - length s) 0)) e
     ∙ pasted-join d at s (replicate (n - length s) 0) (simp length-replicate (omega arith)))
+
+joined-room : (n : ℕ) (a b : List ℕ) → a ++ roomed (n - length a) b ≡ roomed n (a ++ b)
+unfolding roomed
+joined-room n a b =
+    let e : n - length a - length b ≡ n - length (a ++ b) = simp length-append (omega arith) in
+    rw e (sym (append-assoc a b (replicate (n - length (a ++ b)) 0)))
+
+-- a room written in two: first a, then b and zeros
+pub room-in-two : (d a b : List ℕ) {m o : List ℕ} → m ≡ pasted d 0 a → o ≡ pasted m (length a) (roomed (length d - length a) b)
+    → length a + length b ≤ length d → o ≡ roomed (length d) (a ++ b)
+room-in-two d a b e f h =
+    let l : length (roomed (length d - length a) b) ≡ length d - length a = length-roomed (length d - length a) b (omega arith) in
+    f ∙ (ap (λ (x : List ℕ). pasted x (length a) (roomed (length d - length a) b)) e
+    ∙ (ap (λ (k : ℕ). pasted (pasted d 0 a) k (roomed (length d - length a) b)) (sym (zero-add (length a)))
+    ∙ (pasted-join d 0 a (roomed (length d - length a) b) (omega arith)
+    ∙ (pasted-whole d (a ++ roomed (length d - length a) b) (simp length-append (omega arith)) ∙ joined-room (length d) a b))))
 
 -- one unit more
 pub replicate-more : (n v : ℕ) → replicate n v ++ (v ∷ []) ≡ replicate (n + 1) v

@@ -1,1 +1,6 @@
--- Laws of this crate.
+-- Laws of names and paths.
+pub mod NameLaws
+pub mod PieceLaws
+pub mod SpanLaws
+pub mod MatchLaws
+pub mod FormLaws

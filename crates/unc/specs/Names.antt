@@ -36,7 +36,7 @@ plain u = not (eqb u backslash) && (not (eqb u slash) && not (eqb u 0))
 
 -- empty, "." or ".."
 unfoldable pub nothingOrDots : List ℕ → Bool
-nothingOrDots c = leb (length c) 2 && every (eqb dot) c
+nothingOrDots c = leb (length c) 2 && every (λ u. eqb u dot) c
 
 unfoldable pub goodComponent : List ℕ → Bool
 goodComponent c = not (nothingOrDots c) && every plain c

@@ -1,12 +1,12 @@
 -- Paths: document 01, "Paths". A path's text is cut at its backslashes; every rule goes by the pieces.
-use Prim.Native.Nat.{ℕ, _+_, _-_}
+use Prim.Native.Nat.{ℕ, suc, _+_, _-_}
 use mathlib.Core.Bool.{Bool, true, false, _&&_, _||_, not}
 use mathlib.Core.List.{List, [], _∷_, _++_}
 use lib.ListN.{length, getD, take, drop}
 use lib.Dec.{leb, eqb}
 use Rattle.laws.specs.Choice.{choose}
 use Rattle.laws.specs.Lists.{every, roomed}
-use Rattle.unc.specs.Names.{sameName, backslash, goodComponent}
+use Rattle.unc.specs.Names.{sameName, backslash, plain, goodComponent}
 use Rattle.unc.specs.declared.Form.{Form}
 use Rattle.unc.specs.declared.Form.the-variants.{Bad, Long, Good}
 use Rattle.unc.specs.declared.Written.{Written}
@@ -52,6 +52,15 @@ withoutTrail s = choose (eqb (getD s (length s - 1) 0) backslash) (take (length 
 unfoldable pub body : List ℕ → List ℕ
 body s = withoutTrail (drop (leads s) s)
 
+-- how many units a text has before the first that may not stand in a component
+unfoldable pub plainLength : List ℕ → ℕ
+plainLength [] = 0
+plainLength (u ∷ s) = choose (plain u) (suc (plainLength s)) 0
+
+-- n more than the number of pieces of a text where each is a good component, else 0
+unfoldable pub goodCount : ℕ → List ℕ → ℕ
+goodCount n s = choose (every goodComponent (pieces s)) (n + length (pieces s)) 0
+
 -- Bad are: no leading backslash, no component, an empty component, a unit 0, a "/", a component "." or ".."
 unfoldable pub goodPath : List ℕ → Bool
 goodPath s = not (eqb (leads s) 0) && every goodComponent (pieces (body s))
@@ -96,15 +105,15 @@ begins (p ∷ ps) (q ∷ qs) = sameName p q && begins ps qs
 unfoldable pub matches : List ℕ → List ℕ → Bool
 matches prefix s = begins (pieces prefix) (pieces s)
 
+abbrev pub sysvol : List ℕ
+sysvol = 83 ∷ 89 ∷ 83 ∷ 86 ∷ 79 ∷ 76 ∷ []
+
+abbrev pub netlogon : List ℕ
+netlogon = 78 ∷ 69 ∷ 84 ∷ 76 ∷ 79 ∷ 71 ∷ 79 ∷ 78 ∷ []
+
 -- the second component is SYSVOL or NETLOGON
 unfoldable pub isSysvol : List ℕ → Bool
 isSysvol s = sameName (getD (components s) 1 []) sysvol || sameName (getD (components s) 1 []) netlogon
-  where
-    sysvol : List ℕ
-    sysvol = 83 ∷ 89 ∷ 83 ∷ 86 ∷ 79 ∷ 76 ∷ []
-
-    netlogon : List ℕ
-    netlogon = 78 ∷ 69 ∷ 84 ∷ 76 ∷ 79 ∷ 71 ∷ 79 ∷ 78 ∷ []
 
 -- Steps 3 and 11: the portion of the path that is its first k units, those of the prefix, is replaced by the target
 unfoldable pub replaced : List ℕ → ℕ → List ℕ → List ℕ

@@ -2,13 +2,11 @@ use native.Mathlib.Omega.{arith}
 use Rattle.laws.proofs.Pasting.{pasted-nil, filled-more, filled-all}
 use Prim.Native.Nat.{_-_, _≤_}
 use mathlib.Core.Path.{_≡_, sym}
-use lib.ListN.{length, take, replicate}
+use lib.ListN.{length, replicate}
 use Rattle.laws.specs.Lists.{pasted}
 use borrow.Author.Needs.{needs}
 use Rattle.rooms.proofs.clear_units.Statement.{statement}
 use Rattle.rooms.proofs.clear_units.Tie as tie
-use Rattle.rooms.proofs.clear_units.Reads as reads
-use Rattle.rooms.proofs.clear_units.Lts as lts
 
 abbrev Inv-loop : tie.InvT-loop
 Inv-loop dst₀ at count i₀ dst i = (i ≤ count) × ((length dst ≡ length dst₀) × (dst ≡ pasted dst₀ at (replicate i 0)))
@@ -16,40 +14,31 @@ Inv-loop dst₀ at count i₀ dst i = (i ≤ count) × ((length dst ≡ length d
 abbrev μ-loop : tie.MeasureT-loop
 μ-loop dst₀ at count i₀ dst i = count - i
 
--- src/lib.rt:31:5
 loop-holds : tie.Need-loop-holds Inv-loop μ-loop
 loop-holds c = (search needs, (search needs, sym (pasted-nil _ _)))
 
--- src/lib.rt:32:13
 add-dst : tie.Need-add-dst Inv-loop μ-loop
 add-dst c = search needs
 
--- src/lib.rt:32:9
 mul-dst : tie.Need-mul-dst Inv-loop μ-loop
 mul-dst c = search needs
 
--- src/lib.rt:32:9
 slice-write-dst : tie.Need-slice-write-dst Inv-loop μ-loop
 slice-write-dst c = search needs
 
--- src/lib.rt:33:9
 add-i : tie.Need-add-i Inv-loop μ-loop
 add-i c = search needs
 
--- src/lib.rt:31:5
 loop-less : tie.Need-loop-less Inv-loop μ-loop
 loop-less c = search needs
 
--- src/lib.rt:31:5
 loop-again : tie.Need-loop-again Inv-loop μ-loop
-loop-again c = 
+loop-again c =
     (search needs, (search needs, filled-more _ _ 0 _ (c .before .loop .inv .1 .1) (omega arith)))
 
--- src/lib.rt:26:1
 same-length : tie.Need-same-length Inv-loop μ-loop
 same-length c = search needs
 
--- src/lib.rt:26:1
 returns : tie.Need-returns Inv-loop μ-loop
 returns c = filled-all _ _ _ (c .before .loop .i) (c .before .before .args .count) (c .before .loop .inv .1 .1) (omega arith)
 

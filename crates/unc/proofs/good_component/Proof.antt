@@ -1,0 +1,20 @@
+use Rattle.unc.proofs.PieceLaws.{component-dots, component-scan}
+use borrow.Author.Needs.{needs}
+use Rattle.unc.proofs.good_component.Statement.{statement}
+use Rattle.unc.proofs.good_component.Tie as tie
+
+nothing-or-dots-requires : tie.Need-nothing-or-dots-requires
+nothing-or-dots-requires c κs = search needs
+
+returns : tie.Need-returns
+returns c = component-dots _ (c .before .nothing-or-dots .ensures) (c .if1 .taken)
+
+plain-end-requires : tie.Need-plain-end-requires
+plain-end-requires c κs = search needs
+
+returns-2 : tie.Need-returns-2
+returns-2 c = component-scan _ _ (c .before .before .nothing-or-dots .ensures) (c .before .if1 .left) (c .plain-end .ensures)
+
+pub good-component-spec : {M : Type 1} → statement M
+good-component-spec =
+    tie.close (tie.spec nothing-or-dots-requires returns plain-end-requires returns-2)

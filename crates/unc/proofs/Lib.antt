@@ -4,3 +4,5 @@ pub mod PieceLaws
 pub mod SpanLaws
 pub mod MatchLaws
 pub mod FormLaws
+pub mod WholeLaws
+pub mod Examples

@@ -17,7 +17,7 @@ use Rattle.unc.proofs.NameLaws.{Alone, alone-backslash, sameUnit-refl, 
 use Rattle.unc.proofs.PieceLaws.{firstPiece, morePieces, pieces-some, pieces-nil, pieces-parted, pieces-longer, parts}
 
 -- A prefix matches exactly where its units are equal to the path's first ones and the path ends there or goes on with a backslash.
-pub atEnd : List ℕ → Bool
+unfoldable pub atEnd : List ℕ → Bool
 atEnd [] = true
 atEnd (u ∷ s) = eqb u 92
 

@@ -1,3 +1,4 @@
 -- Words that contracts of several crates use.
 pub mod Choice
 pub mod Lists
+pub mod Listed

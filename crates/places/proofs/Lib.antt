@@ -1,0 +1,6 @@
+-- Laws of this crate.
+pub mod LayoutLaws
+pub mod ZeroLaws
+pub mod WriterLaws
+pub mod WrittenLaws
+pub mod TidyLaws

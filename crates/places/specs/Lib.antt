@@ -1,0 +1,2 @@
+-- Lent memory as places of one layout.
+pub mod Layout

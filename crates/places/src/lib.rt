@@ -1,0 +1,154 @@
+// Lent memory as places of 2,336 units, one layout for both caches (specs/Layout.antt): reading and writing one place.
+ghost use mathlib.Core.Path.{_≡_};
+ghost use mathlib.Core.List.{List, [], _∷_};
+ghost use Prim.Native.Nat.{ℕ, _+_, _-_, _*_, _/_, _≤_, _<_};
+ghost use lib.ListN.{length};
+ghost use Rattle.laws.specs.Lists.{part};
+ghost use Rattle.places.specs.Layout.{placeAt, changed, unitAt, wideAt, textAt, blank, zeros, tidyRoom, tidyRooms, tidy, putUnit, putWide, putText};
+
+pub const PLACE: usize = 2336;
+
+const HEAD: usize = 32;
+
+const ROOM: usize = 256;
+
+const TEXTS: usize = 9;
+
+// Unit j of place i.
+pub fn unit(cache: &[u16], i: usize, j: usize) -> u16
+    requires { ⌜ (i < length (now cache) / 2336) × (j < 2336) ⌝ }
+    ensures { λ r. ⌜ r ≡ unitAt j (placeAt i (now (cache .entry))) ⌝ }
+{
+    cache[i * PLACE + j]
+}
+
+// The number of 32 bits at units j and j + 1 of place i.
+pub fn wide(cache: &[u16], i: usize, j: usize) -> u32
+    requires { ⌜ (i < length (now cache) / 2336) × (j + 1 < 2336) ⌝ }
+    ensures { λ r. ⌜ r ≡ wideAt j (placeAt i (now (cache .entry))) ⌝ }
+{
+    let at = i * PLACE + j;
+    cache[at] as u32 + 65536 * cache[at + 1] as u32
+}
+
+// Text j of place i, as it lies in the cache.
+pub fn text(cache: &[u16], i: usize, j: usize) -> &[u16]
+    requires { ⌜ (i < length (now cache) / 2336) × (j < 9) ⌝ }
+    ensures { λ r. ⌜ now r ≡ textAt j (placeAt i (now (cache .entry))) ⌝ }
+{
+    let at = i * PLACE;
+    let units = cache[at + j] as usize;
+    let start = at + HEAD + j * ROOM;
+    if units < ROOM {
+        let end = start + units;
+        return &cache[start..end];
+    }
+    let end = start + ROOM;
+    &cache[start..end]
+}
+
+pub fn put_unit(cache: &mut [u16], i: usize, j: usize, v: u16)
+    requires { ⌜ (i < length (now cache) / 2336) × (j < 2336) ⌝ }
+    ensures { λ r. ⌜ now (cache .exit) ≡ changed i (putUnit j v) (now (cache .entry)) ⌝ }
+{
+    rooms::put_unit(cache, i * PLACE + j, v);
+}
+
+// A number of 32 bits into units j and j + 1 of place i.
+pub fn put_wide(cache: &mut [u16], i: usize, j: usize, v: u32)
+    requires { ⌜ (i < length (now cache) / 2336) × (j + 1 < 2336) ⌝ }
+    ensures { λ r. ⌜ now (cache .exit) ≡ changed i (putWide j v) (now (cache .entry)) ⌝ }
+{
+    let at = i * PLACE + j;
+    rooms::put_unit(cache, at, (v % 65536) as u16);
+    rooms::put_unit(cache, at + 1, (v / 65536) as u16);
+}
+
+// Text j of place i, with its length; the rest of its room becomes zero.
+pub fn put_text(cache: &mut [u16], i: usize, j: usize, text: &[u16])
+    requires { ⌜ (i < length (now cache) / 2336) × ((j < 9) × (length (now text) ≤ 256)) ⌝ }
+    ensures { λ r. ⌜ now (cache .exit) ≡ changed i (putText j (now (text .entry))) (now (cache .entry)) ⌝ }
+{
+    let at = i * PLACE;
+    rooms::put_unit(cache, at + j, text.len() as u16);
+    rooms::put_text(cache, at + HEAD + j * ROOM, ROOM, text);
+}
+
+pub fn clear_place(cache: &mut [u16], i: usize)
+    requires { ⌜ i < length (now cache) / 2336 ⌝ }
+    ensures { λ r. ⌜ now (cache .exit) ≡ changed i (λ q. blank) (now (cache .entry)) ⌝ }
+{
+    rooms::clear_units(cache, i * PLACE, PLACE);
+}
+
+// Keeps place i, to be put back by `put_place`.
+pub fn save_place(cache: &[u16], i: usize, saved: &mut [u16])
+    requires { ⌜ (i < length (now cache) / 2336) × (length (now saved) ≡ 2336) ⌝ }
+    ensures { λ r. ⌜ now (saved .exit) ≡ placeAt i (now (cache .entry)) ⌝ }
+{
+    let at = i * PLACE;
+    let end = at + PLACE;
+    rooms::copy_units(saved, 0, &cache[at..end]);
+}
+
+pub fn put_place(cache: &mut [u16], i: usize, saved: &[u16])
+    requires { ⌜ (i < length (now cache) / 2336) × (length (now saved) ≡ 2336) ⌝ }
+    ensures { λ r. ⌜ now (cache .exit) ≡ changed i (λ q. now (saved .entry)) (now (cache .entry)) ⌝ }
+{
+    rooms::copy_units(cache, i * PLACE, saved);
+}
+
+// Whether every unit from `from` up to `to` is zero. The loop has no exit, so that it runs over many units at a time.
+pub fn all_zero(s: &[u16], from: usize, to: usize) -> bool
+    requires { ⌜ (from ≤ to) × (to ≤ length (now s)) ⌝ }
+    ensures { λ r. ⌜ r ≡ zeros (part from (to - from) (now (s .entry))) ⌝ }
+{
+    let mut any: u16 = 0;
+    let mut i = from;
+    while i < to {
+        any = any | s[i];
+        i += 1;
+    }
+    any == 0
+}
+
+// Whether nothing stands in the nine rooms of a place past their texts.
+fn rooms_tidy(piece: &[u16]) -> bool
+    requires { ⌜ length (now piece) ≡ 2336 ⌝ }
+    ensures { λ r. ⌜ r ≡ tidyRooms (now (piece .entry)) ⌝ }
+{
+    let mut j = 0;
+    while j < TEXTS {
+        let units = piece[j] as usize;
+        if ROOM < units {
+            return false;
+        }
+        let start = HEAD + j * ROOM;
+        if !all_zero(piece, start + units, start + ROOM) {
+            return false;
+        }
+        j += 1;
+    }
+    true
+}
+
+// Whether the unused room of a used place is zero.
+pub fn is_tidy(piece: &[u16]) -> bool
+    requires { ⌜ length (now piece) ≡ 2336 ⌝ }
+    ensures { λ r. ⌜ r ≡ tidy (now (piece .entry)) ⌝ }
+{
+    let count = piece[9] as usize;
+    if 8 < count {
+        return false;
+    }
+    if !all_zero(piece, 1 + count, 9) {
+        return false;
+    }
+    if !all_zero(piece, 11 + count, 19) {
+        return false;
+    }
+    if !all_zero(piece, 26, 32) {
+        return false;
+    }
+    rooms_tidy(piece)
+}

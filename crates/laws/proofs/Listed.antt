@@ -68,10 +68,23 @@ unfolding listed
 map-listed g zero f = refl
 map-listed g (suc n) f = λ i. g (f 0) ∷ map-listed g n (λ j. f (suc j)) i
 
+-- an element of a list that a function was applied to, whatever is read past the end
+pub getD-map {ℓ κ} : {A : Type ℓ} {B : Type κ} (g : A → B) (xs : List A) (i : ℕ) (z : A) (w : B) → i < length xs → getD (map g xs) i w ≡ g (getD xs i z)
+getD-map g [] i z w h = absurd (not-suc-le-zero h)
+getD-map g (x ∷ xs) zero z w h = refl
+getD-map g (x ∷ xs) (suc i) z w h = getD-map g xs i z w (le-of-suc-le-suc h)
+
 every-all {ℓ} : {A : Type ℓ} (f : A → Bool) (n : ℕ) (g : ℕ → A) → ((i : ℕ) → i < n → f (g i) ≡ true) → every f (listed n g) ≡ true
 unfolding every listed
 every-all f zero g h = refl
 every-all f (suc n) g h = and-both (h 0 (omega arith)) (every-all f n (λ j. g (suc j)) (λ i u. h (suc i) (omega arith)))
+
+-- one element changed for one that passes
+pub every-set {ℓ} : {A : Type ℓ} (f : A → Bool) (xs : List A) (i : ℕ) (x : A) → every f xs ≡ true → f x ≡ true → every f (set xs i x) ≡ true
+unfolding every
+every-set f [] i x h e = refl
+every-set f (y ∷ xs) zero x h e = and-both e (and-right (f y) _ h)
+every-set f (y ∷ xs) (suc i) x h e = and-both (and-left (f y) _ h) (every-set f xs i x (and-right (f y) _ h) e)
 
 -- a loop that tests each value of a list made place by place: what is left to test
 module _ {ℓ} {A : Type ℓ} (f : A → Bool) (n : ℕ) (g : ℕ → A) where

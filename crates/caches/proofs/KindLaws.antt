@@ -142,10 +142,15 @@ short-list P n f (t ∷ ts) h zero = f t (and-left (P t) _ h)
 short-list P n f (t ∷ ts) h (suc j) = short-list P n f ts (and-right (P t) _ h) j
 
 -- the paths of targets
-every-path : (ts : List Target) → every goodTarget ts ≡ true → every goodPrefix (map (λ t. t .path) ts) ≡ true
+pub every-path : (ts : List Target) → every goodTarget ts ≡ true → every goodPrefix (map (λ t. t .path) ts) ≡ true
 unfolding every goodTarget
 every-path [] h = refl
 every-path (t ∷ ts) h = and-both (and-left (goodPrefix (t .path)) _ h) (every-path ts (and-right (goodPrefix (t .path)) _ h))
+
+pub path-every : (ts : List Target) → every goodPrefix (map (λ t. t .path) ts) ≡ true → every goodTarget ts ≡ true
+unfolding every goodTarget
+path-every [] h = refl
+path-every (t ∷ ts) h = and-both (and-left (goodPrefix (t .path)) _ h) (path-every ts (and-right (goodPrefix (t .path)) _ h))
 
 noTarget : Target
 noTarget = record { path = []; opens = false }

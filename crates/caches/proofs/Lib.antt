@@ -1,3 +1,4 @@
 -- Laws of this crate.
 pub mod MemoryLaws
 pub mod KindLaws
+pub mod PlaceLaws

@@ -2,4 +2,5 @@
 pub mod Entries
 pub mod Memory
 pub mod Order
+pub mod Tests
 pub mod Lookup

@@ -98,3 +98,14 @@ roomed-take n u d e h z =
     at : (i : ℕ) → i < n → length (take u d) ≡ u → (i < u) ⊎ (u ≤ i) → getD (take u d) i 0 ≡ getD d i 0
     at i q l (inl v) = getD-take u d i 0 v
     at i q l (inr v) = List·getD-eq-default (take u d) 0 {n = i} (omega arith) ∙ sym (z i v q)
+
+-- a text of zeros is like none
+pub roomed-blank : (n : ℕ) (s : List ℕ) → length s ≤ n → ((i : ℕ) → i < length s → getD s i 0 ≡ 0) → roomed n s ≡ roomed n []
+roomed-blank n s h z =
+    let l : length (roomed n s) ≡ n = length-roomed n s h in
+    let m : length (roomed n []) ≡ n = length-roomed n [] (omega arith) in
+    ext-getD 0 (roomed n s) (roomed n []) (l ∙ sym m) (λ i q. getD-roomed n s i ∙ (at i (lt-or-le i (length s)) ∙ sym (getD-roomed n [] i)))
+  where
+    at : (i : ℕ) → (i < length s) ⊎ (length s ≤ i) → getD s i 0 ≡ getD [] i 0
+    at i (inl u) = z i u
+    at i (inr u) = List·getD-eq-default s 0 {n = i} u

@@ -85,7 +85,7 @@ module _ (piece : List ℕ) (whole : length piece ≡ 2336) where
     fewTexts = rw length-textsOf (omega arith);
     short = λ j. at j (lt-or-le (listCount piece) j);
     fewMarks = simp length-listed (omega arith);
-    fewSettings = rw (length-part 19 7 piece (omega arith)) (omega arith);
+    fewSettings = simp length-listed (omega arith);
   }
     where
       at : (j : ℕ) → (listCount piece < j) ⊎ (j ≤ listCount piece) → length (getD (textsOf piece) j []) ≤ 256
@@ -102,11 +102,11 @@ module _ (piece : List ℕ) (whole : length piece ≡ 2336) where
 
   settingsOf-at : (j : ℕ) → j < 7 → getD (settingsOf piece) j 0 ≡ unitAt (19 + j) piece
   unfolding settingsOf
-  settingsOf-at j h = getD-part 19 7 piece j 0 h
+  settingsOf-at j h = getD-listed 7 (λ k. unitAt (19 + k) piece) j 0 h
 
   settingsOf-past : (j : ℕ) → 7 ≤ j → getD (settingsOf piece) j 0 ≡ 0
   unfolding settingsOf
-  settingsOf-past j h = List·getD-eq-default (settingsOf piece) 0 {n = j} (rw (length-part 19 7 piece (omega arith)) h)
+  settingsOf-past j h = List·getD-eq-default (settingsOf piece) 0 {n = j} (simp length-listed h)
 
   room-unit : (j o : ℕ) → o < 256 → getD (roomAt j piece) o 0 ≡ getD piece (32 + j * 256 + o) 0
   unfolding roomAt

@@ -63,6 +63,13 @@ pub record Shaped (ts : List (List ℕ)) (marks settings : List ℕ) : Type 0 wh
   pub fewMarks : length marks ≤ 8
   pub fewSettings : length settings ≤ 13
 
+-- only their rooms in the head count of marks and settings
+pub same-written : (ts : List (List ℕ)) (hint : ℕ) (ms ss ms′ ss′ : List ℕ) → roomed 8 ms ≡ roomed 8 ms′ → roomed 13 ss ≡ roomed 13 ss′
+    → written ts hint ms ss ≡ written ts hint ms′ ss′
+unfolding written headOf
+same-written ts hint ms ss ms′ ss′ p q =
+    λ i. (listed 9 (λ j. length (getD ts j [])) ++ (((length ts - 1) ∷ hint ∷ []) ++ (p i ++ q i))) ++ roomsOf ts
+
 module _ (ts : List (List ℕ)) (hint : ℕ) (marks settings : List ℕ) (shape : Shaped ts marks settings) where
   length-marks : length (roomed 8 marks) ≡ 8
   length-marks = length-roomed 8 marks (shape .fewMarks)

@@ -77,7 +77,7 @@ unfoldable pub marksOf : List ℕ → List ℕ
 marksOf piece = listed (listCount piece) (λ j. unitAt (11 + j) piece)
 
 unfoldable pub settingsOf : List ℕ → List ℕ
-settingsOf piece = part 19 7 piece
+settingsOf piece = listed 7 (λ j. unitAt (19 + j) piece)
 
 -- the unused room of a used place is zero: the place is exactly what its texts, hint, marks and settings write
 unfoldable pub tidy : List ℕ → Bool

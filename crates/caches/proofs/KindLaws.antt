@@ -95,12 +95,13 @@ module _ (e : Referral) where
       let c = and-right (leb n 8) _ b in
       let d = and-right (every goodTarget (e .targets)) _ c in
       record {
-          prefixed = and-left (goodPrefix (e .prefix)) _ h;
-          some = leb-true _ _ (and-left (leb 1 n) _ a);
-          few = leb-true _ _ (and-left (leb n 8) _ b);
-          each = and-left (every goodTarget (e .targets)) _ c;
-          first = and-left (firstOpensNone (e .targets)) _ d;
-          hinted = ltb-true _ _ (and-right (firstOpensNone (e .targets)) _ d) }
+        prefixed = and-left (goodPrefix (e .prefix)) _ h;
+        some = leb-true _ _ (and-left (leb 1 n) _ a);
+        few = leb-true _ _ (and-left (leb n 8) _ b);
+        each = and-left (every goodTarget (e .targets)) _ c;
+        first = and-left (firstOpensNone (e .targets)) _ d;
+        hinted = ltb-true _ _ (and-right (firstOpensNone (e .targets)) _ d);
+      }
 
   pub good-referral : GoodReferral e → goodReferral e ≡ true
   unfolding goodReferral
@@ -124,10 +125,11 @@ module _ (d : Domain) where
       let a = and-right (goodName (d .name)) _ h in
       let b = and-right (leb (length (d .dcs)) 8) _ a in
       record {
-          named = and-left (goodName (d .name)) _ h;
-          few = leb-true _ _ (and-left (leb (length (d .dcs)) 8) _ a);
-          each = and-left (every goodName (d .dcs)) _ b;
-          hinted = and-right (every goodName (d .dcs)) _ b }
+        named = and-left (goodName (d .name)) _ h;
+        few = leb-true _ _ (and-left (leb (length (d .dcs)) 8) _ a);
+        each = and-left (every goodName (d .dcs)) _ b;
+        hinted = and-right (every goodName (d .dcs)) _ b;
+      }
 
   pub good-domain : GoodDomain d → goodDomain d ≡ true
   unfolding goodDomain
@@ -164,10 +166,11 @@ module _ (e : Referral) (good : goodReferral e ≡ true) where
   referral-shape =
       let f : length (e .targets) ≤ 8 = g .few in
       record {
-          fewTexts = simp length-map (omega arith);
-          short = short-list goodPrefix 256 prefix-short (e .prefix ∷ map (λ t. t .path) (e .targets)) (and-both (g .prefixed) (every-path (e .targets) (g .each)));
-          fewMarks = simp length-map f;
-          fewSettings = omega arith }
+        fewTexts = simp length-map (omega arith);
+        short = short-list goodPrefix 256 prefix-short (e .prefix ∷ map (λ t. t .path) (e .targets)) (and-both (g .prefixed) (every-path (e .targets) (g .each)));
+        fewMarks = simp length-map f;
+        fewSettings = omega arith;
+      }
 
   referral-long : length (referralUnits e) ≡ 2336
   unfolding referralUnits
@@ -194,9 +197,9 @@ module _ (e : Referral) (good : goodReferral e ≡ true) where
   target-back j h =
       let f : length (e .targets) ≤ 8 = g .few in
       let p = text-back (e .prefix) (map (λ t. t .path) (e .targets)) (e .hint) _ _ referral-shape j (simp length-map h)
-          ∙ getD-map (λ t. t .path) (e .targets) j noTarget [] h in
+      ∙ getD-map (λ t. t .path) (e .targets) j noTarget [] h in
       let o = ap (λ (u : ℕ). eqb u 1) (written-mark _ _ _ _ referral-shape j (omega arith) ∙ getD-map (λ t. flagUnit (t .opens)) (e .targets) j noTarget 0 h)
-          ∙ flag-back (getD (e .targets) j noTarget .opens) in
+      ∙ flag-back (getD (e .targets) j noTarget .opens) in
       λ i. record { path = p i; opens = o i }
 
   targets-back : listed (listCount (referralUnits e)) (λ j. targetOf j (referralUnits e)) ≡ e .targets
@@ -212,14 +215,15 @@ module _ (e : Referral) (good : goodReferral e ≡ true) where
       let p : textAt 0 (referralUnits e) ≡ e .prefix = written-text _ _ _ _ referral-shape 0 (omega arith) in
       let h : unitAt 10 (referralUnits e) ≡ e .hint = written-hint _ _ _ _ referral-shape in
       λ i. record {
-          prefix = p i;
-          root = setting-flag 0 (e .root) (omega arith) refl i;
-          interlink = setting-flag 1 (e .interlink) (omega arith) refl i;
-          failback = setting-flag 2 (e .failback) (omega arith) refl i;
-          ttl = setting-wide 3 (e .ttl) (omega arith) refl refl i;
-          taken = setting-wide 5 (e .taken) (omega arith) refl refl i;
-          targets = targets-back i;
-          hint = h i }
+        prefix = p i;
+        root = setting-flag 0 (e .root) (omega arith) refl i;
+        interlink = setting-flag 1 (e .interlink) (omega arith) refl i;
+        failback = setting-flag 2 (e .failback) (omega arith) refl i;
+        ttl = setting-wide 3 (e .ttl) (omega arith) refl refl i;
+        taken = setting-wide 5 (e .taken) (omega arith) refl refl i;
+        targets = targets-back i;
+        hint = h i;
+      }
 
 pub referrals-lawful : Lawful referrals
 unfolding referralOf
@@ -234,10 +238,11 @@ module _ (d : Domain) (good : goodDomain d ≡ true) where
   domain-shape =
       let f : length (d .dcs) ≤ 8 = q .few in
       record {
-          fewTexts = omega arith;
-          short = short-list goodName 256 (λ s h. let n : length s ≤ 255 = name-short s h in omega arith) (d .name ∷ d .dcs) (and-both (q .named) (q .each));
-          fewMarks = omega arith;
-          fewSettings = omega arith }
+        fewTexts = omega arith;
+        short = short-list goodName 256 (λ s h. let n : length s ≤ 255 = name-short s h in omega arith) (d .name ∷ d .dcs) (and-both (q .named) (q .each));
+        fewMarks = omega arith;
+        fewSettings = omega arith;
+      }
 
   domain-long : length (domainUnits d) ≡ 2336
   unfolding domainUnits

@@ -2,3 +2,4 @@
 pub mod MemoryLaws
 pub mod KindLaws
 pub mod PlaceLaws
+pub mod TestLaws

@@ -53,9 +53,10 @@ unfolding rightSize
 size-told raw h =
     let r : (leb (placeCount raw) 32 && eqb (placeCount raw * 2336) (length raw)) ≡ true = and-right (leb 1 (placeCount raw)) _ h in
     record {
-        least = leb-true _ _ (and-left (leb 1 (placeCount raw)) _ h);
-        most = leb-true _ _ (and-left (leb (placeCount raw) 32) _ r);
-        whole = eqb-true _ _ (and-right (leb (placeCount raw) 32) _ r) }
+      least = leb-true _ _ (and-left (leb 1 (placeCount raw)) _ h);
+      most = leb-true _ _ (and-left (leb (placeCount raw) 32) _ r);
+      whole = eqb-true _ _ (and-right (leb (placeCount raw) 32) _ r);
+    }
 
 pub size-right : (raw : List ℕ) → RightSize raw → rightSize raw ≡ true
 unfolding rightSize
@@ -76,10 +77,11 @@ module _ {E : Type 0} (k : Kind E) (ps : List (Place E)) where
       let r : (leb (length ps) 32 && (every (goodPlace k) ps && distinct (keys k ps))) ≡ true = and-right (leb 1 (length ps)) _ h in
       let q : (every (goodPlace k) ps && distinct (keys k ps)) ≡ true = and-right (leb (length ps) 32) _ r in
       record {
-          least = leb-true _ _ (and-left (leb 1 (length ps)) _ h);
-          most = leb-true _ _ (and-left (leb (length ps) 32) _ r);
-          places = and-left _ _ q;
-          apart = and-right (every (goodPlace k) ps) _ q }
+        least = leb-true _ _ (and-left (leb 1 (length ps)) _ h);
+        most = leb-true _ _ (and-left (leb (length ps) 32) _ r);
+        places = and-left _ _ q;
+        apart = and-right (every (goodPlace k) ps) _ q;
+      }
 
   pub good-cache : GoodCache → goodCache k ps ≡ true
   unfolding goodCache
@@ -120,7 +122,7 @@ module _ {E : Type 0} (k : Kind E) where
   decode-changed raw i h f w =
       ap (λ (n : ℕ). listed (n / 2336) (λ j. placeOf k (placeAt j (changed i f raw)))) (length-changed raw i h f w)
       ∙ (sym (set-listed (placeCount raw) (λ j. placeOf k (placeAt j raw)) (λ j. placeOf k (placeAt j (changed i f raw))) i h
-        (λ j u v. ap (placeOf k) (sym (place-kept raw i h f w j u v))))
+      (λ j u v. ap (placeOf k) (sym (place-kept raw i h f w j u v))))
       ∙ ap (λ (q : List ℕ). set (listed (placeCount raw) (λ j. placeOf k (placeAt j raw))) i (placeOf k q)) (place-changed raw i h f w))
 
   pub order-good : (raw : List ℕ) → inOrder k raw ≡ true → goodCache k (decode k raw) ≡ true
@@ -169,7 +171,7 @@ module _ {E : Type 0} (k : Kind E) (law : Lawful k) where
     decode-encode =
         ap (λ (n : ℕ). listed n (λ i. placeOf k (placeAt i (encode k ps)))) count-encode
         ∙ (listed-same (length ps) (λ i. placeOf k (placeAt i (encode k ps))) (λ i. getD ps i free)
-          (λ i h. ap (placeOf k) (place-encode i h) ∙ piece-back (getD ps i free) (every-at (goodPlace k) ps good i free h))
+        (λ i h. ap (placeOf k) (place-encode i h) ∙ piece-back (getD ps i free) (every-at (goodPlace k) ps good i free h))
         ∙ listed-getD ps free)
 
   -- what is written of good entries is in order
@@ -224,11 +226,12 @@ module _ {E : Type 0} (k : Kind E) (law : Lawful k) where
       let most : length (decode k raw) ≤ 32 = c .most in
       ap (inOrder k) (changed-encode raw i p h g u)
       ∙ encoded-in-order (set (decode k raw) i p)
-        (good-cache k (set (decode k raw) i p) (record {
-            least = omega arith;
-            most = omega arith;
-            places = every-set (goodPlace k) (decode k raw) i p (c .places) g;
-            apart = d }))
+      (good-cache k (set (decode k raw) i p) (record {
+        least = omega arith;
+        most = omega arith;
+        places = every-set (goodPlace k) (decode k raw) i p (c .places) g;
+        apart = d;
+      }))
 
   -- order goes place by place
   module _ (raw : List ℕ) where
@@ -260,17 +263,18 @@ module _ {E : Type 0} (k : Kind E) (law : Lawful k) where
     order-up h =
         let s : RightSize raw = size-told raw (and-left _ _ h) in
         let o : (i : ℕ) → i < placeCount raw → ordered k (placeAt i raw) ≡ true =
-            every-listed (ordered k) (placeCount raw) (λ i. placeAt i raw) (and-left _ _ (and-right (rightSize raw) _ h)) in
+        every-listed (ordered k) (placeCount raw) (λ i. placeAt i raw) (and-left _ _ (and-right (rightSize raw) _ h)) in
         let n : length (decode k raw) ≡ placeCount raw = length-decode k raw in
         let least : 1 ≤ placeCount raw = s .least in
         let most : placeCount raw ≤ 32 = s .most in
         let f : ℕ → Place E = λ i. placeOf k (placeAt i raw) in
         and-both
         (good-cache k (decode k raw) (record {
-            least = omega arith;
-            most = omega arith;
-            places = listed-every (goodPlace k) (placeCount raw) f (λ i u. and-left _ _ (o i u));
-            apart = and-right (every (ordered k) (listed (placeCount raw) (λ i. placeAt i raw))) _ (and-right (rightSize raw) _ h) }))
+          least = omega arith;
+          most = omega arith;
+          places = listed-every (goodPlace k) (placeCount raw) f (λ i u. and-left _ _ (o i u));
+          apart = and-right (every (ordered k) (listed (placeCount raw) (λ i. placeAt i raw))) _ (and-right (rightSize raw) _ h);
+        }))
         (same-sameList (encode k (decode k raw)) raw
         (ap flatten (map-listed (pieceOf k) (placeCount raw) f
         ∙ listed-same (placeCount raw) (λ i. pieceOf k (f i)) (λ i. placeAt i raw)

@@ -2,7 +2,7 @@
 use mathlib.Core.Path.{_≡_, refl, sym, ap, _∙_, subst}
 use mathlib.Core.Bool.{Bool, true, false, _&&_, not}
 use mathlib.Core.List.{List, [], _∷_, _++_, map}
-use mathlib.Core.Logic.{_≢_, _⊎_, inl, inr}
+use mathlib.Core.Logic.{_≢_, _⊎_, inl, inr, ⊎-elim}
 use Prim.Native.Nat.{ℕ, zero, suc, _+_, _-_, _*_, _/_, _%_, _≤_, _<_, min}
 use native.Mathlib.Nat.{add-sub-of-le}
 use native.Mathlib.Numerals.{one-add}
@@ -98,7 +98,7 @@ module _ (piece : List ℕ) (whole : length piece ≡ 2336) (low : unitAt 22 pie
   marks-again h =
       map-listed (λ (t : Target). flagUnit (t .opens)) (listCount piece) (λ j. targetOf j piece)
       ∙ listed-same (listCount piece) (λ j. flagUnit (eqb (unitAt (11 + j) piece) 1)) (λ j. unitAt (11 + j) piece)
-        (λ j u. flag-unit _ (flag-at h j (omega arith)))
+      (λ j u. flag-unit _ (flag-at h j (omega arith)))
 
   settings-again : goodFlags piece ≡ true → referralSettings (referralOf piece) ≡ settingsOf piece
   unfolding referralSettings referralOf flagAt wideAt settingsOf listed
@@ -153,16 +153,17 @@ module _ (piece : List ℕ) (whole : length piece ≡ 2336) (low : unitAt 22 pie
       let f : unitAt 9 piece ≤ 8 = tidy-told piece whole (t .tidied) .few in
       let n : length (referralOf piece .targets) ≡ listCount piece = count-targets in
       let x : every goodPrefix (referralOf piece .prefix ∷ map (λ u. u .path) (referralOf piece .targets)) ≡ true =
-          subst (λ (ts : List (List ℕ)). every goodPrefix ts ≡ true) (referral-texts piece) (t .texts) in
+      subst (λ (ts : List (List ℕ)). every goodPrefix ts ≡ true) (referral-texts piece) (t .texts) in
       let h : unitAt 10 piece < unitAt 9 piece = t .hinted in
       and-both
       (good-referral (referralOf piece) (record {
-          prefixed = and-left _ _ x;
-          some = omega arith;
-          few = omega arith;
-          each = path-every (referralOf piece .targets) (and-right (goodPrefix (referralOf piece .prefix)) _ x);
-          first = first-mark (omega arith) ∙ ap not (flag-off (t .first));
-          hinted = hint-below h (omega arith) }))
+        prefixed = and-left _ _ x;
+        some = omega arith;
+        few = omega arith;
+        each = path-every (referralOf piece .targets) (and-right (goodPrefix (referralOf piece .prefix)) _ x);
+        first = first-mark (omega arith) ∙ ap not (flag-off (t .first));
+        hinted = hint-below h (omega arith);
+      }))
       (units-tidy (t .flags) ∙ t .tidied)
 
   module _ (h : (goodReferral (referralOf piece) && sameList (referralUnits (referralOf piece)) piece) ≡ true) where
@@ -199,12 +200,13 @@ module _ (piece : List ℕ) (whole : length piece ≡ 2336) (low : unitAt 22 pie
         let m : unitAt 11 piece ≤ 1 = small-flag 0 (omega arith) in
         let z : unitAt 11 piece ≢ 1 = off-flag (not-true _ (sym (first-mark (omega arith)) ∙ told-good .first)) in
         record {
-            tidied = tidied;
-            flags = flagged;
-            first = omega arith;
-            hinted = omega arith;
-            texts = subst (λ (ts : List (List ℕ)). every goodPrefix ts ≡ true) (sym (referral-texts piece))
-                (and-both (told-good .prefixed) (every-path (referralOf piece .targets) (told-good .each))) }
+          tidied = tidied;
+          flags = flagged;
+          first = omega arith;
+          hinted = omega arith;
+          texts = subst (λ (ts : List (List ℕ)). every goodPrefix ts ≡ true) (sym (referral-texts piece))
+              (and-both (told-good .prefixed) (every-path (referralOf piece .targets) (told-good .each)));
+        }
 
 -- what the test of a used place of the domain cache looks at
 pub record DomainTests (piece : List ℕ) : Type 0 where
@@ -238,12 +240,12 @@ module _ (piece : List ℕ) (whole : length piece ≡ 2336) where
   bare-again h =
       ap (λ (ts : List (List ℕ)). written ts (unitAt 10 piece) [] []) (sym (domain-texts piece))
       ∙ sym (same-written (textsOf piece) (unitAt 10 piece) (marksOf piece) (settingsOf piece) [] []
-        (roomed-blank 8 (marksOf piece) (simp length-listed (omega arith))
-        (λ i u. let v : i < listCount piece = simp length-listed at u in
-        getD-listed (listCount piece) (λ k. unitAt (11 + k) piece) i 0 v ∙ bare-at h (11 + i) (omega arith) (omega arith)))
-        (roomed-blank 13 (settingsOf piece) (simp length-listed (omega arith))
-        (λ i u. let v : i < 7 = simp length-listed at u in
-        getD-listed 7 (λ k. unitAt (19 + k) piece) i 0 v ∙ bare-at h (19 + i) (omega arith) (omega arith))))
+      (roomed-blank 8 (marksOf piece) (simp length-listed (omega arith))
+      (λ i u. let v : i < listCount piece = simp length-listed at u in
+      getD-listed (listCount piece) (λ k. unitAt (11 + k) piece) i 0 v ∙ bare-at h (11 + i) (omega arith) (omega arith)))
+      (roomed-blank 13 (settingsOf piece) (simp length-listed (omega arith))
+      (λ i u. let v : i < 7 = simp length-listed at u in
+      getD-listed 7 (λ k. unitAt (19 + k) piece) i 0 v ∙ bare-at h (19 + i) (omega arith) (omega arith))))
 
   bare-tidy : zeros (part 11 15 piece) ≡ true → sameList (domainUnits (domainOf piece)) piece ≡ tidy piece
   unfolding tidy
@@ -263,13 +265,14 @@ module _ (piece : List ℕ) (whole : length piece ≡ 2336) where
       let f : unitAt 9 piece ≤ 8 = tidy-told piece whole (t .tidied) .few in
       let n : length (domainOf piece .dcs) ≡ listCount piece = count-dcs in
       let x : every goodName (domainOf piece .name ∷ domainOf piece .dcs) ≡ true =
-          subst (λ (ts : List (List ℕ)). every goodName ts ≡ true) (domain-texts piece) (t .texts) in
+      subst (λ (ts : List (List ℕ)). every goodName ts ≡ true) (domain-texts piece) (t .texts) in
       and-both
       (good-domain (domainOf piece) (record {
-          named = and-left _ _ x;
-          few = omega arith;
-          each = and-right (goodName (domainOf piece .name)) _ x;
-          hinted = hint-good (domainOf piece .dcs) (domainOf piece .hint) (at n f (t .hinted)) }))
+        named = and-left _ _ x;
+        few = omega arith;
+        each = and-right (goodName (domainOf piece .name)) _ x;
+        hinted = hint-good (domainOf piece .dcs) (domainOf piece .hint) (at n f (t .hinted));
+      }))
       (bare-tidy (t .bare) ∙ t .tidied)
     where
       at : length (domainOf piece .dcs) ≡ listCount piece → unitAt 9 piece ≤ 8 → (unitAt 10 piece ≡ 0) ⊎ (unitAt 10 piece < unitAt 9 piece)
@@ -305,12 +308,62 @@ module _ (piece : List ℕ) (whole : length piece ≡ 2336) where
         let tidied : tidy piece ≡ true = sym (bare-tidy bared) ∙ and-right (goodDomain (domainOf piece)) _ h in
         let n : length (domainOf piece .dcs) ≡ listCount piece = count-dcs in
         record {
-            tidied = tidied;
-            bare = bared;
-            hinted = at n (good-hint (domainOf piece .dcs) (domainOf piece .hint) (told-domain .hinted));
-            texts = subst (λ (ts : List (List ℕ)). every goodName ts ≡ true) (sym (domain-texts piece)) (and-both (told-domain .named) (told-domain .each)) }
+          tidied = tidied;
+          bare = bared;
+          hinted = at n (good-hint (domainOf piece .dcs) (domainOf piece .hint) (told-domain .hinted));
+          texts = subst (λ (ts : List (List ℕ)). every goodName ts ≡ true) (sym (domain-texts piece)) (and-both (told-domain .named) (told-domain .each));
+        }
       where
         at : length (domainOf piece .dcs) ≡ listCount piece → (domainOf piece .hint ≡ 0) ⊎ (domainOf piece .hint < length (domainOf piece .dcs))
             → (unitAt 10 piece ≡ 0) ⊎ (unitAt 10 piece < unitAt 9 piece)
         at n (inl e) = inl (sym domain-hint ∙ e)
         at n (inr u) = inr (let v : unitAt 10 piece < length (domainOf piece .dcs) = rw (sym domain-hint) u in omega arith)
+
+-- the ways out of the test of a used place
+module _ (piece : List ℕ) (whole : length piece ≡ 2336) (low : unitAt 22 piece < 65536) (low′ : unitAt 24 piece < 65536) where
+  referral-fails : (ReferralTests piece → ⊥) → false ≡ (goodReferral (referralOf piece) && sameList (referralUnits (referralOf piece)) piece)
+  referral-fails f = sym (refuted _ (λ h. f (referral-tests piece whole low low′ h)))
+
+  pub referral-untidy : {r : Bool} → r ≡ tidy piece → r ≡ false → false ≡ (goodReferral (referralOf piece) && sameList (referralUnits (referralOf piece)) piece)
+  referral-untidy e h = referral-fails (λ t. not-both (e ∙ t .tidied) h)
+
+  pub referral-unflagged : {r : Bool} → r ≡ goodFlags piece → r ≡ false → false ≡ (goodReferral (referralOf piece) && sameList (referralUnits (referralOf piece)) piece)
+  referral-unflagged e h = referral-fails (λ t. not-both (e ∙ t .flags) h)
+
+  pub referral-opens : (unitAt 11 piece ≡ 0 → ⊥) → false ≡ (goodReferral (referralOf piece) && sameList (referralUnits (referralOf piece)) piece)
+  referral-opens n = referral-fails (λ t. n (t .first))
+
+  pub referral-unhinted : unitAt 9 piece ≤ unitAt 10 piece → false ≡ (goodReferral (referralOf piece) && sameList (referralUnits (referralOf piece)) piece)
+  referral-unhinted h = referral-fails (λ t. let u : unitAt 10 piece < unitAt 9 piece = t .hinted in omega arith)
+
+  pub referral-rest : {a b r : Bool} → a ≡ tidy piece → a ≡ true → b ≡ goodFlags piece → b ≡ true → r ≡ goodTexts false piece
+      → unitAt 11 piece ≡ 0 → unitAt 10 piece < unitAt 9 piece
+      → r ≡ (goodReferral (referralOf piece) && sameList (referralUnits (referralOf piece)) piece)
+  referral-rest ea ha eb hb e z u =
+      e ∙ both-ways _ _
+      (λ t. referral-passes piece whole low low′ (record { tidied = sym ea ∙ ha; flags = sym eb ∙ hb; first = z; hinted = u; texts = t }))
+      (λ h. referral-tests piece whole low low′ h .texts)
+
+module _ (piece : List ℕ) (whole : length piece ≡ 2336) where
+  domain-fails : (DomainTests piece → ⊥) → false ≡ (goodDomain (domainOf piece) && sameList (domainUnits (domainOf piece)) piece)
+  domain-fails f = sym (refuted _ (λ h. f (domain-tests piece whole h)))
+
+  pub domain-untidy : {r : Bool} → r ≡ tidy piece → r ≡ false → false ≡ (goodDomain (domainOf piece) && sameList (domainUnits (domainOf piece)) piece)
+  domain-untidy e h = domain-fails (λ t. not-both (e ∙ t .tidied) h)
+
+  pub domain-marked : {r : Bool} → r ≡ zeros (part 11 15 piece) → r ≡ false → false ≡ (goodDomain (domainOf piece) && sameList (domainUnits (domainOf piece)) piece)
+  domain-marked e h = domain-fails (λ t. not-both (e ∙ t .bare) h)
+
+  pub domain-unhinted : (unitAt 10 piece ≡ 0 → ⊥) → unitAt 9 piece ≤ unitAt 10 piece → false ≡ (goodDomain (domainOf piece) && sameList (domainUnits (domainOf piece)) piece)
+  domain-unhinted n h = domain-fails (λ t. ⊎-elim n (λ u. omega arith) (t .hinted))
+
+  pub domain-rest : {a b r : Bool} → a ≡ tidy piece → a ≡ true → b ≡ zeros (part 11 15 piece) → b ≡ true → r ≡ goodTexts true piece
+      → (unitAt 10 piece ≡ 0) ⊎ (unitAt 10 piece < unitAt 9 piece)
+      → r ≡ (goodDomain (domainOf piece) && sameList (domainUnits (domainOf piece)) piece)
+  domain-rest ea ha eb hb e u =
+      e ∙ both-ways _ _
+      (λ t. domain-passes piece whole (record { tidied = sym ea ∙ ha; bare = sym eb ∙ hb; hinted = u; texts = t }))
+      (λ h. domain-tests piece whole h .texts)
+
+  pub tidy-few : {r : Bool} → r ≡ tidy piece → r ≡ true → unitAt 9 piece ≤ 8
+  tidy-few e h = tidy-told piece whole (sym e ∙ h) .few

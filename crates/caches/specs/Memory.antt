@@ -16,14 +16,15 @@ targetOf j piece = record { path = textAt (1 + j) piece; opens = flagAt (11 + j)
 
 unfoldable pub referralOf : List ℕ → Referral
 referralOf piece = record {
-    prefix = textAt 0 piece;
-    root = flagAt 19 piece;
-    interlink = flagAt 20 piece;
-    failback = flagAt 21 piece;
-    ttl = wideAt 22 piece;
-    taken = wideAt 24 piece;
-    targets = listed (listCount piece) (λ j. targetOf j piece);
-    hint = unitAt 10 piece }
+  prefix = textAt 0 piece;
+  root = flagAt 19 piece;
+  interlink = flagAt 20 piece;
+  failback = flagAt 21 piece;
+  ttl = wideAt 22 piece;
+  taken = wideAt 24 piece;
+  targets = listed (listCount piece) (λ j. targetOf j piece);
+  hint = unitAt 10 piece;
+}
 
 unfoldable pub referralSettings : Referral → List ℕ
 referralSettings e = flagUnit (e .root) ∷ flagUnit (e .interlink) ∷ flagUnit (e .failback) ∷ (wideUnits (e .ttl) ++ wideUnits (e .taken))

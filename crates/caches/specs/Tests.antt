@@ -1,7 +1,7 @@
 -- Words of the tests that the order test is made of; they go by the units of one place, or of the whole memory.
 use Prim.Native.Nat.{ℕ, _+_}
-use mathlib.Core.Bool.{Bool, _&&_, _||_, not}
-use mathlib.Core.List.{List}
+use mathlib.Core.Bool.{Bool, true, _&&_, _||_, not}
+use mathlib.Core.List.{List, [], _∷_}
 use lib.ListN.{drop}
 use lib.Dec.{leb, eqb}
 use Rattle.laws.specs.Choice.{choose}
@@ -14,10 +14,10 @@ use Rattle.caches.specs.Memory.{referrals, domains, inOrder, ordered}
 
 -- a text that the domain cache, or else the referral cache, may hold as a key or in a list
 unfoldable pub goodText : Bool → List ℕ → Bool
-goodText ofDomains t = choose ofDomains (goodName t) (goodPrefix t)
+goodText domain t = choose domain (goodName t) (goodPrefix t)
 
 unfoldable pub goodTexts : Bool → List ℕ → Bool
-goodTexts ofDomains piece = every (goodText ofDomains) (textsOf piece)
+goodTexts domain piece = every (goodText domain) (textsOf piece)
 
 -- the set boundaries, root, Interlink and TargetFailback are 0 or 1
 unfoldable pub goodFlags : List ℕ → Bool
@@ -25,17 +25,27 @@ goodFlags piece = every (λ u. leb u 1) (listed 11 (λ j. unitAt (11 + j) piece)
 
 -- one place, and the memory, of the domain cache or else of the referral cache
 unfoldable pub orderedAs : Bool → List ℕ → Bool
-orderedAs ofDomains piece = choose ofDomains (ordered domains piece) (ordered referrals piece)
+orderedAs domain piece = choose domain (ordered domains piece) (ordered referrals piece)
 
 unfoldable pub allOrdered : Bool → List ℕ → Bool
-allOrdered ofDomains raw = every (orderedAs ofDomains) (listed (placeCount raw) (λ i. placeAt i raw))
+allOrdered domain raw = every (orderedAs domain) (listed (placeCount raw) (λ i. placeAt i raw))
 
 unfoldable pub inOrderAs : Bool → List ℕ → Bool
-inOrderAs ofDomains raw = choose ofDomains (inOrder domains raw) (inOrder referrals raw)
+inOrderAs domain raw = choose domain (inOrder domains raw) (inOrder referrals raw)
 
--- the key of place i is that of no later place
-unfoldable pub keyFresh : List ℕ → ℕ → Bool
-keyFresh raw i = every (λ q. not (sameName (textAt 0 (placeAt i raw)) (textAt 0 q))) (drop (i + 1) (listed (placeCount raw) (λ j. placeAt j raw)))
+-- a place with another key
+unfoldable pub otherKey : List ℕ → List ℕ → Bool
+otherKey key piece = not (sameName key (textAt 0 piece))
+
+-- place i is free, or has the key of no later place
+unfoldable pub keyApart : List ℕ → ℕ → Bool
+keyApart raw i =
+    eqb (unitAt 0 (placeAt i raw)) 0 || every (otherKey (textAt 0 (placeAt i raw))) (drop (i + 1) (listed (placeCount raw) (λ j. placeAt j raw)))
+
+-- the same of each place
+unfoldable pub apart : List (List ℕ) → Bool
+apart [] = true
+apart (p ∷ ps) = (eqb (unitAt 0 p) 0 || every (otherKey (textAt 0 p)) ps) && apart ps
 
 unfoldable pub keysApart : List ℕ → Bool
-keysApart raw = every (λ i. eqb (unitAt 0 (placeAt i raw)) 0 || keyFresh raw i) (listed (placeCount raw) (λ i. i))
+keysApart raw = apart (listed (placeCount raw) (λ i. placeAt i raw))

@@ -11,7 +11,7 @@ use Rattle.laws.specs.Choice.{choose}
 use Rattle.laws.specs.Lists.{every, part}
 use Rattle.laws.specs.Listed.{listed, sameList}
 use Rattle.laws.proofs.Choices.{choose-yes, choose-no, and-left, and-right, and-both}
-use Rattle.laws.proofs.Tests.{both-ways}
+use Rattle.laws.proofs.Tests.{both-ways, eq-or-ne}
 use Rattle.laws.proofs.Every.{every-at}
 use Rattle.laws.proofs.Orders.{lt-or-le}
 use mathlib.Core.Logic.{_⊎_, inl, inr}
@@ -29,14 +29,6 @@ pub record Lawful {E : Type 0} (k : Kind E) : Type 0 where
   pub long : (e : E) → k .good e ≡ true → length (k .writes e) ≡ 2336
   pub back : (e : E) → k .good e ≡ true → k .reads (k .writes e) ≡ e
   pub shows : (e : E) → k .good e ≡ true → eqb (unitAt 0 (k .writes e)) 0 ≡ false
-
-eq-or-ne : (a b : ℕ) → (a ≡ b) ⊎ (a ≡ b → ⊥)
-eq-or-ne a b = go (lt-or-le a b) (lt-or-le b a)
-  where
-    go : (a < b) ⊎ (b ≤ a) → (b < a) ⊎ (a ≤ b) → (a ≡ b) ⊎ (a ≡ b → ⊥)
-    go (inl h) u = inr (λ e. omega arith)
-    go (inr h) (inl u) = inr (λ e. omega arith)
-    go (inr h) (inr u) = inl (omega arith)
 
 pub length-blank : length blank ≡ 2336
 unfolding blank

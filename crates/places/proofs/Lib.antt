@@ -4,3 +4,4 @@ pub mod ZeroLaws
 pub mod WriterLaws
 pub mod WrittenLaws
 pub mod TidyLaws
+pub mod PutLaws

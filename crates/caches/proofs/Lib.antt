@@ -3,3 +3,4 @@ pub mod MemoryLaws
 pub mod KindLaws
 pub mod PlaceLaws
 pub mod TestLaws
+pub mod FindLaws

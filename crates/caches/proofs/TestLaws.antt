@@ -181,7 +181,7 @@ module _ {E : Type 0} (k : Kind E) (law : Lawful k) where
       let z : unitAt 0 p ≢ 0 = eqb-false (unitAt 0 p) 0 h in
       omega arith
 
-  text-none : (p : List ℕ) → eqb (unitAt 0 p) 0 ≡ true → textAt 0 p ≡ []
+  pub text-none : (p : List ℕ) → eqb (unitAt 0 p) 0 ≡ true → textAt 0 p ≡ []
   unfolding textAt
   text-none p h = rw (eqb-true (unitAt 0 p) 0 h)
 

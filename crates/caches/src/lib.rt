@@ -4,10 +4,16 @@ ghost use mathlib.Core.Bool.{Bool, _&&_};
 ghost use Prim.Native.Nat.{ℕ, _+_, _-_, _*_, _/_, _≤_, _<_};
 ghost use lib.ListN.{length, getD};
 ghost use Rattle.laws.specs.Listed.{sameList};
-ghost use Rattle.places.specs.Layout.{unitAt};
+ghost use Rattle.places.specs.Layout.{placeAt, unitAt, listCount};
 ghost use Rattle.caches.specs.Order.{goodReferral, goodDomain};
 ghost use Rattle.caches.specs.Memory.{referrals, domains, referralOf, referralUnits, domainOf, domainUnits, rightSize, inOrder};
-ghost use Rattle.caches.specs.Tests.{goodText, goodTexts, goodFlags, orderedAs, allOrdered, inOrderAs, keyApart, keysApart};
+ghost use Rattle.unc.specs.Paths.{matches};
+ghost use lib.Dec.{ltb};
+ghost use mathlib.Core.Bool.{true};
+ghost use Rattle.caches.specs.Memory.{decode, encode, placeOf};
+ghost use Rattle.caches.specs.Entries.{free};
+ghost use Rattle.caches.specs.Lookup.{longestMatch, withKey, entryAt, isUsed, age, expired, firstFreeFrom, placeAge, oldest, newPlace, targetPath, targetOpens, dcName, targetHinted, dcHinted};
+ghost use Rattle.caches.specs.Tests.{keyIs, keyPlace, goodText, goodTexts, goodFlags, orderedAs, allOrdered, inOrderAs, keyApart, keysApart};
 use places::PLACE;
 
 pub enum Found {
@@ -195,4 +201,72 @@ pub fn domains_in_order(cache: &[u16]) -> bool
     ensures { λ r. ⌜ r ≡ inOrder domains (now (cache .entry)) ⌝ }
 {
     in_order(cache, true)
+}
+
+// Whether a prefix has more units than `units` and matches the path. The lengths are compared first.
+fn longer_match(prefix: &[u16], path: &[u16], units: usize) -> bool
+    ensures { λ r. ⌜ r ≡ (ltb units (length (now (prefix .entry))) && matches (now (prefix .entry)) (now (path .entry))) ⌝ }
+{
+    if prefix.len() <= units {
+        return false;
+    }
+    unc::matches(prefix, path)
+}
+
+// The place of the entry whose prefix is the longest that matches the path.
+pub fn find(cache: &[u16], path: &[u16]) -> Found
+    ensures { λ r. ⌜ r ≡ longestMatch (now (path .entry)) (decode referrals (now (cache .entry))) ⌝ }
+{
+    let count = cache.len() / PLACE;
+    let mut best = Found::Nothing;
+    let mut units = 0;
+    let mut i = 0;
+    while i < count {
+        let prefix = places::text(cache, i, 0);
+        if longer_match(prefix, path, units) {
+            best = Found::At(i);
+            units = prefix.len();
+        }
+        i += 1;
+    }
+    best
+}
+
+// Whether place i is used and its key is an equal name.
+fn key_is(cache: &[u16], i: usize, name: &[u16]) -> bool
+    requires { ⌜ i < length (now cache) / 2336 ⌝ }
+    ensures { λ r. ⌜ r ≡ keyIs (now (name .entry)) (placeAt i (now (cache .entry))) ⌝ }
+{
+    if places::unit(cache, i, 0) == 0 {
+        return false;
+    }
+    unc::same_name(places::text(cache, i, 0), name)
+}
+
+fn key_place(cache: &[u16], name: &[u16]) -> Found
+    ensures { λ r. ⌜ r ≡ keyPlace (now (name .entry)) (now (cache .entry)) ⌝ }
+{
+    let count = cache.len() / PLACE;
+    let mut i = 0;
+    while i < count {
+        if key_is(cache, i, name) {
+            return Found::At(i);
+        }
+        i += 1;
+    }
+    Found::Nothing
+}
+
+// The place of the referral entry with an equal prefix.
+pub fn find_prefix(cache: &[u16], prefix: &[u16]) -> Found
+    ensures { λ r. ⌜ r ≡ withKey referrals (now (prefix .entry)) (decode referrals (now (cache .entry))) ⌝ }
+{
+    key_place(cache, prefix)
+}
+
+// The place of the domain entry with an equal name.
+pub fn find_domain(cache: &[u16], name: &[u16]) -> Found
+    ensures { λ r. ⌜ r ≡ withKey domains (now (name .entry)) (decode domains (now (cache .entry))) ⌝ }
+{
+    key_place(cache, name)
 }

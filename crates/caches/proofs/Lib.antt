@@ -4,3 +4,4 @@ pub mod KindLaws
 pub mod PlaceLaws
 pub mod TestLaws
 pub mod FindLaws
+pub mod AgeLaws

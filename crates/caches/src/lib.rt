@@ -270,3 +270,85 @@ pub fn find_domain(cache: &[u16], name: &[u16]) -> Found
 {
     key_place(cache, name)
 }
+
+// Seconds since an entry was taken, on a clock that rolls over.
+pub fn age(clock: u32, taken: u32) -> u32
+    ensures { λ r. ⌜ r ≡ age clock taken ⌝ }
+{
+    std::num::wrapping_sub_u32(clock, taken)
+}
+
+pub fn ttl(cache: &[u16], i: usize) -> u32
+    requires { ⌜ i < length (now cache) / 2336 ⌝ }
+    ensures { λ r. ⌜ r ≡ entryAt referrals i (now (cache .entry)) .ttl ⌝ }
+{
+    places::wide(cache, i, 22)
+}
+
+pub fn taken(cache: &[u16], i: usize) -> u32
+    requires { ⌜ i < length (now cache) / 2336 ⌝ }
+    ensures { λ r. ⌜ r ≡ entryAt referrals i (now (cache .entry)) .taken ⌝ }
+{
+    places::wide(cache, i, 24)
+}
+
+pub fn is_expired(cache: &[u16], i: usize, clock: u32) -> bool
+    requires { ⌜ i < length (now cache) / 2336 ⌝ }
+    ensures { λ r. ⌜ r ≡ expired clock (entryAt referrals i (now (cache .entry))) ⌝ }
+{
+    ttl(cache, i) <= age(clock, taken(cache, i))
+}
+
+// The age of what a place holds; 0 where it is free.
+fn place_age(cache: &[u16], i: usize, clock: u32) -> u32
+    requires { ⌜ i < length (now cache) / 2336 ⌝ }
+    ensures { λ r. ⌜ r ≡ placeAge clock (placeOf referrals (placeAt i (now (cache .entry)))) ⌝ }
+{
+    if places::unit(cache, i, 0) == 0 {
+        return 0;
+    }
+    age(clock, taken(cache, i))
+}
+
+fn first_free(cache: &[u16]) -> Found
+    ensures { λ r. ⌜ r ≡ firstFreeFrom 0 (decode referrals (now (cache .entry))) ⌝ }
+{
+    let count = cache.len() / PLACE;
+    let mut i = 0;
+    while i < count {
+        if places::unit(cache, i, 0) == 0 {
+            return Found::At(i);
+        }
+        i += 1;
+    }
+    Found::Nothing
+}
+
+// The lowest place of greatest age.
+fn oldest_place(cache: &[u16], clock: u32) -> usize
+    ensures { λ r. ⌜ r ≡ oldest clock (decode referrals (now (cache .entry))) ⌝ }
+{
+    let count = cache.len() / PLACE;
+    let mut best = 0;
+    let mut most = 0;
+    let mut i = 0;
+    while i < count {
+        let seconds = place_age(cache, i, clock);
+        if most < seconds {
+            best = i;
+            most = seconds;
+        }
+        i += 1;
+    }
+    best
+}
+
+// The place that a new entry takes.
+pub fn new_place(cache: &[u16], clock: u32) -> usize
+    ensures { λ r. ⌜ r ≡ newPlace clock (decode referrals (now (cache .entry))) ⌝ }
+{
+    let Found::At(i) = first_free(cache) else {
+        return oldest_place(cache, clock);
+    };
+    i
+}

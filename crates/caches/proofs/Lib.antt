@@ -5,3 +5,4 @@ pub mod PlaceLaws
 pub mod TestLaws
 pub mod FindLaws
 pub mod AgeLaws
+pub mod StoreLaws

@@ -6,3 +6,4 @@ pub mod TestLaws
 pub mod FindLaws
 pub mod AgeLaws
 pub mod StoreLaws
+pub mod EntryLaws

@@ -216,7 +216,7 @@ pub record DomainTests (piece : List ℕ) : Type 0 where
   pub texts : goodTexts true piece ≡ true
 
 -- DCHint is 0, or below the number of DCs
-hint-good : (dcs : List (List ℕ)) (h : ℕ) → (h ≡ 0) ⊎ (h < length dcs) → goodDCHint dcs h ≡ true
+pub hint-good : (dcs : List (List ℕ)) (h : ℕ) → (h ≡ 0) ⊎ (h < length dcs) → goodDCHint dcs h ≡ true
 unfolding goodDCHint choose
 hint-good [] h (inl e) = eq-eqb h 0 e
 hint-good [] h (inr u) = absurd (omega arith)

@@ -94,19 +94,22 @@ targetOpens j e = getD (e .targets) j (record { path = []; opens = false }) .ope
 unfoldable pub dcName : ℕ → Domain → List ℕ
 dcName j d = getD (d .dcs) j []
 
--- the hint of the entry at place i set to h
-unfoldable pub withTargetHint : ℕ → Place Referral → Place Referral
-withTargetHint h free = free
-withTargetHint h (used e) = used (record {
-    prefix = e .prefix; root = e .root; interlink = e .interlink; failback = e .failback;
-    ttl = e .ttl; taken = e .taken; targets = e .targets; hint = h })
+-- the entry of a place changed
+unfoldable pub onEntry : {E : Type 0} → (E → E) → Place E → Place E
+onEntry f free = free
+onEntry f (used e) = used (f e)
 
-unfoldable pub withDCHint : ℕ → Place Domain → Place Domain
-withDCHint h free = free
-withDCHint h (used d) = used (record { name = d .name; dcs = d .dcs; hint = h })
+-- the hint of an entry, and of that at place i, set to h
+unfoldable pub targetHintTo : ℕ → Referral → Referral
+targetHintTo h e = record {
+    prefix = e .prefix; root = e .root; interlink = e .interlink; failback = e .failback;
+    ttl = e .ttl; taken = e .taken; targets = e .targets; hint = h }
+
+unfoldable pub dcHintTo : ℕ → Domain → Domain
+dcHintTo h d = record { name = d .name; dcs = d .dcs; hint = h }
 
 unfoldable pub targetHinted : ℕ → ℕ → List (Place Referral) → List (Place Referral)
-targetHinted i h ps = set ps i (withTargetHint h (getD ps i free))
+targetHinted i h ps = set ps i (onEntry (targetHintTo h) (getD ps i free))
 
 unfoldable pub dcHinted : ℕ → ℕ → List (Place Domain) → List (Place Domain)
-dcHinted i h ps = set ps i (withDCHint h (getD ps i free))
+dcHinted i h ps = set ps i (onEntry (dcHintTo h) (getD ps i free))

@@ -352,3 +352,104 @@ pub fn new_place(cache: &[u16], clock: u32) -> usize
     };
     i
 }
+
+pub fn prefix(cache: &[u16], i: usize) -> &[u16]
+    requires { ⌜ i < length (now cache) / 2336 ⌝ }
+    ensures { λ r. ⌜ now r ≡ entryAt referrals i (now (cache .entry)) .prefix ⌝ }
+{
+    places::text(cache, i, 0)
+}
+
+pub fn is_root(cache: &[u16], i: usize) -> bool
+    requires { ⌜ i < length (now cache) / 2336 ⌝ }
+    ensures { λ r. ⌜ r ≡ entryAt referrals i (now (cache .entry)) .root ⌝ }
+{
+    places::unit(cache, i, 19) == 1
+}
+
+pub fn is_interlink(cache: &[u16], i: usize) -> bool
+    requires { ⌜ i < length (now cache) / 2336 ⌝ }
+    ensures { λ r. ⌜ r ≡ entryAt referrals i (now (cache .entry)) .interlink ⌝ }
+{
+    places::unit(cache, i, 20) == 1
+}
+
+pub fn is_failback(cache: &[u16], i: usize) -> bool
+    requires { ⌜ i < length (now cache) / 2336 ⌝ }
+    ensures { λ r. ⌜ r ≡ entryAt referrals i (now (cache .entry)) .failback ⌝ }
+{
+    places::unit(cache, i, 21) == 1
+}
+
+pub fn target_count(cache: &[u16], i: usize) -> usize
+    requires { ⌜ i < length (now cache) / 2336 ⌝ }
+    ensures { λ r. ⌜ r ≡ length (entryAt referrals i (now (cache .entry)) .targets) ⌝ }
+{
+    places::list_count(cache, i)
+}
+
+pub fn target_hint(cache: &[u16], i: usize) -> u16
+    requires { ⌜ i < length (now cache) / 2336 ⌝ }
+    ensures { λ r. ⌜ r ≡ entryAt referrals i (now (cache .entry)) .hint ⌝ }
+{
+    places::unit(cache, i, 10)
+}
+
+// Target j of the entry at place i, as it lies in the cache.
+pub fn target(cache: &[u16], i: usize, j: usize) -> &[u16]
+    requires { ⌜ (i < length (now cache) / 2336) × (j < length (entryAt referrals i (now cache) .targets)) ⌝ }
+    ensures { λ r. ⌜ now r ≡ targetPath j (entryAt referrals i (now (cache .entry))) ⌝ }
+{
+    places::text(cache, i, 1 + j)
+}
+
+// Whether a set opens before target j.
+pub fn target_opens(cache: &[u16], i: usize, j: usize) -> bool
+    requires { ⌜ (i < length (now cache) / 2336) × (j < length (entryAt referrals i (now cache) .targets)) ⌝ }
+    ensures { λ r. ⌜ r ≡ targetOpens j (entryAt referrals i (now (cache .entry))) ⌝ }
+{
+    places::unit(cache, i, 11 + j) == 1
+}
+
+pub fn domain_name(cache: &[u16], i: usize) -> &[u16]
+    requires { ⌜ i < length (now cache) / 2336 ⌝ }
+    ensures { λ r. ⌜ now r ≡ entryAt domains i (now (cache .entry)) .name ⌝ }
+{
+    places::text(cache, i, 0)
+}
+
+pub fn dc_count(cache: &[u16], i: usize) -> usize
+    requires { ⌜ i < length (now cache) / 2336 ⌝ }
+    ensures { λ r. ⌜ r ≡ length (entryAt domains i (now (cache .entry)) .dcs) ⌝ }
+{
+    places::list_count(cache, i)
+}
+
+pub fn dc_hint(cache: &[u16], i: usize) -> u16
+    requires { ⌜ i < length (now cache) / 2336 ⌝ }
+    ensures { λ r. ⌜ r ≡ entryAt domains i (now (cache .entry)) .hint ⌝ }
+{
+    places::unit(cache, i, 10)
+}
+
+// DC j of the entry at place i, as it lies in the cache.
+pub fn dc(cache: &[u16], i: usize, j: usize) -> &[u16]
+    requires { ⌜ (i < length (now cache) / 2336) × (j < length (entryAt domains i (now cache) .dcs)) ⌝ }
+    ensures { λ r. ⌜ now r ≡ dcName j (entryAt domains i (now (cache .entry))) ⌝ }
+{
+    places::text(cache, i, 1 + j)
+}
+
+pub fn set_target_hint(cache: &mut [u16], i: usize, hint: u16)
+    requires { ⌜ (inOrder referrals (now cache) ≡ true) × ((i < length (now cache) / 2336) × (hint < length (entryAt referrals i (now cache) .targets))) ⌝ }
+    ensures { λ r. ⌜ now (cache .exit) ≡ encode referrals (targetHinted i hint (decode referrals (now (cache .entry)))) ⌝ }
+{
+    places::put_unit(cache, i, 10, hint);
+}
+
+pub fn set_dc_hint(cache: &mut [u16], i: usize, hint: u16)
+    requires { ⌜ (inOrder domains (now cache) ≡ true) × ((i < length (now cache) / 2336) × (hint < length (entryAt domains i (now cache) .dcs))) ⌝ }
+    ensures { λ r. ⌜ now (cache .exit) ≡ encode domains (dcHinted i hint (decode domains (now (cache .entry)))) ⌝ }
+{
+    places::put_unit(cache, i, 10, hint);
+}

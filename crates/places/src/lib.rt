@@ -4,7 +4,7 @@ ghost use mathlib.Core.List.{List, [], _∷_};
 ghost use Prim.Native.Nat.{ℕ, _+_, _-_, _*_, _/_, _≤_, _<_};
 ghost use lib.ListN.{length};
 ghost use Rattle.laws.specs.Lists.{part};
-ghost use Rattle.places.specs.Layout.{placeAt, changed, unitAt, wideAt, textAt, blank, zeros, tidyRoom, tidyRooms, tidy, putUnit, putWide, putText};
+ghost use Rattle.places.specs.Layout.{placeAt, changed, unitAt, wideAt, textAt, listCount, blank, zeros, tidyRoom, tidyRooms, tidy, putUnit, putWide, putText};
 
 pub const PLACE: usize = 2336;
 
@@ -45,6 +45,18 @@ pub fn text(cache: &[u16], i: usize, j: usize) -> &[u16]
     }
     let end = start + ROOM;
     &cache[start..end]
+}
+
+// How many texts the list of place i has.
+pub fn list_count(cache: &[u16], i: usize) -> usize
+    requires { ⌜ i < length (now cache) / 2336 ⌝ }
+    ensures { λ r. ⌜ r ≡ listCount (placeAt i (now (cache .entry))) ⌝ }
+{
+    let count = unit(cache, i, 9) as usize;
+    if count < 8 {
+        return count;
+    }
+    8
 }
 
 pub fn put_unit(cache: &mut [u16], i: usize, j: usize, v: u16)

@@ -1,20 +1,18 @@
 -- Laws of ages and of the place that a new entry takes.
-use mathlib.Core.Path.{_≡_, refl, sym, ap, _∙_, subst}
-use mathlib.Core.Bool.{Bool, true, false, _&&_, not}
-use mathlib.Core.List.{List, [], _∷_}
-use mathlib.Core.Logic.{_⊎_, inl, inr}
-use Prim.Native.Nat.{ℕ, zero, suc, _+_, _-_, _*_, _/_, _%_, _^_, _≤_, _<_}
+use mathlib.Core.Path.{_≡_, refl, sym, ap, _∙_}
+use mathlib.Core.List.{List, _∷_}
+use Prim.Native.Nat.{ℕ, suc, _+_, _-_, _/_, _%_, _^_, _≤_, _<_}
 use native.Mathlib.Numerals.{add-one}
 use native.Mathlib.Omega.{arith}
-use lib.ListN.{length, getD, drop}
-use lib.Dec.{leb, ltb, eqb}
+use lib.ListN.{length, drop}
+use lib.Dec.{leb, ltb}
 use borrow.Author.Tests.{ne-eqb, le-ltb, lt-ltb}
 use Rattle.laws.specs.Choice.{choose}
 use Rattle.laws.proofs.Choices.{choose-yes, choose-no}
 use Rattle.places.specs.Layout.{placeAt, unitAt, wideAt}
 use Rattle.caches.specs.declared.Found.{Found}
 use Rattle.caches.specs.declared.Found.the-variants.{At, Nothing}
-use Rattle.caches.specs.Entries.{Referral, Place, free, used}
+use Rattle.caches.specs.Entries.{Referral, Place}
 use Rattle.caches.specs.Memory.{referrals, referralOf, placeOf, decode}
 use Rattle.caches.specs.Lookup.{entryAt, age, expired, firstFreeFrom, placeAge, oldestFrom, oldest, foundOr, newPlace}
 use Rattle.caches.proofs.MemoryLaws.{place-free, place-used, drop-decode, drop-decode-end}
@@ -59,7 +57,7 @@ module _ (raw : List ℕ) (i : ℕ) where
   free-miss e n v =
       ap (firstFreeFrom i) (drop-decode referrals raw i v)
       ∙ (ap (λ (p : Place Referral). firstFreeFrom i (p ∷ drop (suc i) (decode referrals raw)))
-        (place-used referrals (placeAt i raw) (ne-eqb (unitAt 0 (placeAt i raw)) 0 (λ z. n (e ∙ z))))
+      (place-used referrals (placeAt i raw) (ne-eqb (unitAt 0 (placeAt i raw)) 0 (λ z. n (e ∙ z))))
       ∙ ap (λ (k : ℕ). firstFreeFrom (i + 1) (drop k (decode referrals raw))) (sym (add-one i)))
 
   pub free-end : length raw / 2336 ≤ i → firstFreeFrom i (drop i (decode referrals raw)) ≡ Nothing

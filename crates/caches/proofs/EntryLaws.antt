@@ -1,18 +1,17 @@
 -- Laws of reading the fields of an entry in its place, and of setting its hint.
-use mathlib.Core.Path.{_≡_, refl, sym, ap, _∙_, subst}
-use mathlib.Core.Bool.{Bool, true, false, _&&_}
-use mathlib.Core.List.{List, [], _∷_, map}
+use mathlib.Core.Path.{_≡_, refl, sym, ap, _∙_}
+use mathlib.Core.Bool.{true}
+use mathlib.Core.List.{List, []}
 use mathlib.Core.Logic.{inr}
-use Prim.Native.Nat.{ℕ, suc, _+_, _-_, _*_, _/_, _≤_, _<_}
+use Prim.Native.Nat.{ℕ, _+_, _-_, _/_, _<_}
 use native.Mathlib.Omega.{arith}
 use lib.ListN.{length, getD, set}
 use lib.Dec.{eqb}
-use Rattle.laws.specs.Listed.{listed}
 use Rattle.laws.proofs.Listed.{length-listed, getD-listed}
-use Rattle.places.specs.Layout.{placeCount, placeAt, changed, unitAt, flagAt, flagUnit, textAt, listCount, written, putUnit}
+use Rattle.places.specs.Layout.{placeAt, changed, unitAt, flagAt, textAt, listCount, putUnit}
 use Rattle.places.proofs.PutLaws.{put-hint}
 use Rattle.caches.specs.Entries.{Target, Referral, Domain, Place, free, used}
-use Rattle.caches.specs.Order.{goodReferral, goodDomain, goodDCHint}
+use Rattle.caches.specs.Order.{goodReferral, goodDomain}
 use Rattle.caches.specs.Memory.{Kind, referrals, domains, targetOf, referralOf, referralSettings, referralUnits, domainOf, domainUnits, decode, encode, inOrder}
 use Rattle.caches.specs.Lookup.{entryAt, targetPath, targetOpens, dcName, onEntry, targetHintTo, dcHintTo, targetHinted, dcHinted}
 use Rattle.caches.proofs.KindLaws.{referrals-lawful, domains-lawful, GoodReferral, referral-told, good-referral, referral-shape, GoodDomain, domain-told, good-domain, domain-shape}

@@ -1,17 +1,17 @@
 -- Laws of the loops that find an entry: what is left to look at, and what is found.
-use mathlib.Core.Path.{_≡_, refl, sym, ap, _∙_, subst}
-use mathlib.Core.Bool.{Bool, true, false, _&&_, not}
+use mathlib.Core.Path.{_≡_, refl, sym, ap, _∙_}
+use mathlib.Core.Bool.{Bool, true, false, _&&_}
 use mathlib.Core.List.{List, [], _∷_, map}
 use mathlib.Core.Logic.{_⊎_, inl, inr}
-use Prim.Native.Nat.{ℕ, zero, suc, _+_, _-_, _*_, _/_, _≤_, _<_}
+use Prim.Native.Nat.{ℕ, _+_, _-_, _/_, _≤_, _<_}
 use native.Mathlib.Numerals.{add-one}
 use native.Mathlib.Omega.{arith}
-use lib.ListN.{length, getD, take, drop}
-use lib.Dec.{leb, ltb, eqb}
+use lib.ListN.{length, drop}
+use lib.Dec.{ltb, eqb}
 use borrow.Author.Tests.{eqb-true, eq-eqb, ne-eqb, le-ltb, lt-ltb}
 use Rattle.laws.specs.Choice.{choose}
 use Rattle.laws.specs.Listed.{listed}
-use Rattle.laws.proofs.Choices.{choose-yes, choose-no, and-left, and-right, and-both}
+use Rattle.laws.proofs.Choices.{choose-yes, choose-no}
 use Rattle.laws.proofs.Orders.{told}
 use Rattle.laws.proofs.Listed.{drop-listed, drop-listed-end, map-listed}
 use Rattle.unc.specs.Names.{sameName}
@@ -19,7 +19,6 @@ use Rattle.unc.specs.Paths.{matches}
 use Rattle.places.specs.Layout.{placeCount, placeAt, unitAt, textAt}
 use Rattle.caches.specs.declared.Found.{Found}
 use Rattle.caches.specs.declared.Found.the-variants.{At, Nothing}
-use Rattle.caches.specs.Entries.{Referral, Place, free, used}
 use Rattle.caches.specs.Memory.{Kind, referrals, domains, referralOf, placeOf, decode}
 use Rattle.caches.specs.Lookup.{longerMatch, prefixUnits, longestFrom, longestMatch, hasKey, withKeyFrom, withKey}
 use Rattle.caches.specs.Tests.{keyIs, keyPlaceFrom, keyPlace}
@@ -58,13 +57,13 @@ module _ (raw path : List ℕ) (i : ℕ) (best : Found) (n : ℕ) where
   -- one place more
   find-step : i < length raw / 2336 → longestFrom path i best n (drop i (decode referrals raw))
       ≡ longestFrom path (i + 1) (choose (longerMatch path n (placeOf referrals (placeAt i raw))) (At i) best)
-        (choose (longerMatch path n (placeOf referrals (placeAt i raw))) (prefixUnits (placeOf referrals (placeAt i raw))) n) (drop (i + 1) (decode referrals raw))
+      (choose (longerMatch path n (placeOf referrals (placeAt i raw))) (prefixUnits (placeOf referrals (placeAt i raw))) n) (drop (i + 1) (decode referrals raw))
   unfolding longestFrom
   find-step u =
       ap (longestFrom path i best n) (drop-decode referrals raw i u)
       ∙ ap (λ (k : ℕ). longestFrom path (i + 1) (choose (longerMatch path n (placeOf referrals (placeAt i raw))) (At i) best)
-        (choose (longerMatch path n (placeOf referrals (placeAt i raw))) (prefixUnits (placeOf referrals (placeAt i raw))) n) (drop k (decode referrals raw)))
-        (sym (add-one i))
+      (choose (longerMatch path n (placeOf referrals (placeAt i raw))) (prefixUnits (placeOf referrals (placeAt i raw))) n) (drop k (decode referrals raw)))
+      (sym (add-one i))
 
   tested : {key : List ℕ} {r : Bool} → key ≡ textAt 0 (placeAt i raw) → r ≡ (ltb n (length key) && matches key path) → longerMatch path n (placeOf referrals (placeAt i raw)) ≡ r
   tested k e = longer-place (placeAt i raw) path n ∙ ((λ j. ltb n (length (sym k j)) && matches (sym k j) path) ∙ sym e)
@@ -77,14 +76,14 @@ module _ (raw path : List ℕ) (i : ℕ) (best : Found) (n : ℕ) where
         let l : prefixUnits (placeOf referrals (placeAt i raw)) ≡ n′ = units-place (placeAt i raw) ∙ (ap length (sym k) ∙ sym q) in
         find-step u
         ∙ (λ j. longestFrom path (i + 1) ((choose-yes (At i) best (tested k e ∙ h) ∙ sym p) j)
-          ((choose-yes (prefixUnits (placeOf referrals (placeAt i raw))) n (tested k e ∙ h) ∙ l) j) (drop (i + 1) (decode referrals raw)))
+        ((choose-yes (prefixUnits (placeOf referrals (placeAt i raw))) n (tested k e ∙ h) ∙ l) j) (drop (i + 1) (decode referrals raw)))
 
     pub find-miss : r ≡ false → best′ ≡ best → n′ ≡ n → i < length raw / 2336
         → longestFrom path i best n (drop i (decode referrals raw)) ≡ longestFrom path (i + 1) best′ n′ (drop (i + 1) (decode referrals raw))
     find-miss h p q u =
         find-step u
         ∙ (λ j. longestFrom path (i + 1) ((choose-no (At i) best (tested k e ∙ h) ∙ sym p) j)
-          ((choose-no (prefixUnits (placeOf referrals (placeAt i raw))) n (tested k e ∙ h) ∙ sym q) j) (drop (i + 1) (decode referrals raw)))
+        ((choose-no (prefixUnits (placeOf referrals (placeAt i raw))) n (tested k e ∙ h) ∙ sym q) j) (drop (i + 1) (decode referrals raw)))
 
   pub find-end : length raw / 2336 ≤ i → longestFrom path i best n (drop i (decode referrals raw)) ≡ best
   unfolding longestFrom

@@ -1,21 +1,20 @@
 -- The two kinds of entries are lawful: a good entry fills its place, comes back when read, and its place does not look free.
-use mathlib.Core.Path.{_≡_, refl, sym, ap, _∙_, subst}
-use mathlib.Core.Bool.{Bool, true, false, _&&_, not, true≢false}
-use mathlib.Core.List.{List, [], _∷_, _++_, map}
-use Prim.Native.Nat.{ℕ, zero, suc, _+_, _-_, _*_, _/_, _%_, _≤_, _<_, min}
+use mathlib.Core.Path.{_≡_, refl, sym, ap, _∙_}
+use mathlib.Core.Bool.{Bool, true, false, _&&_, true≢false}
+use mathlib.Core.List.{List, [], _∷_, map}
+use Prim.Native.Nat.{ℕ, zero, suc, _+_, _-_, _/_, _%_, _≤_, _<_}
 use native.Mathlib.Nat.{add-assoc}
 use native.Mathlib.Numerals.{one-add}
 use native.Mathlib.Omega.{arith}
 use lib.ListN.{length, getD, length-map}
-use lib.Dec.{leb, ltb, eqb}
-use borrow.Author.Tests.{eqb-true, eq-eqb, ne-eqb, leb-true, le-leb, ltb-true, lt-ltb}
+use lib.Dec.{leb, eqb}
+use borrow.Author.Tests.{ne-eqb, leb-true, le-leb, ltb-true, lt-ltb}
 use Rattle.laws.specs.Choice.{choose}
 use Rattle.laws.specs.Lists.{every}
 use Rattle.laws.specs.Listed.{listed}
-use Rattle.laws.proofs.Choices.{choose-yes, choose-no, and-left, and-right, and-both}
-use Rattle.laws.proofs.Orders.{lt-or-le, told}
-use Rattle.laws.proofs.Every.{every-at}
-use Rattle.laws.proofs.Listed.{length-listed, getD-listed, listed-same, listed-getD, getD-map}
+use Rattle.laws.proofs.Choices.{choose-no, and-left, and-right, and-both}
+use Rattle.laws.proofs.Orders.{told}
+use Rattle.laws.proofs.Listed.{listed-same, listed-getD, getD-map}
 use mathlib.Core.Logic.{_⊎_, inl, inr}
 use Rattle.unc.specs.Names.{goodName, goodComponent, nothingOrDots}
 use Rattle.unc.specs.Paths.{normalisedCount, isNormalised, componentCount}

@@ -7,3 +7,5 @@ pub mod FindLaws
 pub mod AgeLaws
 pub mod StoreLaws
 pub mod EntryLaws
+pub mod LookupLaws
+pub mod Examples

@@ -1,24 +1,22 @@
 -- Laws of a cache in memory, for either kind of entry: reading and writing are inverse, one place changes alone, and order goes place by place.
-use mathlib.Core.Path.{_≡_, refl, sym, ap, _∙_, subst}
-use mathlib.Core.Bool.{Bool, true, false, _&&_}
-use mathlib.Core.List.{List, [], _∷_, _++_, map, flatten}
-use Prim.Native.Nat.{ℕ, zero, suc, _+_, _-_, _*_, _/_, _≤_, _<_}
+use mathlib.Core.Path.{_≡_, refl, sym, ap, _∙_}
+use mathlib.Core.Bool.{true, false, _&&_}
+use mathlib.Core.List.{List, [], _∷_, map, flatten}
+use Prim.Native.Nat.{ℕ, suc, _-_, _*_, _/_, _≤_, _<_}
 use native.Mathlib.Omega.{arith}
-use lib.ListN.{length, getD, take, drop, set, replicate, length-map, length-replicate, length-set}
+use lib.ListN.{length, getD, drop, set, length-map, length-replicate, length-set}
 use lib.Dec.{leb, eqb}
 use borrow.Author.Tests.{eqb-true, eq-eqb, leb-true, le-leb}
-use Rattle.laws.specs.Choice.{choose}
-use Rattle.laws.specs.Lists.{every, part}
-use Rattle.laws.specs.Listed.{listed, sameList}
+use Rattle.laws.specs.Lists.{every}
+use Rattle.laws.specs.Listed.{listed}
 use Rattle.laws.proofs.Choices.{choose-yes, choose-no, and-left, and-right, and-both}
 use Rattle.laws.proofs.Tests.{both-ways, eq-or-ne}
 use Rattle.laws.proofs.Every.{every-at}
-use Rattle.laws.proofs.Orders.{lt-or-le}
 use mathlib.Core.Logic.{_⊎_, inl, inr}
 use lib.Seq.{getD-set-same, getD-set-other}
 use Rattle.laws.proofs.Listed.{length-listed, getD-listed, drop-listed, drop-listed-end, listed-same, listed-getD, set-listed, map-listed, getD-map, every-listed, listed-every, listed-parts, by-listed-parts, every-set, length-flatten, part-flatten, sameList-true, same-sameList}
 use Rattle.places.specs.Layout.{placeCount, placeAt, changed, unitAt, textAt, blank}
-use Rattle.places.proofs.LayoutLaws.{length-place, length-changed, place-changed, place-kept}
+use Rattle.places.proofs.LayoutLaws.{length-changed, place-changed, place-kept}
 use Rattle.caches.specs.Entries.{Place, free, used}
 use Rattle.caches.specs.Order.{distinct}
 use Rattle.caches.specs.Memory.{Kind, rightSize, placeOf, pieceOf, decode, encode, goodPlace, keys, goodCache, inOrder, ordered}

@@ -1,32 +1,29 @@
 -- Laws of the order test of one used place: what it looks at says that the entry is good and that the place is what it writes.
 use mathlib.Core.Path.{_≡_, refl, sym, ap, _∙_, subst}
 use mathlib.Core.Bool.{Bool, true, false, _&&_, not}
-use mathlib.Core.List.{List, [], _∷_, _++_, map}
+use mathlib.Core.List.{List, [], _∷_, map}
 use mathlib.Core.Logic.{_≢_, _⊎_, inl, inr, ⊎-elim}
-use Prim.Native.Nat.{ℕ, zero, suc, _+_, _-_, _*_, _/_, _%_, _≤_, _<_, min}
-use native.Mathlib.Nat.{add-sub-of-le}
+use Prim.Native.Nat.{ℕ, zero, suc, _+_, _-_, _*_, _/_, _%_, _≤_, _<_}
 use native.Mathlib.Numerals.{one-add}
 use native.Mathlib.Omega.{arith}
-use lib.ListN.{length, getD, length-map, List·getD-eq-default}
+use lib.ListN.{length, getD}
 use lib.Dec.{leb, ltb, eqb}
 use borrow.Author.Tests.{eqb-true, eqb-false, eq-eqb, ne-eqb, leb-true, le-leb, ltb-true, lt-ltb, not-true}
 use Rattle.laws.specs.Choice.{choose}
-use Rattle.laws.specs.Lists.{every, part, roomed}
+use Rattle.laws.specs.Lists.{every, part}
 use Rattle.laws.specs.Listed.{listed, sameList}
 use Rattle.laws.proofs.Choices.{choose-yes, choose-no, and-left, and-right, and-both}
 use Rattle.laws.proofs.Orders.{lt-or-le}
 use Rattle.laws.proofs.Tests.{both-ways, refuted, not-both}
-use Rattle.laws.proofs.Every.{every-at}
 use Rattle.laws.proofs.Parts.{roomed-blank}
-use Rattle.laws.proofs.Pasting.{length-part, getD-part}
-use Rattle.laws.proofs.Listed.{length-listed, getD-listed, listed-same, map-listed, every-listed, listed-every, sameList-true, same-sameList}
+use Rattle.laws.proofs.Listed.{length-listed, getD-listed, listed-same, map-listed, every-listed, listed-every, sameList-true}
 use Rattle.unc.specs.Names.{goodName}
 use Rattle.places.specs.Layout.{unitAt, wideAt, flagAt, flagUnit, textAt, listCount, written, textsOf, marksOf, settingsOf, tidy, zeros}
-use Rattle.places.proofs.WrittenLaws.{same-written, written-mark, written-setting, written-count}
-use Rattle.places.proofs.TidyLaws.{tidy-told, tidy-written, Tidy}
+use Rattle.places.proofs.WrittenLaws.{same-written, written-mark, written-setting}
+use Rattle.places.proofs.TidyLaws.{tidy-told}
 use Rattle.places.proofs.ZeroLaws.{zero-at, zeros-all}
-use Rattle.caches.specs.Entries.{Target, Referral, Domain}
-use Rattle.caches.specs.Order.{goodPrefix, goodTarget, firstOpensNone, goodReferral, goodDomain, goodDCHint}
+use Rattle.caches.specs.Entries.{Target, Referral}
+use Rattle.caches.specs.Order.{goodPrefix, firstOpensNone, goodReferral, goodDomain, goodDCHint}
 use Rattle.caches.specs.Memory.{targetOf, referralOf, referralSettings, referralUnits, domainOf, domainUnits}
 use Rattle.caches.specs.Tests.{goodText, goodTexts, goodFlags}
 use Rattle.caches.proofs.KindLaws.{GoodReferral, referral-told, good-referral, referral-shape, GoodDomain, domain-told, good-domain, domain-shape, every-path, path-every}

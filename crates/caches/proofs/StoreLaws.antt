@@ -1,32 +1,27 @@
 -- Laws for what writes an entry: the place changes alone, and order stays where the key stays or is new.
-use mathlib.Core.Path.{_≡_, refl, sym, ap, _∙_, subst}
-use mathlib.Core.Bool.{Bool, true, false, _&&_, not, true≢false}
+use mathlib.Core.Path.{_≡_, refl, sym, ap, _∙_}
+use mathlib.Core.Bool.{Bool, true, false, _&&_, not}
 use mathlib.Core.List.{List, [], _∷_}
 use mathlib.Core.Logic.{_⊎_, inl, inr}
-use Prim.Native.Nat.{ℕ, zero, suc, _+_, _-_, _*_, _/_, _≤_, _<_}
-use native.Mathlib.Nat.{not-suc-le-zero, le-of-suc-le-suc}
+use Prim.Native.Nat.{ℕ, zero, suc, _+_, _-_, _*_, _<_}
 use native.Mathlib.Omega.{arith}
 use lib.ListN.{length, getD, set}
-use lib.Dec.{leb, ltb, eqb}
+use lib.Dec.{eqb}
 use borrow.Author.Tests.{eqb-true, not-true}
-use Rattle.laws.specs.Choice.{choose}
 use Rattle.laws.specs.Lists.{every, pasted}
-use Rattle.laws.specs.Listed.{listed, sameList}
 use Rattle.laws.proofs.Choices.{and-left, and-right, and-both, choose-yes, choose-no}
 use Rattle.laws.proofs.Orders.{told}
 use Rattle.laws.proofs.Tests.{refuted, not-both}
 use Rattle.laws.proofs.Every.{every-at}
-use Rattle.laws.proofs.Listed.{every-listed, sameList-true}
 use Rattle.unc.specs.Names.{sameName}
 use Rattle.unc.proofs.NameLaws.{sameName-sym}
 use Rattle.places.specs.Layout.{placeCount, placeAt, changed, unitAt, blank, listCount}
-use Rattle.caches.specs.declared.Found.{Found}
 use Rattle.caches.specs.declared.Found.the-variants.{At, Nothing}
 use Rattle.caches.specs.Entries.{Place, free, used}
 use Rattle.caches.specs.Order.{distinct}
-use Rattle.caches.specs.Memory.{Kind, placeOf, pieceOf, decode, encode, goodPlace, keys, inOrder, ordered}
+use Rattle.caches.specs.Memory.{Kind, placeOf, pieceOf, decode, encode, goodPlace, keys, inOrder}
 use Rattle.caches.specs.Lookup.{hasKey, withKeyFrom, withKey, entryAt}
-use Rattle.caches.proofs.MemoryLaws.{Lawful, GoodCache, cache-told, order-good, place-free, place-used, decode-at, length-decode, encode-decode, place-encode, changed-encode, changed-in-order, order-ordered}
+use Rattle.caches.proofs.MemoryLaws.{Lawful, GoodCache, cache-told, order-good, place-free, place-used, decode-at, length-decode, encode-decode, place-encode, changed-encode, changed-in-order}
 
 module _ {E : Type 0} (k : Kind E) where
   -- the key stays
@@ -121,7 +116,7 @@ module _ {E : Type 0} (k : Kind E) (law : Lawful k) (raw : List ℕ) (i : ℕ) (
     kept-in-order e′ g q =
         ap (inOrder k) (sym (changed-encode k law raw i (used e′) order g fits))
         ∙ changed-in-order k law raw i (used e′) order g fits
-          (ap distinct (keys-kept k (decode k raw) i e e′ here q) ∙ held .apart)
+        (ap distinct (keys-kept k (decode k raw) i e e′ here q) ∙ held .apart)
 
   -- a new entry, whose key no place has
   pub new-in-order : (e : E) → k .good e ≡ true → withKey k (k .key e) (decode k raw) ≡ Nothing → inOrder k (encode k (set (decode k raw) i (used e))) ≡ true
@@ -129,7 +124,7 @@ module _ {E : Type 0} (k : Kind E) (law : Lawful k) (raw : List ℕ) (i : ℕ) (
   new-in-order e g h =
       ap (inOrder k) (sym (changed-encode k law raw i (used e) order g fits))
       ∙ changed-in-order k law raw i (used e) order g fits
-        (keys-distinct k (decode k raw) i e (held .apart) (none-has k (k .key e) 0 (decode k raw) h))
+      (keys-distinct k (decode k raw) i e (held .apart) (none-has k (k .key e) 0 (decode k raw) h))
 
   -- a free place is blank, so that a place with a list is used
   pub free-blank : getD (decode k raw) i free ≡ free → placeAt i raw ≡ blank

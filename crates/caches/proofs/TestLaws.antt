@@ -1,21 +1,20 @@
 -- Laws of the loops of the order test: what is left to test, and that the tests together say what order is.
-use mathlib.Core.Path.{_≡_, refl, sym, ap, _∙_, subst}
+use mathlib.Core.Path.{_≡_, refl, sym, ap, _∙_}
 use mathlib.Core.Bool.{Bool, true, false, _&&_, _||_, not}
-use mathlib.Core.List.{List, [], _∷_, _++_, map}
+use mathlib.Core.List.{List, [], _∷_, map}
 use mathlib.Core.Logic.{_≢_, _⊎_, inl, inr}
-use Prim.Native.Nat.{ℕ, zero, suc, _+_, _-_, _*_, _/_, _≤_, _<_, min}
-use native.Mathlib.Nat.{zero-mul}
+use Prim.Native.Nat.{ℕ, suc, _+_, _-_, _*_, _/_, _≤_, _<_, min}
 use native.Mathlib.Numerals.{add-one}
 use native.Mathlib.Omega.{arith}
 use lib.ListN.{length, getD, take, drop, replicate, length-take}
-use lib.Dec.{leb, ltb, eqb}
-use borrow.Author.Tests.{eqb-true, eqb-false, eq-eqb, ne-eqb, leb-true, le-leb, lt-leb}
+use lib.Dec.{leb, eqb}
+use borrow.Author.Tests.{eqb-true, eqb-false, eq-eqb, ne-eqb, le-leb, lt-leb}
 use Rattle.laws.specs.Choice.{choose}
 use Rattle.laws.specs.Lists.{every, part}
 use Rattle.laws.specs.Listed.{listed, sameList}
-use Rattle.laws.proofs.Choices.{choose-yes, choose-no, and-left, and-right, and-both, and-no-left, and-no-right}
-use Rattle.laws.proofs.Orders.{lt-or-le, told}
-use Rattle.laws.proofs.Tests.{both-ways, refuted, not-both}
+use Rattle.laws.proofs.Choices.{choose-yes, choose-no, and-no-left}
+use Rattle.laws.proofs.Orders.{told}
+use Rattle.laws.proofs.Tests.{both-ways, refuted}
 use Rattle.laws.proofs.Parts.{part-whole, part-slice}
 use Rattle.laws.proofs.Pasting.{length-part}
 use Rattle.laws.proofs.Listed.{length-listed, getD-listed, drop-listed, drop-listed-end, map-listed, every-next, every-stop, every-end}
@@ -23,12 +22,12 @@ use Rattle.unc.specs.Names.{sameName, goodName}
 use Rattle.unc.specs.Paths.{normalisedCount}
 use Rattle.unc.proofs.NameLaws.{sameName-unlike}
 use Rattle.places.specs.Layout.{placeCount, placeAt, unitAt, roomAt, textAt, listCount, textsOf, zeros, blank}
-use Rattle.places.proofs.LayoutLaws.{length-place, place-unit}
-use Rattle.caches.specs.Entries.{Place, free, used}
+use Rattle.places.proofs.LayoutLaws.{length-place}
+use Rattle.caches.specs.Entries.{Place}
 use Rattle.caches.specs.Order.{goodPrefix, goodReferral, goodDomain, distinct}
 use Rattle.caches.specs.Memory.{Kind, referrals, domains, referralOf, referralUnits, domainOf, domainUnits, rightSize, placeOf, pieceOf, decode, goodPlace, keys, inOrder, ordered}
 use Rattle.caches.specs.Tests.{goodText, goodTexts, goodFlags, orderedAs, allOrdered, inOrderAs, otherKey, keyApart, apart, keysApart}
-use Rattle.caches.proofs.MemoryLaws.{Lawful, place-free, place-used, in-order-parts, RightSize, size-told, size-right}
+use Rattle.caches.proofs.MemoryLaws.{Lawful, place-free, place-used, in-order-parts, size-told}
 use Rattle.caches.proofs.KindLaws.{referrals-lawful, domains-lawful}
 
 -- a place lent by itself is its own place 0

@@ -8,7 +8,7 @@ use Rattle.laws.specs.Choice.{choose}
 use Rattle.unc.specs.Names.{sameName}
 use Rattle.unc.specs.Paths.{matches}
 use Rattle.places.specs.Layout.{placeAt}
-use Rattle.caches.specs.Entries.{Target, Referral, Domain, Place, free, used}
+use Rattle.caches.specs.Entries.{Referral, Domain, Place, free, used}
 use Rattle.caches.specs.Memory.{Kind}
 use Rattle.caches.specs.declared.Found.{Found}
 use Rattle.caches.specs.declared.Found.the-variants.{At, Nothing}
@@ -102,8 +102,15 @@ onEntry f (used e) = used (f e)
 -- the hint of an entry, and of that at place i, set to h
 unfoldable pub targetHintTo : ℕ → Referral → Referral
 targetHintTo h e = record {
-    prefix = e .prefix; root = e .root; interlink = e .interlink; failback = e .failback;
-    ttl = e .ttl; taken = e .taken; targets = e .targets; hint = h }
+  prefix = e .prefix;
+  root = e .root;
+  interlink = e .interlink;
+  failback = e .failback;
+  ttl = e .ttl;
+  taken = e .taken;
+  targets = e .targets;
+  hint = h;
+}
 
 unfoldable pub dcHintTo : ℕ → Domain → Domain
 dcHintTo h d = record { name = d .name; dcs = d .dcs; hint = h }

@@ -1,6 +1,6 @@
 -- The caches in lent memory (the layout is that of the crate `places`): reading a place as an entry, writing an entry, and order.
 use Prim.Native.Nat.{ℕ, _+_, _*_}
-use mathlib.Core.Bool.{Bool, true, false, _&&_}
+use mathlib.Core.Bool.{Bool, true, _&&_}
 use mathlib.Core.List.{List, [], _∷_, _++_, map, flatten}
 use lib.ListN.{length}
 use lib.Dec.{leb, eqb}

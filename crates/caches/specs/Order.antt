@@ -1,6 +1,6 @@
 -- When an entry and a cache are good: document 01, "A cache is in order when every entry meets this, no two prefixes (or names) are equal".
 use Prim.Native.Nat.{ℕ}
-use mathlib.Core.Bool.{Bool, true, false, _&&_, not}
+use mathlib.Core.Bool.{Bool, true, _&&_, not}
 use mathlib.Core.List.{List, [], _∷_}
 use lib.ListN.{length}
 use lib.Dec.{leb, ltb, eqb}
@@ -8,7 +8,7 @@ use Rattle.laws.specs.Choice.{choose}
 use Rattle.laws.specs.Lists.{every}
 use Rattle.unc.specs.Names.{sameName, goodName}
 use Rattle.unc.specs.Paths.{normalisedCount}
-use Rattle.caches.specs.Entries.{Target, Referral, Domain, Place, free, used}
+use Rattle.caches.specs.Entries.{Target, Referral, Domain}
 
 -- "normalised, 2 components or more": a prefix, and each target likewise
 unfoldable pub goodPrefix : List ℕ → Bool

@@ -1,20 +1,19 @@
 -- Laws of lists that are made place by place, of lists cut into parts of one length, and of the test of equal lists.
 use mathlib.Core.Path.{_≡_, refl, sym, ap, _∙_, subst}
-use mathlib.Core.Bool.{Bool, true, false, _&&_, true≢false}
+use mathlib.Core.Bool.{Bool, true, false, true≢false}
 use mathlib.Core.List.{List, [], _∷_, _++_, map, flatten}
 use Prim.Native.Nat.{ℕ, zero, suc, _+_, _-_, _*_, _≤_, _<_}
-use native.Mathlib.Nat.{add-zero, zero-add, add-assoc, not-suc-le-zero, le-of-suc-le-suc, zero-mul, suc-mul}
+use native.Mathlib.Nat.{add-zero, zero-add, not-suc-le-zero, le-of-suc-le-suc, zero-mul, suc-mul}
 use native.Mathlib.Numerals.{add-one}
 use native.Mathlib.Omega.{arith}
 use lib.Dec.{eqb}
-use lib.ListN.{length, getD, take, drop, set, length-append, length-take, length-drop, length-map, List·getD-map}
-use lib.Seq.{drop-cons, drop-drop, take-add, take-all, drop-append-seam, take-append-seam, drop-append-add}
+use lib.ListN.{length, getD, take, drop, set, length-append}
+use lib.Seq.{drop-drop, take-add, take-all, take-append-seam, drop-append-add}
 use borrow.Author.Tests.{eqb-true, eq-eqb}
 use Rattle.laws.specs.Lists.{every, part}
 use Rattle.laws.specs.Listed.{listed, sameList}
 use Rattle.laws.proofs.Choices.{and-left, and-right, and-both}
 use Rattle.laws.proofs.Every.{every-at}
-use Rattle.laws.proofs.Pasting.{length-part}
 
 module _ {ℓ} {A : Type ℓ} where
   pub length-listed : (n : ℕ) (f : ℕ → A) → length (listed n f) ≡ n

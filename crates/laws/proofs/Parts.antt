@@ -1,10 +1,10 @@
 -- Laws of parts of a list: a part of a part, the first elements of a part, parts that touch, parts past a first list.
-use mathlib.Core.Path.{_≡_, refl, sym, ap, _∙_, subst}
+use mathlib.Core.Path.{_≡_, refl, sym, ap, _∙_}
 use mathlib.Core.List.{List, [], _∷_, _++_}
-use Prim.Native.Nat.{ℕ, zero, suc, _+_, _-_, _*_, _≤_, _<_, min}
-use native.Mathlib.Nat.{add-zero, zero-add, add-sub-of-le, suc-add}
+use Prim.Native.Nat.{ℕ, zero, suc, _+_, _-_, _≤_, _<_, min}
+use native.Mathlib.Nat.{zero-add, suc-add}
 use native.Mathlib.Omega.{arith}
-use lib.ListN.{length, getD, take, drop, replicate, length-take, length-drop, length-append, length-replicate, getD-replicate, List·getD-append, List·getD-eq-default}
+use lib.ListN.{length, getD, take, drop, replicate, length-take, length-replicate, getD-replicate, List·getD-append, List·getD-eq-default}
 use lib.Seq.{drop-cons, drop-drop, take-add, take-all, take-take, take-nil, drop-append-add, getD-append-add, ext-getD, getD-take, length-take-le}
 use Rattle.laws.specs.Lists.{part, roomed}
 use Rattle.laws.proofs.Pasting.{getD-append-past, length-roomed}

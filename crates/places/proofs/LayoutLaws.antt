@@ -1,19 +1,16 @@
 -- Laws of the layout: reading a place of the memory, changing one place, and reading what `written` wrote.
-use mathlib.Core.Path.{_≡_, refl, sym, ap, _∙_, subst}
-use mathlib.Core.Bool.{Bool, true, false}
-use mathlib.Core.List.{List, [], _∷_, _++_, flatten}
-use Prim.Native.Nat.{ℕ, zero, suc, _+_, _-_, _*_, _/_, _%_, _≤_, _<_, min}
-use native.Mathlib.Nat.{add-assoc, add-sub-of-le}
+use mathlib.Core.Path.{_≡_, refl, sym, ap, _∙_}
+use mathlib.Core.List.{List}
+use Prim.Native.Nat.{ℕ, _+_, _-_, _*_, _/_, _≤_, _<_, min}
+use native.Mathlib.Nat.{add-assoc}
 use native.Mathlib.Omega.{arith}
-use lib.ListN.{length, getD, take, drop, replicate, length-append, length-replicate}
+use lib.ListN.{length, getD, take, drop}
 use mathlib.Core.Logic.{_≢_, _⊎_, inl, inr}
-use Rattle.laws.specs.Lists.{pasted, part, roomed}
+use Rattle.laws.specs.Lists.{pasted, part}
 use Rattle.laws.proofs.Orders.{lt-or-le}
-use Rattle.laws.specs.Listed.{listed}
 use Rattle.laws.proofs.Pasting.{getD-part, length-part, length-pasted, part-pasted, part-pasted-low, part-pasted-high, pasted-in-part, pasted-again, pasted-part}
-use Rattle.laws.proofs.Parts.{part-part, take-part, part-slice, part-past, getD-past}
-use Rattle.laws.proofs.Listed.{length-listed, getD-listed}
-use Rattle.places.specs.Layout.{placeCount, placeAt, changed, unitAt, wideAt, roomAt, textAt, putUnit, putWide, putText}
+use Rattle.laws.proofs.Parts.{part-part, take-part, part-slice}
+use Rattle.places.specs.Layout.{placeAt, changed, unitAt, wideAt, roomAt, textAt}
 
 -- a place of the memory
 module _ (raw : List ℕ) (i : ℕ) (fits : i < length raw / 2336) where

@@ -1,8 +1,8 @@
 -- Laws of writing into a written place: what stands there afterwards is written too, with one text, mark or setting more, or another hint.
-use mathlib.Core.Path.{_≡_, refl, sym, ap, _∙_, subst}
+use mathlib.Core.Path.{_≡_, refl, sym, ap, _∙_}
 use mathlib.Core.List.{List, [], _∷_, _++_, flatten}
 use mathlib.Core.Logic.{_≢_, _⊎_, inl, inr}
-use Prim.Native.Nat.{ℕ, zero, suc, _+_, _-_, _*_, _/_, _%_, _≤_, _<_}
+use Prim.Native.Nat.{ℕ, _+_, _-_, _*_, _≤_, _<_}
 use native.Mathlib.Omega.{arith}
 use lib.ListN.{length, getD, length-append, List·getD-append, List·getD-eq-default}
 use lib.Seq.{getD-append-seam}
@@ -11,7 +11,7 @@ use Rattle.laws.specs.Listed.{listed}
 use Rattle.laws.proofs.Orders.{lt-or-le}
 use Rattle.laws.proofs.Tests.{eq-or-ne}
 use Rattle.laws.proofs.Pasting.{getD-pasted-low, getD-pasted-in, getD-pasted-high, length-pasted, part-pasted-low, part-pasted-high, part-pasted, length-roomed}
-use Rattle.places.specs.Layout.{unitAt, roomAt, wideUnits, blank, headOf, roomsOf, written, putUnit, putWide, putText}
+use Rattle.places.specs.Layout.{unitAt, roomAt, blank, headOf, roomsOf, written, putUnit, putText}
 use Rattle.places.proofs.WriterLaws.{length-putUnit}
 use Rattle.places.proofs.WrittenLaws.{HeadUnit, a-length, the-count, the-hint, a-mark, a-setting, same-place, Shaped, length-written, written-length, written-count, written-hint, written-mark, written-setting, written-room}
 
@@ -92,10 +92,11 @@ module _ (ts : List (List ℕ)) (hint : ℕ) (marks settings : List ℕ) (shape 
 
   pub shape-mark : (m : ℕ) → length marks < 8 → Shaped ts (marks ++ (m ∷ [])) settings
   shape-mark m u = record {
-      fewTexts = shape .fewTexts;
-      short = shape .short;
-      fewMarks = rw (length-more marks m) (omega arith);
-      fewSettings = shape .fewSettings }
+    fewTexts = shape .fewTexts;
+    short = shape .short;
+    fewMarks = rw (length-more marks m) (omega arith);
+    fewSettings = shape .fewSettings;
+  }
 
   -- one mark more
   pub put-mark : (m : ℕ) → length marks < 8 → putUnit (11 + length marks) m (written ts hint marks settings) ≡ written ts hint (marks ++ (m ∷ [])) settings
@@ -109,10 +110,11 @@ module _ (ts : List (List ℕ)) (hint : ℕ) (marks settings : List ℕ) (shape 
 
   pub shape-setting : (s : ℕ) → length settings < 13 → Shaped ts marks (settings ++ (s ∷ []))
   shape-setting s u = record {
-      fewTexts = shape .fewTexts;
-      short = shape .short;
-      fewMarks = shape .fewMarks;
-      fewSettings = rw (length-more settings s) (omega arith) }
+    fewTexts = shape .fewTexts;
+    short = shape .short;
+    fewMarks = shape .fewMarks;
+    fewSettings = rw (length-more settings s) (omega arith);
+  }
 
   -- one setting more
   pub put-setting : (s : ℕ) → length settings < 13 → putUnit (19 + length settings) s (written ts hint marks settings) ≡ written ts hint marks (settings ++ (s ∷ []))
@@ -125,10 +127,11 @@ module _ (ts : List (List ℕ)) (hint : ℕ) (marks settings : List ℕ) (shape 
 
   pub shape-text : (t : List ℕ) → length ts < 9 → length t ≤ 256 → Shaped (ts ++ (t ∷ [])) marks settings
   shape-text t u h = record {
-      fewTexts = rw (length-more ts t) (omega arith);
-      short = λ j. at j (eq-or-ne j (length ts));
-      fewMarks = shape .fewMarks;
-      fewSettings = shape .fewSettings }
+    fewTexts = rw (length-more ts t) (omega arith);
+    short = λ j. at j (eq-or-ne j (length ts));
+    fewMarks = shape .fewMarks;
+    fewSettings = shape .fewSettings;
+  }
     where
       at : (j : ℕ) → (j ≡ length ts) ⊎ (j ≡ length ts → ⊥) → length (getD (ts ++ (t ∷ [])) j []) ≤ 256
       at j (inl e) = rw (e, more-at ts t []) h

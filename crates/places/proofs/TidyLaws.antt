@@ -1,20 +1,20 @@
 -- Laws of the test for unused room: what it looks at says that the place is exactly what its texts, hint, marks and settings write.
-use mathlib.Core.Path.{_≡_, refl, sym, ap, _∙_, subst}
-use mathlib.Core.Bool.{Bool, true, false, _&&_}
-use mathlib.Core.List.{List, [], _∷_, _++_}
+use mathlib.Core.Path.{_≡_, refl, sym, ap, _∙_}
+use mathlib.Core.Bool.{Bool, true, false}
+use mathlib.Core.List.{List, []}
 use mathlib.Core.Logic.{_⊎_, inl, inr}
-use Prim.Native.Nat.{ℕ, zero, suc, _+_, _-_, _*_, _≤_, _<_, min}
-use native.Mathlib.Nat.{add-assoc, add-sub-of-le}
+use Prim.Native.Nat.{ℕ, _+_, _-_, _*_, _≤_, _<_}
+use native.Mathlib.Nat.{add-sub-of-le}
 use native.Mathlib.Omega.{arith}
 use lib.ListN.{length, getD, take, drop, length-take, List·getD-eq-default}
 use lib.Dec.{leb}
 use borrow.Author.Tests.{leb-true, le-leb, lt-leb}
 use Rattle.laws.specs.Lists.{every, part, roomed}
-use Rattle.laws.specs.Listed.{listed, sameList}
+use Rattle.laws.specs.Listed.{listed}
 use Rattle.laws.proofs.Orders.{lt-or-le}
-use Rattle.laws.proofs.Choices.{and-left, and-right, and-both, and-no-left, and-no-right}
+use Rattle.laws.proofs.Choices.{and-left, and-right, and-both, and-no-left}
 use Rattle.laws.proofs.Tests.{both-ways, refuted, not-both}
-use Rattle.laws.proofs.Pasting.{getD-part, length-part, length-roomed}
+use Rattle.laws.proofs.Pasting.{getD-part, length-part}
 use Rattle.laws.proofs.Parts.{getD-roomed, roomed-take}
 use Rattle.laws.proofs.Listed.{length-listed, getD-listed, every-next, every-stop, every-end, every-listed, listed-every, sameList-true, same-sameList}
 use Rattle.places.specs.Layout.{unitAt, roomAt, textAt, listCount, written, textsOf, marksOf, settingsOf, tidy, zeros, tidyRoom, tidyRooms}

@@ -1,12 +1,12 @@
 -- Laws of the writers of a place: what each wrote is a change of that place alone.
-use mathlib.Core.Path.{_≡_, refl, sym, ap, _∙_}
+use mathlib.Core.Path.{_≡_, refl, ap, _∙_}
 use mathlib.Core.List.{List, [], _∷_, _++_, append-nil}
-use Prim.Native.Nat.{ℕ, suc, _+_, _-_, _*_, _/_, _%_, _≤_, _<_}
+use Prim.Native.Nat.{ℕ, _+_, _-_, _*_, _/_, _%_, _≤_, _<_}
 use native.Mathlib.Nat.{zero-add}
 use native.Mathlib.Omega.{arith}
 use lib.ListN.{length, take, drop, replicate, drop-of-length-le}
-use Rattle.laws.specs.Lists.{pasted, part, roomed}
-use Rattle.laws.proofs.Pasting.{length-pasted, pasted-join, length-roomed, length-part}
+use Rattle.laws.specs.Lists.{pasted, roomed}
+use Rattle.laws.proofs.Pasting.{length-pasted, pasted-join, length-roomed}
 use Rattle.laws.proofs.Parts.{part-slice}
 use Rattle.places.specs.Layout.{placeAt, changed, wideUnits, blank, putUnit, putWide, putText}
 use Rattle.places.proofs.LayoutLaws.{length-place, changed-pasted, changed-again, length-changed}

@@ -6,11 +6,10 @@
 --     11 .. 18   a mark for each text of the list (a set boundary)
 --     19 .. 31   settings
 use Prim.Native.Nat.{ℕ, _+_, _-_, _*_, _/_, _%_, min}
-use mathlib.Core.Bool.{Bool}
+use mathlib.Core.Bool.{Bool, _&&_}
 use mathlib.Core.List.{List, [], _∷_, _++_, flatten}
 use lib.ListN.{length, getD, take, replicate}
 use lib.Dec.{eqb, leb}
-use mathlib.Core.Bool.{_&&_}
 use Rattle.laws.specs.Choice.{choose}
 use Rattle.laws.specs.Lists.{every, pasted, part, roomed}
 use Rattle.laws.specs.Listed.{listed, sameList}

@@ -1,21 +1,16 @@
+-- Hands out a DC's name as a part of the memory.
 use borrow.Author.Needs.{needs}
 use native.Mathlib.Omega.{arith}
 use Rattle.caches.proofs.EntryLaws.{few-dcs, read-dc}
 use Rattle.caches.proofs.dc.Statement.{statement}
 use Rattle.caches.proofs.dc.Tie as tie
-use Rattle.caches.proofs.dc.Reads as reads
-use Rattle.caches.proofs.dc.Lts as lts
-use Rattle.places.proofs.text.Reads as text-reads
 
--- src/lib.rt:440:28
 add-text : tie.Need-add-text
 add-text c = omega (arith, few-dcs _ _ (c .before .pre .1))
 
--- src/lib.rt:440:5
 text-requires : tie.Need-text-requires
 text-requires c κs = (search needs, omega (arith, few-dcs _ _ (c .before .pre .1)))
 
--- src/lib.rt:436:1
 returns : tie.Need-returns
 returns c = read-dc _ _ _ (c .text .ensures) (c .before .before .pre .1)
 

@@ -1,16 +1,14 @@
+-- Finds the lowest free place. The invariant: the places from i on decide.
 use Prim.Native.Nat.{_-_, _/_, _≤_}
 use lib.ListN.{length, drop}
 use mathlib.Core.Path.{_≡_, refl, sym, _∙_}
 use native.Mathlib.Omega.{arith}
+use borrow.Author.Needs.{needs}
 use Rattle.caches.specs.Memory.{referrals, decode}
 use Rattle.caches.specs.Lookup.{firstFreeFrom}
 use Rattle.caches.proofs.AgeLaws.{free-hit, free-miss, free-end}
-use borrow.Author.Needs.{needs}
 use Rattle.caches.proofs.first_free.Statement.{statement}
 use Rattle.caches.proofs.first_free.Tie as tie
-use Rattle.caches.proofs.first_free.Reads as reads
-use Rattle.caches.proofs.first_free.Lts as lts
-use Rattle.places.proofs.unit.Reads as unit-reads
 
 abbrev Inv-loop : tie.InvT-loop
 Inv-loop cache count i₀ i =
@@ -19,33 +17,26 @@ Inv-loop cache count i₀ i =
 abbrev μ-loop : tie.MeasureT-loop
 μ-loop cache count i₀ i = length cache / 2336 - i
 
--- src/lib.rt:318:5
 loop-holds : tie.Need-loop-holds Inv-loop μ-loop
 loop-holds c = (search needs, refl)
 
--- src/lib.rt:319:12
 unit-requires : tie.Need-unit-requires Inv-loop μ-loop
 unit-requires c κs = search needs
 
--- src/lib.rt:320:13
 returns : tie.Need-returns Inv-loop μ-loop
 returns c =
     sym (c .before .before .before .loop .inv .1 ∙ free-hit _ _ (c .before .unit .ensures) (c .if1 .taken) (omega arith))
 
--- src/lib.rt:322:9
 add-i : tie.Need-add-i Inv-loop μ-loop
 add-i c = search needs
 
--- src/lib.rt:318:5
 loop-less : tie.Need-loop-less Inv-loop μ-loop
 loop-less c = search needs
 
--- src/lib.rt:318:5
 loop-again : tie.Need-loop-again Inv-loop μ-loop
 loop-again c =
     (search needs, c .before .before .before .loop .inv .1 ∙ free-miss _ _ (c .before .unit .ensures) (c .if1 .left) (omega arith))
 
--- src/lib.rt:313:1
 returns-2 : tie.Need-returns-2 Inv-loop μ-loop
 returns-2 c = sym (c .before .loop .inv .1 ∙ free-end _ _ (omega arith))
 

@@ -1,16 +1,12 @@
-use Rattle.caches.proofs.EntryLaws.{read-interlink}
+-- Reads the Interlink of an entry.
 use borrow.Author.Needs.{needs}
+use Rattle.caches.proofs.EntryLaws.{read-interlink}
 use Rattle.caches.proofs.is_interlink.Statement.{statement}
 use Rattle.caches.proofs.is_interlink.Tie as tie
-use Rattle.caches.proofs.is_interlink.Reads as reads
-use Rattle.caches.proofs.is_interlink.Lts as lts
-use Rattle.places.proofs.unit.Reads as unit-reads
 
--- src/lib.rt:374:5
 unit-requires : tie.Need-unit-requires
 unit-requires c κs = search needs
 
--- src/lib.rt:370:1
 returns : tie.Need-returns
 returns c = read-interlink _ _ (c .unit .ensures)
 

@@ -1,16 +1,12 @@
-use Rattle.caches.proofs.EntryLaws.{read-root}
+-- Reads whether an entry is a root.
 use borrow.Author.Needs.{needs}
+use Rattle.caches.proofs.EntryLaws.{read-root}
 use Rattle.caches.proofs.is_root.Statement.{statement}
 use Rattle.caches.proofs.is_root.Tie as tie
-use Rattle.caches.proofs.is_root.Reads as reads
-use Rattle.caches.proofs.is_root.Lts as lts
-use Rattle.places.proofs.unit.Reads as unit-reads
 
--- src/lib.rt:367:5
 unit-requires : tie.Need-unit-requires
 unit-requires c κs = search needs
 
--- src/lib.rt:363:1
 returns : tie.Need-returns
 returns c = read-root _ _ (c .unit .ensures)
 

@@ -1,15 +1,13 @@
+-- Finds the place with an equal key. The invariant: the places from i on decide.
 use Prim.Native.Nat.{_-_, _/_, _≤_}
 use lib.ListN.{length}
 use mathlib.Core.Path.{_≡_, sym, _∙_}
 use native.Mathlib.Omega.{arith}
+use borrow.Author.Needs.{needs}
 use Rattle.caches.specs.Tests.{keyPlace}
 use Rattle.caches.proofs.FindLaws.{keyFrom, key-start, key-hit, key-miss, key-end}
-use borrow.Author.Needs.{needs}
 use Rattle.caches.proofs.key_place.Statement.{statement}
 use Rattle.caches.proofs.key_place.Tie as tie
-use Rattle.caches.proofs.key_place.Reads as reads
-use Rattle.caches.proofs.key_place.Lts as lts
-use Rattle.caches.proofs.key_is.Reads as key-is-reads
 
 abbrev Inv-loop : tie.InvT-loop
 Inv-loop cache name count i₀ i = (i ≤ length cache / 2336) × (keyPlace name cache ≡ keyFrom name cache i)
@@ -17,33 +15,26 @@ Inv-loop cache name count i₀ i = (i ≤ length cache / 2336) × (keyPlace name
 abbrev μ-loop : tie.MeasureT-loop
 μ-loop cache name count i₀ i = length cache / 2336 - i
 
--- src/lib.rt:251:5
 loop-holds : tie.Need-loop-holds Inv-loop μ-loop
 loop-holds c = (search needs, key-start _ _)
 
--- src/lib.rt:252:12
 key-is-requires : tie.Need-key-is-requires Inv-loop μ-loop
 key-is-requires c κs = search needs
 
--- src/lib.rt:253:13
 returns : tie.Need-returns Inv-loop μ-loop
 returns c =
     sym (c .before .before .before .loop .inv .1 ∙ key-hit _ _ _ (c .before .key-is .ensures) (c .if1 .taken) (omega arith))
 
--- src/lib.rt:255:9
 add-i : tie.Need-add-i Inv-loop μ-loop
 add-i c = search needs
 
--- src/lib.rt:251:5
 loop-less : tie.Need-loop-less Inv-loop μ-loop
 loop-less c = search needs
 
--- src/lib.rt:251:5
 loop-again : tie.Need-loop-again Inv-loop μ-loop
 loop-again c =
     (search needs, c .before .before .before .loop .inv .1 ∙ key-miss _ _ _ (c .before .key-is .ensures) (c .if1 .left) (omega arith))
 
--- src/lib.rt:246:1
 returns-2 : tie.Need-returns-2 Inv-loop μ-loop
 returns-2 c = sym (c .before .loop .inv .1 ∙ key-end _ _ _ (omega arith))
 

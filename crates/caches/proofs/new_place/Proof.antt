@@ -1,33 +1,24 @@
-use Rattle.caches.proofs.AgeLaws.{new-free, new-oldest}
+-- The place that a new entry takes.
 use borrow.Author.Needs.{needs}
+use Rattle.caches.proofs.AgeLaws.{new-free, new-oldest}
 use Rattle.caches.proofs.new_place.Statement.{statement}
 use Rattle.caches.proofs.new_place.Tie as tie
-use Rattle.caches.proofs.new_place.Reads as reads
-use Rattle.caches.proofs.new_place.Lts as lts
-use Rattle.caches.proofs.first_free.Reads as first-free-reads
-use Rattle.caches.proofs.oldest_place.Reads as oldest-place-reads
 
--- src/lib.rt:350:24
 first-free-requires : tie.Need-first-free-requires
 first-free-requires c κs = search needs
 
--- src/lib.rt:350:19
 enum-known-i : tie.Need-enum-known-i
 enum-known-i c = search needs
 
--- src/lib.rt:351:9
 enum-told : tie.Need-enum-told
 enum-told c = search needs
 
--- src/lib.rt:351:9
 oldest-place-requires : tie.Need-oldest-place-requires
 oldest-place-requires c κs = search needs
 
--- src/lib.rt:351:9
 returns : tie.Need-returns
 returns c = new-oldest _ _ (c .before .before .before .first-free .ensures) (c .before .enum-told .given .1) (c .oldest-place .ensures)
 
--- src/lib.rt:347:1
 returns-2 : tie.Need-returns-2
 returns-2 c = new-free _ _ (c .before .before .before .first-free .ensures) (c .before .i .given .1)
 

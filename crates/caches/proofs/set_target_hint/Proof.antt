@@ -1,21 +1,16 @@
+-- Sets TargetHint.
 use native.Mathlib.Omega.{arith}
-use Rattle.caches.proofs.EntryLaws.{target-hint-set}
 use borrow.Author.Needs.{needs}
+use Rattle.caches.proofs.EntryLaws.{target-hint-set}
 use Rattle.caches.proofs.set_target_hint.Statement.{statement}
 use Rattle.caches.proofs.set_target_hint.Tie as tie
-use Rattle.caches.proofs.set_target_hint.Reads as reads
-use Rattle.caches.proofs.set_target_hint.Lts as lts
-use Rattle.places.proofs.put_unit.Reads as put-unit-reads
 
--- src/lib.rt:447:5
 put-unit-requires : tie.Need-put-unit-requires
 put-unit-requires c κs = search needs
 
--- src/lib.rt:443:1
 same-length : tie.Need-same-length
 same-length c = search needs
 
--- src/lib.rt:443:1
 returns : tie.Need-returns
 returns c =
     target-hint-set _ _ _ (c .before .before .before .before .before .pre .0) (omega arith) (c .before .before .before .before .before .pre .1 .1)

@@ -1,21 +1,16 @@
+-- Reads whether a set opens before a target.
 use borrow.Author.Needs.{needs}
 use native.Mathlib.Omega.{arith}
 use Rattle.caches.proofs.EntryLaws.{few-targets, read-opens}
 use Rattle.caches.proofs.target_opens.Statement.{statement}
 use Rattle.caches.proofs.target_opens.Tie as tie
-use Rattle.caches.proofs.target_opens.Reads as reads
-use Rattle.caches.proofs.target_opens.Lts as lts
-use Rattle.places.proofs.unit.Reads as unit-reads
 
--- src/lib.rt:411:28
 add-unit : tie.Need-add-unit
 add-unit c = omega (arith, few-targets _ _ (c .before .pre .1))
 
--- src/lib.rt:411:5
 unit-requires : tie.Need-unit-requires
 unit-requires c κs = (search needs, omega (arith, few-targets _ _ (c .before .pre .1)))
 
--- src/lib.rt:407:1
 returns : tie.Need-returns
 returns c = read-opens _ _ _ (c .unit .ensures) (c .before .before .pre .1)
 

@@ -1,6 +1,5 @@
--- Document 01, "The two caches".
+-- Document 01, "The two caches": what they hold, and when they are in order.
 pub mod Entries
-pub mod Memory
 pub mod Order
+pub mod Memory
 pub mod Tests
-pub mod Lookup

@@ -9,8 +9,6 @@ use Rattle.laws.specs.Lists.{every}
 use Rattle.laws.specs.Listed.{listed}
 use Rattle.unc.specs.Names.{sameName, goodName}
 use Rattle.places.specs.Layout.{placeCount, placeAt, unitAt, textAt, textsOf}
-use Rattle.caches.specs.declared.Found.{Found}
-use Rattle.caches.specs.declared.Found.the-variants.{At, Nothing}
 use Rattle.caches.specs.Order.{goodPrefix}
 use Rattle.caches.specs.Memory.{referrals, domains, inOrder, ordered}
 
@@ -51,14 +49,3 @@ apart (p ∷ ps) = (eqb (unitAt 0 p) 0 || every (otherKey (textAt 0 p)) ps) && a
 
 unfoldable pub keysApart : List ℕ → Bool
 keysApart raw = apart (listed (placeCount raw) (λ i. placeAt i raw))
-
--- the place that is used and has this key
-unfoldable pub keyIs : List ℕ → List ℕ → Bool
-keyIs name piece = not (eqb (unitAt 0 piece) 0) && sameName (textAt 0 piece) name
-
-unfoldable pub keyPlaceFrom : List ℕ → ℕ → List (List ℕ) → Found
-keyPlaceFrom name i [] = Nothing
-keyPlaceFrom name i (p ∷ ps) = choose (keyIs name p) (At i) (keyPlaceFrom name (i + 1) ps)
-
-unfoldable pub keyPlace : List ℕ → List ℕ → Found
-keyPlace name raw = keyPlaceFrom name 0 (listed (placeCount raw) (λ i. placeAt i raw))

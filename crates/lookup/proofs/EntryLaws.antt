@@ -1,0 +1,164 @@
+-- Laws of reading the fields of an entry in its place, and of setting its hint.
+use mathlib.Core.Path.{_≡_, refl, sym, ap, _∙_}
+use mathlib.Core.Bool.{true}
+use mathlib.Core.List.{List, []}
+use mathlib.Core.Logic.{inr}
+use Prim.Native.Nat.{ℕ, _+_, _-_, _/_, _<_}
+use native.Mathlib.Omega.{arith}
+use lib.ListN.{length, getD, set}
+use lib.Dec.{eqb}
+use Rattle.laws.proofs.Listed.{length-listed, getD-listed}
+use Rattle.places.specs.Layout.{placeAt, changed, unitAt, flagAt, textAt, listCount, putUnit}
+use Rattle.places.proofs.PutLaws.{put-hint}
+use Rattle.caches.specs.Entries.{Target, Referral, Domain, Place, free, used}
+use Rattle.caches.specs.Order.{goodReferral, goodDomain}
+use Rattle.caches.specs.Memory.{Kind, referrals, domains, targetOf, referralOf, referralSettings, referralUnits, domainOf, domainUnits, decode, encode, inOrder}
+use Rattle.lookup.specs.Lookup.{entryAt, targetPath, targetOpens, dcName, onEntry, targetHintTo, dcHintTo, targetHinted, dcHinted}
+use Rattle.caches.proofs.KindLaws.{referrals-lawful, domains-lawful, GoodReferral, referral-told, good-referral, referral-shape, GoodDomain, domain-told, good-domain, domain-shape}
+use Rattle.caches.proofs.PlaceLaws.{hint-good}
+use Rattle.caches.proofs.MemoryLaws.{Lawful}
+use Rattle.lookup.proofs.StoreLaws.{entry-good, entry-changed, kept-in-order, listed-used}
+
+module _ (raw : List ℕ) (i : ℕ) where
+  pub read-prefix : {t : List ℕ} → t ≡ textAt 0 (placeAt i raw) → t ≡ entryAt referrals i raw .prefix
+  unfolding entryAt referralOf
+  read-prefix e = e
+
+  pub read-root : {u : ℕ} → u ≡ unitAt 19 (placeAt i raw) → eqb u 1 ≡ entryAt referrals i raw .root
+  unfolding entryAt referralOf flagAt
+  read-root e = ap (λ (x : ℕ). eqb x 1) e
+
+  pub read-interlink : {u : ℕ} → u ≡ unitAt 20 (placeAt i raw) → eqb u 1 ≡ entryAt referrals i raw .interlink
+  unfolding entryAt referralOf flagAt
+  read-interlink e = ap (λ (x : ℕ). eqb x 1) e
+
+  pub read-failback : {u : ℕ} → u ≡ unitAt 21 (placeAt i raw) → eqb u 1 ≡ entryAt referrals i raw .failback
+  unfolding entryAt referralOf flagAt
+  read-failback e = ap (λ (x : ℕ). eqb x 1) e
+
+  pub count-targets : length (entryAt referrals i raw .targets) ≡ listCount (placeAt i raw)
+  unfolding entryAt referralOf
+  count-targets = length-listed (listCount (placeAt i raw)) (λ j. targetOf j (placeAt i raw))
+
+  pub count-dcs : length (entryAt domains i raw .dcs) ≡ listCount (placeAt i raw)
+  unfolding entryAt domainOf
+  count-dcs = length-listed (listCount (placeAt i raw)) (λ j. textAt (1 + j) (placeAt i raw))
+
+  pub read-count : {n : ℕ} → n ≡ listCount (placeAt i raw) → n ≡ length (entryAt referrals i raw .targets)
+  read-count e = e ∙ sym count-targets
+
+  pub read-dcs : {n : ℕ} → n ≡ listCount (placeAt i raw) → n ≡ length (entryAt domains i raw .dcs)
+  read-dcs e = e ∙ sym count-dcs
+
+  pub few-targets : {j : ℕ} → j < length (entryAt referrals i raw .targets) → j < 8
+  few-targets h = let n : length (entryAt referrals i raw .targets) ≡ listCount (placeAt i raw) = count-targets in omega arith
+
+  pub few-dcs : {j : ℕ} → j < length (entryAt domains i raw .dcs) → j < 8
+  few-dcs h = let n : length (entryAt domains i raw .dcs) ≡ listCount (placeAt i raw) = count-dcs in omega arith
+
+  pub read-hint : {u : ℕ} → u ≡ unitAt 10 (placeAt i raw) → u ≡ entryAt referrals i raw .hint
+  unfolding entryAt referralOf
+  read-hint e = e
+
+  pub read-dc-hint : {u : ℕ} → u ≡ unitAt 10 (placeAt i raw) → u ≡ entryAt domains i raw .hint
+  unfolding entryAt domainOf
+  read-dc-hint e = e
+
+  pub read-name : {t : List ℕ} → t ≡ textAt 0 (placeAt i raw) → t ≡ entryAt domains i raw .name
+  unfolding entryAt domainOf
+  read-name e = e
+
+  module _ (j : ℕ) where
+    target-of : j < length (entryAt referrals i raw .targets) → (z : Target) → getD (entryAt referrals i raw .targets) j z ≡ targetOf j (placeAt i raw)
+    unfolding entryAt referralOf
+    target-of h z = getD-listed (listCount (placeAt i raw)) (λ k. targetOf k (placeAt i raw)) j z (rw length-listed at h)
+
+    pub read-target : {t : List ℕ} → t ≡ textAt (1 + j) (placeAt i raw) → j < length (entryAt referrals i raw .targets) → t ≡ targetPath j (entryAt referrals i raw)
+    unfolding targetPath targetOf
+    read-target e h = e ∙ ap (λ (t : Target). t .path) (sym (target-of h _))
+
+    pub read-opens : {u : ℕ} → u ≡ unitAt (11 + j) (placeAt i raw) → j < length (entryAt referrals i raw .targets) → eqb u 1 ≡ targetOpens j (entryAt referrals i raw)
+    unfolding targetOpens targetOf flagAt
+    read-opens e h = ap (λ (x : ℕ). eqb x 1) e ∙ ap (λ (t : Target). t .opens) (sym (target-of h _))
+
+    pub read-dc : {t : List ℕ} → t ≡ textAt (1 + j) (placeAt i raw) → j < length (entryAt domains i raw .dcs) → t ≡ dcName j (entryAt domains i raw)
+    unfolding dcName entryAt domainOf
+    read-dc e h = e ∙ sym (getD-listed (listCount (placeAt i raw)) (λ k. textAt (1 + k) (placeAt i raw)) j [] (rw length-listed at h))
+
+-- an entry of memory in order, with a list, changed in its place
+module _ {E : Type 0} (k : Kind E) (law : Lawful k) (raw : List ℕ) (i : ℕ) (order : inOrder k raw ≡ true) (fits : i < length raw / 2336)
+    (some : 0 < listCount (placeAt i raw)) where
+  pub entry-here : getD (decode k raw) i free ≡ used (entryAt k i raw)
+  entry-here = listed-used k law raw i order fits some
+
+  pub entry-well : k .good (entryAt k i raw) ≡ true
+  entry-well = entry-good k law raw i order fits (entryAt k i raw) entry-here
+
+  on-entry : (to : E → E) (f : List ℕ → List ℕ) → f (k .writes (entryAt k i raw)) ≡ k .writes (to (entryAt k i raw)) → k .good (to (entryAt k i raw)) ≡ true
+      → {m : List ℕ} → m ≡ changed i f raw → m ≡ encode k (set (decode k raw) i (onEntry to (getD (decode k raw) i free)))
+  unfolding onEntry
+  on-entry to f h g e =
+      e ∙ (entry-changed k law raw i order fits (entryAt k i raw) entry-here (to (entryAt k i raw)) f h g
+      ∙ ap (λ (q : Place E). encode k (set (decode k raw) i (onEntry to q))) (sym entry-here))
+
+  on-entry-order : (to : E → E) → k .good (to (entryAt k i raw)) ≡ true → k .key (to (entryAt k i raw)) ≡ k .key (entryAt k i raw)
+      → inOrder k (encode k (set (decode k raw) i (onEntry to (getD (decode k raw) i free)))) ≡ true
+  unfolding onEntry
+  on-entry-order to g q =
+      ap (λ (p : Place E). inOrder k (encode k (set (decode k raw) i (onEntry to p)))) entry-here
+      ∙ kept-in-order k law raw i order fits (entryAt k i raw) entry-here (to (entryAt k i raw)) g q
+
+-- a hint below the number of targets (or DCs)
+target-hint-good : (h : ℕ) (e : Referral) → goodReferral e ≡ true → h < length (e .targets) → goodReferral (targetHintTo h e) ≡ true
+unfolding targetHintTo
+target-hint-good h e g u =
+    let t : GoodReferral e = referral-told e g in
+    good-referral _ (record { prefixed = t .prefixed; some = t .some; few = t .few; each = t .each; first = t .first; hinted = u })
+
+dc-hint-good : (h : ℕ) (d : Domain) → goodDomain d ≡ true → h < length (d .dcs) → goodDomain (dcHintTo h d) ≡ true
+unfolding dcHintTo
+dc-hint-good h d g u =
+    let t : GoodDomain d = domain-told d g in
+    good-domain _ (record { named = t .named; few = t .few; each = t .each; hinted = hint-good (d .dcs) h (inr u) })
+
+target-hint-units : (h : ℕ) (e : Referral) → goodReferral e ≡ true → putUnit 10 h (referralUnits e) ≡ referralUnits (targetHintTo h e)
+unfolding referralUnits referralSettings targetHintTo
+target-hint-units h e g = put-hint _ (e .hint) _ _ (referral-shape e g) h
+
+dc-hint-units : (h : ℕ) (d : Domain) → goodDomain d ≡ true → putUnit 10 h (domainUnits d) ≡ domainUnits (dcHintTo h d)
+unfolding domainUnits dcHintTo
+dc-hint-units h d g = put-hint _ (d .hint) _ _ (domain-shape d g) h
+
+module _ (raw : List ℕ) (i h : ℕ) (order : inOrder referrals raw ≡ true) (fits : i < length raw / 2336) (below : h < length (entryAt referrals i raw .targets)) where
+  some-targets : 0 < listCount (placeAt i raw)
+  some-targets = let n : length (entryAt referrals i raw .targets) ≡ listCount (placeAt i raw) = count-targets raw i in omega arith
+
+  pub target-hint-set : {m : List ℕ} → m ≡ changed i (putUnit 10 h) raw → m ≡ encode referrals (targetHinted i h (decode referrals raw))
+  unfolding targetHinted
+  target-hint-set =
+      let g : goodReferral (entryAt referrals i raw) ≡ true = entry-well referrals referrals-lawful raw i order fits some-targets in
+      on-entry referrals referrals-lawful raw i order fits some-targets (targetHintTo h) (putUnit 10 h)
+      (target-hint-units h (entryAt referrals i raw) g) (target-hint-good h (entryAt referrals i raw) g below)
+
+  pub target-hint-order : inOrder referrals (encode referrals (targetHinted i h (decode referrals raw))) ≡ true
+  unfolding targetHinted targetHintTo
+  target-hint-order =
+      on-entry-order referrals referrals-lawful raw i order fits some-targets (targetHintTo h)
+      (target-hint-good h (entryAt referrals i raw) (entry-well referrals referrals-lawful raw i order fits some-targets) below) refl
+
+module _ (raw : List ℕ) (i h : ℕ) (order : inOrder domains raw ≡ true) (fits : i < length raw / 2336) (below : h < length (entryAt domains i raw .dcs)) where
+  some-dcs : 0 < listCount (placeAt i raw)
+  some-dcs = let n : length (entryAt domains i raw .dcs) ≡ listCount (placeAt i raw) = count-dcs raw i in omega arith
+
+  pub dc-hint-set : {m : List ℕ} → m ≡ changed i (putUnit 10 h) raw → m ≡ encode domains (dcHinted i h (decode domains raw))
+  unfolding dcHinted
+  dc-hint-set =
+      let g : goodDomain (entryAt domains i raw) ≡ true = entry-well domains domains-lawful raw i order fits some-dcs in
+      on-entry domains domains-lawful raw i order fits some-dcs (dcHintTo h) (putUnit 10 h)
+      (dc-hint-units h (entryAt domains i raw) g) (dc-hint-good h (entryAt domains i raw) g below)
+
+  pub dc-hint-order : inOrder domains (encode domains (dcHinted i h (decode domains raw))) ≡ true
+  unfolding dcHinted dcHintTo
+  dc-hint-order =
+      on-entry-order domains domains-lawful raw i order fits some-dcs (dcHintTo h)
+      (dc-hint-good h (entryAt domains i raw) (entry-well domains domains-lawful raw i order fits some-dcs) below) refl

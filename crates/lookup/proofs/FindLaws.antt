@@ -1,0 +1,150 @@
+-- Laws of the loops that find an entry: what is left to look at, and what is found.
+use mathlib.Core.Path.{_≡_, refl, sym, ap, _∙_}
+use mathlib.Core.Bool.{Bool, true, false, _&&_}
+use mathlib.Core.List.{List, [], _∷_, map}
+use mathlib.Core.Logic.{_⊎_, inl, inr}
+use Prim.Native.Nat.{ℕ, _+_, _-_, _/_, _≤_, _<_}
+use native.Mathlib.Numerals.{add-one}
+use native.Mathlib.Omega.{arith}
+use lib.ListN.{length, drop}
+use lib.Dec.{ltb, eqb}
+use borrow.Author.Tests.{eqb-true, eq-eqb, ne-eqb, le-ltb, lt-ltb}
+use Rattle.laws.specs.Choice.{choose}
+use Rattle.laws.specs.Listed.{listed}
+use Rattle.laws.proofs.Choices.{choose-yes, choose-no}
+use Rattle.laws.proofs.Orders.{told}
+use Rattle.laws.proofs.Listed.{drop-listed, drop-listed-end, map-listed}
+use Rattle.unc.specs.Names.{sameName}
+use Rattle.unc.specs.Paths.{matches}
+use Rattle.places.specs.Layout.{placeCount, placeAt, unitAt, textAt}
+use Rattle.lookup.specs.declared.Found.{Found}
+use Rattle.lookup.specs.declared.Found.the-variants.{At, Nothing}
+use Rattle.caches.specs.Memory.{Kind, referrals, domains, referralOf, placeOf, decode}
+use Rattle.lookup.specs.Lookup.{longerMatch, prefixUnits, longestFrom, longestMatch, hasKey, withKeyFrom, withKey}
+use Rattle.lookup.specs.Keys.{keyIs, keyPlaceFrom, keyPlace}
+use Rattle.caches.proofs.MemoryLaws.{Lawful, place-free, place-used, drop-decode, drop-decode-end}
+use Rattle.caches.proofs.KindLaws.{referrals-lawful, domains-lawful}
+use Rattle.caches.proofs.TestLaws.{text-none}
+
+-- lengths first
+pub shorter : (prefix path : List ℕ) (n : ℕ) → length prefix ≤ n → false ≡ (ltb n (length prefix) && matches prefix path)
+shorter prefix path n h = rw (le-ltb n (length prefix) h)
+
+pub longer : (prefix path : List ℕ) (n : ℕ) {r : Bool} → n < length prefix → r ≡ matches prefix path → r ≡ (ltb n (length prefix) && matches prefix path)
+longer prefix path n h e = rw (lt-ltb n (length prefix) h) e
+
+-- a place, by its key
+module _ (p : List ℕ) where
+  longer-place : (path : List ℕ) (n : ℕ) → longerMatch path n (placeOf referrals p) ≡ (ltb n (length (textAt 0 p)) && matches (textAt 0 p) path)
+  unfolding longerMatch referralOf
+  longer-place path n = go (told (eqb (unitAt 0 p) 0))
+    where
+      go : (eqb (unitAt 0 p) 0 ≡ true) ⊎ (eqb (unitAt 0 p) 0 ≡ false)
+          → longerMatch path n (placeOf referrals p) ≡ (ltb n (length (textAt 0 p)) && matches (textAt 0 p) path)
+      go (inl h) = rw (place-free referrals p (eqb-true (unitAt 0 p) 0 h), text-none referrals referrals-lawful p h) (shorter [] path n (omega arith))
+      go (inr h) = rw (place-used referrals p h)
+
+  units-place : prefixUnits (placeOf referrals p) ≡ length (textAt 0 p)
+  unfolding prefixUnits referralOf
+  units-place = go (told (eqb (unitAt 0 p) 0))
+    where
+      go : (eqb (unitAt 0 p) 0 ≡ true) ⊎ (eqb (unitAt 0 p) 0 ≡ false) → prefixUnits (placeOf referrals p) ≡ length (textAt 0 p)
+      go (inl h) = rw (place-free referrals p (eqb-true (unitAt 0 p) 0 h), text-none referrals referrals-lawful p h)
+      go (inr h) = rw (place-used referrals p h)
+
+-- the loop that finds the longest match
+module _ (raw path : List ℕ) (i : ℕ) (best : Found) (n : ℕ) where
+  -- one place more
+  find-step : i < length raw / 2336 → longestFrom path i best n (drop i (decode referrals raw))
+      ≡ longestFrom path (i + 1) (choose (longerMatch path n (placeOf referrals (placeAt i raw))) (At i) best)
+      (choose (longerMatch path n (placeOf referrals (placeAt i raw))) (prefixUnits (placeOf referrals (placeAt i raw))) n) (drop (i + 1) (decode referrals raw))
+  unfolding longestFrom
+  find-step u =
+      ap (longestFrom path i best n) (drop-decode referrals raw i u)
+      ∙ ap (λ (k : ℕ). longestFrom path (i + 1) (choose (longerMatch path n (placeOf referrals (placeAt i raw))) (At i) best)
+      (choose (longerMatch path n (placeOf referrals (placeAt i raw))) (prefixUnits (placeOf referrals (placeAt i raw))) n) (drop k (decode referrals raw)))
+      (sym (add-one i))
+
+  tested : {key : List ℕ} {r : Bool} → key ≡ textAt 0 (placeAt i raw) → r ≡ (ltb n (length key) && matches key path) → longerMatch path n (placeOf referrals (placeAt i raw)) ≡ r
+  tested k e = longer-place (placeAt i raw) path n ∙ ((λ j. ltb n (length (sym k j)) && matches (sym k j) path) ∙ sym e)
+
+  -- the best and its units after that
+  module _ {best′ : Found} {n′ : ℕ} {key : List ℕ} {r : Bool} (k : key ≡ textAt 0 (placeAt i raw)) (e : r ≡ (ltb n (length key) && matches key path)) where
+    pub find-hit : r ≡ true → best′ ≡ At i → n′ ≡ length key → i < length raw / 2336
+        → longestFrom path i best n (drop i (decode referrals raw)) ≡ longestFrom path (i + 1) best′ n′ (drop (i + 1) (decode referrals raw))
+    find-hit h p q u =
+        let l : prefixUnits (placeOf referrals (placeAt i raw)) ≡ n′ = units-place (placeAt i raw) ∙ (ap length (sym k) ∙ sym q) in
+        find-step u
+        ∙ (λ j. longestFrom path (i + 1) ((choose-yes (At i) best (tested k e ∙ h) ∙ sym p) j)
+        ((choose-yes (prefixUnits (placeOf referrals (placeAt i raw))) n (tested k e ∙ h) ∙ l) j) (drop (i + 1) (decode referrals raw)))
+
+    pub find-miss : r ≡ false → best′ ≡ best → n′ ≡ n → i < length raw / 2336
+        → longestFrom path i best n (drop i (decode referrals raw)) ≡ longestFrom path (i + 1) best′ n′ (drop (i + 1) (decode referrals raw))
+    find-miss h p q u =
+        find-step u
+        ∙ (λ j. longestFrom path (i + 1) ((choose-no (At i) best (tested k e ∙ h) ∙ sym p) j)
+        ((choose-no (prefixUnits (placeOf referrals (placeAt i raw))) n (tested k e ∙ h) ∙ sym q) j) (drop (i + 1) (decode referrals raw)))
+
+  pub find-end : length raw / 2336 ≤ i → longestFrom path i best n (drop i (decode referrals raw)) ≡ best
+  unfolding longestFrom
+  find-end h = rw (drop-decode-end referrals raw i h)
+
+pub find-start : (raw path : List ℕ) → longestMatch path (decode referrals raw) ≡ longestFrom path 0 Nothing 0 (drop 0 (decode referrals raw))
+unfolding longestMatch
+find-start raw path = refl
+
+-- the loop that finds an equal key
+module _ (name piece : List ℕ) where
+  pub key-free : {u : ℕ} → u ≡ unitAt 0 piece → u ≡ 0 → false ≡ keyIs name piece
+  unfolding keyIs
+  key-free e h = rw (eq-eqb (unitAt 0 piece) 0 (sym e ∙ h))
+
+  pub key-used : {u : ℕ} {t : List ℕ} {r : Bool} → u ≡ unitAt 0 piece → (u ≡ 0 → ⊥) → t ≡ textAt 0 piece → r ≡ sameName t name → r ≡ keyIs name piece
+  unfolding keyIs
+  key-used e n et er = rw (ne-eqb (unitAt 0 piece) 0 (λ z. n (e ∙ z))) (er ∙ ap (λ (x : List ℕ). sameName x name) et)
+
+pub keyFrom : List ℕ → List ℕ → ℕ → Found
+keyFrom name raw i = keyPlaceFrom name i (drop i (listed (placeCount raw) (λ k. placeAt k raw)))
+
+module _ (name raw : List ℕ) where
+  pub key-start : keyPlace name raw ≡ keyFrom name raw 0
+  unfolding keyPlace keyFrom
+  key-start = refl
+
+  module _ (i : ℕ) where
+    pub key-hit : {r : Bool} → r ≡ keyIs name (placeAt i raw) → r ≡ true → i < length raw / 2336 → keyFrom name raw i ≡ At i
+    unfolding keyFrom keyPlaceFrom
+    key-hit e h u = rw (drop-listed (placeCount raw) (λ k. placeAt k raw) i u) (choose-yes (At i) _ (sym e ∙ h))
+
+    pub key-miss : {r : Bool} → r ≡ keyIs name (placeAt i raw) → r ≡ false → i < length raw / 2336 → keyFrom name raw i ≡ keyFrom name raw (i + 1)
+    unfolding keyFrom keyPlaceFrom
+    key-miss e h u = rw (drop-listed (placeCount raw) (λ k. placeAt k raw) i u, add-one i) (choose-no (At i) _ (sym e ∙ h))
+
+    pub key-end : length raw / 2336 ≤ i → keyFrom name raw i ≡ Nothing
+    unfolding keyFrom keyPlaceFrom
+    key-end h = rw (drop-listed-end (placeCount raw) (λ k. placeAt k raw) i h)
+
+-- it is the entry's key that is found
+module _ {E : Type 0} (k : Kind E) (law : Lawful k) (name : List ℕ) where
+  has-key : (p : List ℕ) → keyIs name p ≡ hasKey k name (placeOf k p)
+  unfolding keyIs hasKey
+  has-key p = go (told (eqb (unitAt 0 p) 0))
+    where
+      go : (eqb (unitAt 0 p) 0 ≡ true) ⊎ (eqb (unitAt 0 p) 0 ≡ false) → keyIs name p ≡ hasKey k name (placeOf k p)
+      go (inl h) = rw (place-free k p (eqb-true (unitAt 0 p) 0 h), h)
+      go (inr h) = rw (place-used k p h, h, law .first p)
+
+  has-keys : (i : ℕ) (ps : List (List ℕ)) → keyPlaceFrom name i ps ≡ withKeyFrom k name i (map (placeOf k) ps)
+  unfolding keyPlaceFrom withKeyFrom
+  has-keys i [] = refl
+  has-keys i (p ∷ ps) = λ j. choose (has-key p j) (At i) (has-keys (i + 1) ps j)
+
+  key-of : (raw : List ℕ) → keyPlace name raw ≡ withKey k name (decode k raw)
+  unfolding keyPlace withKey decode
+  key-of raw = has-keys 0 (listed (placeCount raw) (λ i. placeAt i raw)) ∙ ap (withKeyFrom k name 0) (map-listed (placeOf k) (placeCount raw) (λ i. placeAt i raw))
+
+pub key-referral : (name raw : List ℕ) {r : Found} → r ≡ keyPlace name raw → r ≡ withKey referrals name (decode referrals raw)
+key-referral name raw e = e ∙ key-of referrals referrals-lawful name raw
+
+pub key-domain : (name raw : List ℕ) {r : Found} → r ≡ keyPlace name raw → r ≡ withKey domains name (decode domains raw)
+key-domain name raw e = e ∙ key-of domains domains-lawful name raw

@@ -1,0 +1,7 @@
+-- Laws of this crate.
+pub mod StoreLaws
+pub mod FindLaws
+pub mod AgeLaws
+pub mod EntryLaws
+pub mod LookupLaws
+pub mod Examples

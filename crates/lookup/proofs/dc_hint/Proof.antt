@@ -1,0 +1,14 @@
+-- Reads DCHint.
+use borrow.Author.Needs.{needs}
+use Rattle.lookup.proofs.EntryLaws.{read-dc-hint}
+use Rattle.lookup.proofs.dc_hint.Statement.{statement}
+use Rattle.lookup.proofs.dc_hint.Tie as tie
+
+unit-requires : tie.Need-unit-requires
+unit-requires c κs = search needs
+
+returns : tie.Need-returns
+returns c = read-dc-hint _ _ (c .unit .ensures)
+
+pub dc-hint-spec : {M : Type 1} → statement M
+dc-hint-spec = tie.close (tie.spec unit-requires returns)

@@ -1,0 +1,62 @@
+-- Finds the longest match. The invariant: the places from i on decide, with the best so far.
+use Prim.Native.Nat.{_-_, _/_, _≤_}
+use lib.ListN.{length, drop}
+use mathlib.Core.Logic.{⊎-elim}
+use mathlib.Core.Path.{_≡_, sym, _∙_}
+use native.Mathlib.Omega.{arith}
+use borrow.Author.Needs.{needs}
+use Rattle.caches.specs.Memory.{referrals, decode}
+use Rattle.lookup.specs.Lookup.{longestMatch, longestFrom}
+use Rattle.lookup.proofs.FindLaws.{find-start, find-hit, find-miss, find-end}
+use Rattle.lookup.proofs.find.Statement.{statement}
+use Rattle.lookup.proofs.find.Tie as tie
+
+abbrev Inv-loop : tie.InvT-loop
+Inv-loop cache path count best₀ units₀ i₀ best units i =
+    (i ≤ length cache / 2336)
+    × (longestMatch path (decode referrals cache) ≡ longestFrom path i best units (drop i (decode referrals cache)))
+
+abbrev μ-loop : tie.MeasureT-loop
+μ-loop cache path count best₀ units₀ i₀ best units i = length cache / 2336 - i
+
+loop-holds : tie.Need-loop-holds Inv-loop μ-loop
+loop-holds c = (search needs, find-start _ _)
+
+text-requires : tie.Need-text-requires Inv-loop μ-loop
+text-requires c κs = search needs
+
+longer-match-requires : tie.Need-longer-match-requires Inv-loop μ-loop
+longer-match-requires c κs = search needs
+
+add-i : tie.Need-add-i Inv-loop μ-loop
+add-i c = search needs
+
+loop-less : tie.Need-loop-less Inv-loop μ-loop
+loop-less c = search needs
+
+loop-again : tie.Need-loop-again Inv-loop μ-loop
+loop-again c = (
+  search needs,
+  c .before .before .before .before .loop .inv .1
+      ∙ ⊎-elim
+      (λ w. find-hit _ _ _ _ _ (c .before .before .text .ensures) (c .before .longer-match .ensures) (w .0 .taken) (w .1) (w .2) (omega arith))
+      (λ w. find-miss _ _ _ _ _ (c .before .before .text .ensures) (c .before .longer-match .ensures) (w .0 .left) (w .1) (w .2) (omega arith))
+      (c .if1 .came),
+)
+
+returns : tie.Need-returns Inv-loop μ-loop
+returns c = sym (c .before .loop .inv .1 ∙ find-end _ _ _ _ _ (omega arith))
+
+pub find-spec : {M : Type 1} → statement M
+find-spec =
+    tie.close
+    (tie.spec
+    Inv-loop
+    μ-loop
+    loop-holds
+    text-requires
+    longer-match-requires
+    add-i
+    loop-less
+    loop-again
+    returns)

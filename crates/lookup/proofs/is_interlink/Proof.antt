@@ -1,0 +1,14 @@
+-- Reads the Interlink of an entry.
+use borrow.Author.Needs.{needs}
+use Rattle.lookup.proofs.EntryLaws.{read-interlink}
+use Rattle.lookup.proofs.is_interlink.Statement.{statement}
+use Rattle.lookup.proofs.is_interlink.Tie as tie
+
+unit-requires : tie.Need-unit-requires
+unit-requires c κs = search needs
+
+returns : tie.Need-returns
+returns c = read-interlink _ _ (c .unit .ensures)
+
+pub is-interlink-spec : {M : Type 1} → statement M
+is-interlink-spec = tie.close (tie.spec unit-requires returns)

@@ -1,0 +1,269 @@
+// Looking up in the two lent caches: the longest match, an equal key, ages, the place of a new entry, its fields and hints.
+ghost use mathlib.Core.Path.{_≡_};
+ghost use mathlib.Core.Bool.{true, _&&_};
+ghost use Prim.Native.Nat.{_/_, _<_};
+ghost use lib.ListN.{length};
+ghost use lib.Dec.{ltb};
+ghost use Rattle.unc.specs.Paths.{matches};
+ghost use Rattle.places.specs.Layout.{placeAt};
+ghost use Rattle.caches.specs.Memory.{referrals, domains, placeOf, decode, encode, inOrder};
+ghost use Rattle.lookup.specs.Lookup.{longestMatch, withKey, entryAt, age, expired, firstFreeFrom, placeAge, oldest, newPlace, targetPath, targetOpens, dcName, targetHinted, dcHinted};
+ghost use Rattle.lookup.specs.Keys.{keyIs, keyPlace};
+use places::PLACE;
+
+// The place of an entry, if there is one.
+pub enum Found {
+    At(usize),
+    Nothing,
+}
+
+// Whether a prefix has more units than `units` and matches the path. The lengths are compared first.
+fn longer_match(prefix: &[u16], path: &[u16], units: usize) -> bool
+    ensures { λ r. ⌜ r ≡ (ltb units (length (now (prefix .entry))) && matches (now (prefix .entry)) (now (path .entry))) ⌝ }
+{
+    if prefix.len() <= units {
+        return false;
+    }
+    unc::matches(prefix, path)
+}
+
+// The place of the entry whose prefix is the longest that matches the path.
+pub fn find(cache: &[u16], path: &[u16]) -> Found
+    ensures { λ r. ⌜ r ≡ longestMatch (now (path .entry)) (decode referrals (now (cache .entry))) ⌝ }
+{
+    let count = cache.len() / PLACE;
+    let mut best = Found::Nothing;
+    let mut units = 0;
+    let mut i = 0;
+    while i < count {
+        let prefix = places::text(cache, i, 0);
+        if longer_match(prefix, path, units) {
+            best = Found::At(i);
+            units = prefix.len();
+        }
+        i += 1;
+    }
+    best
+}
+
+// Whether place i is used and its key is an equal name.
+fn key_is(cache: &[u16], i: usize, name: &[u16]) -> bool
+    requires { ⌜ i < length (now cache) / 2336 ⌝ }
+    ensures { λ r. ⌜ r ≡ keyIs (now (name .entry)) (placeAt i (now (cache .entry))) ⌝ }
+{
+    if places::unit(cache, i, 0) == 0 {
+        return false;
+    }
+    unc::same_name(places::text(cache, i, 0), name)
+}
+
+fn key_place(cache: &[u16], name: &[u16]) -> Found
+    ensures { λ r. ⌜ r ≡ keyPlace (now (name .entry)) (now (cache .entry)) ⌝ }
+{
+    let count = cache.len() / PLACE;
+    let mut i = 0;
+    while i < count {
+        if key_is(cache, i, name) {
+            return Found::At(i);
+        }
+        i += 1;
+    }
+    Found::Nothing
+}
+
+// The place of the referral entry with an equal prefix.
+pub fn find_prefix(cache: &[u16], prefix: &[u16]) -> Found
+    ensures { λ r. ⌜ r ≡ withKey referrals (now (prefix .entry)) (decode referrals (now (cache .entry))) ⌝ }
+{
+    key_place(cache, prefix)
+}
+
+// The place of the domain entry with an equal name.
+pub fn find_domain(cache: &[u16], name: &[u16]) -> Found
+    ensures { λ r. ⌜ r ≡ withKey domains (now (name .entry)) (decode domains (now (cache .entry))) ⌝ }
+{
+    key_place(cache, name)
+}
+
+// Seconds since an entry was taken, on a clock that rolls over.
+pub fn age(clock: u32, taken: u32) -> u32
+    ensures { λ r. ⌜ r ≡ age clock taken ⌝ }
+{
+    std::num::wrapping_sub_u32(clock, taken)
+}
+
+pub fn ttl(cache: &[u16], i: usize) -> u32
+    requires { ⌜ i < length (now cache) / 2336 ⌝ }
+    ensures { λ r. ⌜ r ≡ entryAt referrals i (now (cache .entry)) .ttl ⌝ }
+{
+    places::wide(cache, i, 22)
+}
+
+pub fn taken(cache: &[u16], i: usize) -> u32
+    requires { ⌜ i < length (now cache) / 2336 ⌝ }
+    ensures { λ r. ⌜ r ≡ entryAt referrals i (now (cache .entry)) .taken ⌝ }
+{
+    places::wide(cache, i, 24)
+}
+
+pub fn is_expired(cache: &[u16], i: usize, clock: u32) -> bool
+    requires { ⌜ i < length (now cache) / 2336 ⌝ }
+    ensures { λ r. ⌜ r ≡ expired clock (entryAt referrals i (now (cache .entry))) ⌝ }
+{
+    ttl(cache, i) <= age(clock, taken(cache, i))
+}
+
+// The age of what a place holds; 0 where it is free.
+fn place_age(cache: &[u16], i: usize, clock: u32) -> u32
+    requires { ⌜ i < length (now cache) / 2336 ⌝ }
+    ensures { λ r. ⌜ r ≡ placeAge clock (placeOf referrals (placeAt i (now (cache .entry)))) ⌝ }
+{
+    if places::unit(cache, i, 0) == 0 {
+        return 0;
+    }
+    age(clock, taken(cache, i))
+}
+
+fn first_free(cache: &[u16]) -> Found
+    ensures { λ r. ⌜ r ≡ firstFreeFrom 0 (decode referrals (now (cache .entry))) ⌝ }
+{
+    let count = cache.len() / PLACE;
+    let mut i = 0;
+    while i < count {
+        if places::unit(cache, i, 0) == 0 {
+            return Found::At(i);
+        }
+        i += 1;
+    }
+    Found::Nothing
+}
+
+// The lowest place of greatest age.
+fn oldest_place(cache: &[u16], clock: u32) -> usize
+    ensures { λ r. ⌜ r ≡ oldest clock (decode referrals (now (cache .entry))) ⌝ }
+{
+    let count = cache.len() / PLACE;
+    let mut best = 0;
+    let mut most = 0;
+    let mut i = 0;
+    while i < count {
+        let seconds = place_age(cache, i, clock);
+        if most < seconds {
+            best = i;
+            most = seconds;
+        }
+        i += 1;
+    }
+    best
+}
+
+// The place that a new entry takes.
+pub fn new_place(cache: &[u16], clock: u32) -> usize
+    ensures { λ r. ⌜ r ≡ newPlace clock (decode referrals (now (cache .entry))) ⌝ }
+{
+    let Found::At(i) = first_free(cache) else {
+        return oldest_place(cache, clock);
+    };
+    i
+}
+
+pub fn prefix(cache: &[u16], i: usize) -> &[u16]
+    requires { ⌜ i < length (now cache) / 2336 ⌝ }
+    ensures { λ r. ⌜ now r ≡ entryAt referrals i (now (cache .entry)) .prefix ⌝ }
+{
+    places::text(cache, i, 0)
+}
+
+pub fn is_root(cache: &[u16], i: usize) -> bool
+    requires { ⌜ i < length (now cache) / 2336 ⌝ }
+    ensures { λ r. ⌜ r ≡ entryAt referrals i (now (cache .entry)) .root ⌝ }
+{
+    places::unit(cache, i, 19) == 1
+}
+
+pub fn is_interlink(cache: &[u16], i: usize) -> bool
+    requires { ⌜ i < length (now cache) / 2336 ⌝ }
+    ensures { λ r. ⌜ r ≡ entryAt referrals i (now (cache .entry)) .interlink ⌝ }
+{
+    places::unit(cache, i, 20) == 1
+}
+
+pub fn is_failback(cache: &[u16], i: usize) -> bool
+    requires { ⌜ i < length (now cache) / 2336 ⌝ }
+    ensures { λ r. ⌜ r ≡ entryAt referrals i (now (cache .entry)) .failback ⌝ }
+{
+    places::unit(cache, i, 21) == 1
+}
+
+pub fn target_count(cache: &[u16], i: usize) -> usize
+    requires { ⌜ i < length (now cache) / 2336 ⌝ }
+    ensures { λ r. ⌜ r ≡ length (entryAt referrals i (now (cache .entry)) .targets) ⌝ }
+{
+    places::list_count(cache, i)
+}
+
+pub fn target_hint(cache: &[u16], i: usize) -> u16
+    requires { ⌜ i < length (now cache) / 2336 ⌝ }
+    ensures { λ r. ⌜ r ≡ entryAt referrals i (now (cache .entry)) .hint ⌝ }
+{
+    places::unit(cache, i, 10)
+}
+
+// Target j of the entry at place i, as it lies in the cache.
+pub fn target(cache: &[u16], i: usize, j: usize) -> &[u16]
+    requires { ⌜ (i < length (now cache) / 2336) × (j < length (entryAt referrals i (now cache) .targets)) ⌝ }
+    ensures { λ r. ⌜ now r ≡ targetPath j (entryAt referrals i (now (cache .entry))) ⌝ }
+{
+    places::text(cache, i, 1 + j)
+}
+
+// Whether a set opens before target j.
+pub fn target_opens(cache: &[u16], i: usize, j: usize) -> bool
+    requires { ⌜ (i < length (now cache) / 2336) × (j < length (entryAt referrals i (now cache) .targets)) ⌝ }
+    ensures { λ r. ⌜ r ≡ targetOpens j (entryAt referrals i (now (cache .entry))) ⌝ }
+{
+    places::unit(cache, i, 11 + j) == 1
+}
+
+pub fn domain_name(cache: &[u16], i: usize) -> &[u16]
+    requires { ⌜ i < length (now cache) / 2336 ⌝ }
+    ensures { λ r. ⌜ now r ≡ entryAt domains i (now (cache .entry)) .name ⌝ }
+{
+    places::text(cache, i, 0)
+}
+
+pub fn dc_count(cache: &[u16], i: usize) -> usize
+    requires { ⌜ i < length (now cache) / 2336 ⌝ }
+    ensures { λ r. ⌜ r ≡ length (entryAt domains i (now (cache .entry)) .dcs) ⌝ }
+{
+    places::list_count(cache, i)
+}
+
+pub fn dc_hint(cache: &[u16], i: usize) -> u16
+    requires { ⌜ i < length (now cache) / 2336 ⌝ }
+    ensures { λ r. ⌜ r ≡ entryAt domains i (now (cache .entry)) .hint ⌝ }
+{
+    places::unit(cache, i, 10)
+}
+
+// DC j of the entry at place i, as it lies in the cache.
+pub fn dc(cache: &[u16], i: usize, j: usize) -> &[u16]
+    requires { ⌜ (i < length (now cache) / 2336) × (j < length (entryAt domains i (now cache) .dcs)) ⌝ }
+    ensures { λ r. ⌜ now r ≡ dcName j (entryAt domains i (now (cache .entry))) ⌝ }
+{
+    places::text(cache, i, 1 + j)
+}
+
+pub fn set_target_hint(cache: &mut [u16], i: usize, hint: u16)
+    requires { ⌜ (inOrder referrals (now cache) ≡ true) × ((i < length (now cache) / 2336) × (hint < length (entryAt referrals i (now cache) .targets))) ⌝ }
+    ensures { λ r. ⌜ now (cache .exit) ≡ encode referrals (targetHinted i hint (decode referrals (now (cache .entry)))) ⌝ }
+{
+    places::put_unit(cache, i, 10, hint);
+}
+
+pub fn set_dc_hint(cache: &mut [u16], i: usize, hint: u16)
+    requires { ⌜ (inOrder domains (now cache) ≡ true) × ((i < length (now cache) / 2336) × (hint < length (entryAt domains i (now cache) .dcs))) ⌝ }
+    ensures { λ r. ⌜ now (cache .exit) ≡ encode domains (dcHinted i hint (decode domains (now (cache .entry)))) ⌝ }
+{
+    places::put_unit(cache, i, 10, hint);
+}

@@ -84,7 +84,7 @@ fn domain_ordered(piece: &[u16]) -> bool
         return false;
     }
     if piece[10] != 0 {
-        if piece[9] <= piece[10] {
+        if piece[10] >= piece[9] {
             return false;
         }
     }

@@ -254,16 +254,18 @@ pub fn dc(cache: &[u16], i: usize, j: usize) -> &[u16]
     places::text(cache, i, 1 + j)
 }
 
-pub fn set_target_hint(cache: &mut [u16], i: usize, hint: u16)
-    requires { ⌜ (inOrder referrals (now cache) ≡ true) × ((i < length (now cache) / 2336) × (hint < length (entryAt referrals i (now cache) .targets))) ⌝ }
-    ensures { λ r. ⌜ now (cache .exit) ≡ encode referrals (targetHinted i hint (decode referrals (now (cache .entry)))) ⌝ }
+// TargetHint of the entry at place i.
+pub fn set_target_hint(cache: &mut [u16], i: usize, target: u16)
+    requires { ⌜ (inOrder referrals (now cache) ≡ true) × ((i < length (now cache) / 2336) × (target < length (entryAt referrals i (now cache) .targets))) ⌝ }
+    ensures { λ r. ⌜ now (cache .exit) ≡ encode referrals (targetHinted i target (decode referrals (now (cache .entry)))) ⌝ }
 {
-    places::put_unit(cache, i, 10, hint);
+    places::put_unit(cache, i, 10, target);
 }
 
-pub fn set_dc_hint(cache: &mut [u16], i: usize, hint: u16)
-    requires { ⌜ (inOrder domains (now cache) ≡ true) × ((i < length (now cache) / 2336) × (hint < length (entryAt domains i (now cache) .dcs))) ⌝ }
-    ensures { λ r. ⌜ now (cache .exit) ≡ encode domains (dcHinted i hint (decode domains (now (cache .entry)))) ⌝ }
+// DCHint of the entry at place i.
+pub fn set_dc_hint(cache: &mut [u16], i: usize, dc: u16)
+    requires { ⌜ (inOrder domains (now cache) ≡ true) × ((i < length (now cache) / 2336) × (dc < length (entryAt domains i (now cache) .dcs))) ⌝ }
+    ensures { λ r. ⌜ now (cache .exit) ≡ encode domains (dcHinted i dc (decode domains (now (cache .entry)))) ⌝ }
 {
-    places::put_unit(cache, i, 10, hint);
+    places::put_unit(cache, i, 10, dc);
 }

@@ -11,9 +11,11 @@ use Rattle.places.specs.Layout.{placeCount, placeAt, unitAt, wideAt, wideUnits,
 use Rattle.caches.specs.Entries.{Target, Referral, Domain, Place, free, used}
 use Rattle.caches.specs.Order.{goodReferral, goodDomain, distinct}
 
+-- target j of a place: text 1 + j, and mark j
 unfoldable pub targetOf : ℕ → List ℕ → Target
 targetOf j piece = record { path = textAt (1 + j) piece; opens = flagAt (11 + j) piece }
 
+-- a place read as a referral entry
 unfoldable pub referralOf : List ℕ → Referral
 referralOf piece = record {
   prefix = textAt 0 piece;
@@ -26,16 +28,20 @@ referralOf piece = record {
   hint = unitAt 10 piece;
 }
 
+-- the settings of a referral entry: units 19 to 25 of its place
 unfoldable pub referralSettings : Referral → List ℕ
 referralSettings e = flagUnit (e .root) ∷ flagUnit (e .interlink) ∷ flagUnit (e .failback) ∷ (wideUnits (e .ttl) ++ wideUnits (e .taken))
 
+-- the place that a referral entry writes
 unfoldable pub referralUnits : Referral → List ℕ
 referralUnits e =
     written (e .prefix ∷ map (λ t. t .path) (e .targets)) (e .hint) (map (λ t. flagUnit (t .opens)) (e .targets)) (referralSettings e)
 
+-- a place read as a domain entry
 unfoldable pub domainOf : List ℕ → Domain
 domainOf piece = record { name = textAt 0 piece; dcs = listed (listCount piece) (λ j. textAt (1 + j) piece); hint = unitAt 10 piece }
 
+-- the place that a domain entry writes: no marks and no settings
 unfoldable pub domainUnits : Domain → List ℕ
 domainUnits d = written (d .name ∷ d .dcs) (d .hint) [] []
 
@@ -50,9 +56,11 @@ pub record Kind (E : Type 0) : Type 0 where
   pub key : E → List ℕ
   pub good : E → Bool
 
+-- the referral cache
 abbrev pub referrals : Kind Referral
 referrals = record { reads = referralOf; writes = referralUnits; key = λ e. e .prefix; good = goodReferral }
 
+-- the domain cache
 abbrev pub domains : Kind Domain
 domains = record { reads = domainOf; writes = domainUnits; key = λ d. d .name; good = goodDomain }
 
@@ -61,6 +69,7 @@ module _ {E : Type 0} (k : Kind E) where
   unfoldable pub placeOf : List ℕ → Place E
   placeOf piece = choose (eqb (unitAt 0 piece) 0) free (used (k .reads piece))
 
+  -- the units of a place
   unfoldable pub pieceOf : Place E → List ℕ
   pieceOf free = blank
   pieceOf (used e) = k .writes e
@@ -73,6 +82,7 @@ module _ {E : Type 0} (k : Kind E) where
   unfoldable pub encode : List (Place E) → List ℕ
   encode ps = flatten (map pieceOf ps)
 
+  -- "every entry meets this"
   unfoldable pub goodPlace : Place E → Bool
   goodPlace free = true
   goodPlace (used e) = k .good e

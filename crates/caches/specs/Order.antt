@@ -14,6 +14,7 @@ use Rattle.caches.specs.Entries.{Target, Referral, Domain}
 unfoldable pub goodPrefix : List ℕ → Bool
 goodPrefix s = leb 2 (normalisedCount s)
 
+-- a target
 unfoldable pub goodTarget : Target → Bool
 goodTarget t = goodPrefix (t .path)
 

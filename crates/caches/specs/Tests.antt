@@ -16,6 +16,7 @@ use Rattle.caches.specs.Memory.{referrals, domains, inOrder, ordered}
 unfoldable pub goodText : Bool → List ℕ → Bool
 goodText domain t = choose domain (goodName t) (goodPrefix t)
 
+-- the key and the list of a place
 unfoldable pub goodTexts : Bool → List ℕ → Bool
 goodTexts domain piece = every (goodText domain) (textsOf piece)
 
@@ -23,13 +24,15 @@ goodTexts domain piece = every (goodText domain) (textsOf piece)
 unfoldable pub goodFlags : List ℕ → Bool
 goodFlags piece = every (λ u. leb u 1) (listed 11 (λ j. unitAt (11 + j) piece))
 
--- one place, and the memory, of the domain cache or else of the referral cache
+-- the order of one place of the domain cache, or else of the referral cache
 unfoldable pub orderedAs : Bool → List ℕ → Bool
 orderedAs domain piece = choose domain (ordered domains piece) (ordered referrals piece)
 
+-- of every place
 unfoldable pub allOrdered : Bool → List ℕ → Bool
 allOrdered domain raw = every (orderedAs domain) (listed (placeCount raw) (λ i. placeAt i raw))
 
+-- of the memory
 unfoldable pub inOrderAs : Bool → List ℕ → Bool
 inOrderAs domain raw = choose domain (inOrder domains raw) (inOrder referrals raw)
 
@@ -47,5 +50,6 @@ unfoldable pub apart : List (List ℕ) → Bool
 apart [] = true
 apart (p ∷ ps) = (eqb (unitAt 0 p) 0 || every (otherKey (textAt 0 p)) ps) && apart ps
 
+-- of the memory's places
 unfoldable pub keysApart : List ℕ → Bool
 keysApart raw = apart (listed (placeCount raw) (λ i. placeAt i raw))

@@ -17,6 +17,7 @@ use Rattle.unc.specs.Names.{sameName}
 use Rattle.unc.proofs.NameLaws.{sameName-sym}
 use Rattle.places.specs.Layout.{placeCount, placeAt, changed, unitAt, blank, listCount}
 use Rattle.lookup.specs.declared.Found.the-variants.{At, Nothing}
+use Rattle.places.proofs.LayoutLaws.{changed-start}
 use Rattle.caches.specs.Entries.{Place, free, used}
 use Rattle.caches.specs.Order.{distinct}
 use Rattle.caches.specs.Memory.{Kind, placeOf, pieceOf, decode, encode, goodPlace, keys, inOrder}
@@ -87,6 +88,12 @@ module _ {E : Type 0} (k : Kind E) (law : Lawful k) (raw : List ℕ) (i : ℕ) (
   inside : i < length (decode k raw)
   inside = rw (length-decode k raw) fits
 
+  -- an entry written into the place
+  pub place-written : (e : E) (f : List ℕ → List ℕ) → f (placeAt i raw) ≡ k .writes e → k .good e ≡ true
+      → changed i f raw ≡ encode k (set (decode k raw) i (used e))
+  unfolding changed pieceOf goodPlace
+  place-written e f h g = ap (λ (p : List ℕ). pasted raw (i * 2336) p) h ∙ changed-encode k law raw i (used e) order g fits
+
   -- the entry is good, and is what stands at the place
   module _ (e : E) (here : getD (decode k raw) i free ≡ used e) where
     pub entry-good : k .good e ≡ true
@@ -103,12 +110,14 @@ module _ {E : Type 0} (k : Kind E) (law : Lawful k) (raw : List ℕ) (i : ℕ) (
     unfolding entryAt
     entry-is = ap (k .reads) entry-units ∙ law .back e entry-good
 
+    -- the memory as it stands holds what the entry writes
+    pub entry-start : raw ≡ changed i (λ q. k .writes e) raw
+    entry-start = changed-start raw i fits (k .writes e) entry-units
+
     -- the place written anew by a change of what it writes
     pub entry-changed : (e′ : E) (f : List ℕ → List ℕ) → f (k .writes e) ≡ k .writes e′ → k .good e′ ≡ true
         → changed i f raw ≡ encode k (set (decode k raw) i (used e′))
-    unfolding changed pieceOf goodPlace
-    entry-changed e′ f h g =
-        ap (λ (p : List ℕ). pasted raw (i * 2336) p) (ap f entry-units ∙ h) ∙ changed-encode k law raw i (used e′) order g fits
+    entry-changed e′ f h g = place-written e′ f (ap f entry-units ∙ h) g
 
     -- it stays in order where its key stays
     pub kept-in-order : (e′ : E) → k .good e′ ≡ true → k .key e′ ≡ k .key e → inOrder k (encode k (set (decode k raw) i (used e′))) ≡ true

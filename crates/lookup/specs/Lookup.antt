@@ -1,6 +1,6 @@
 -- Finding an entry, its age, the place of a new one, and hints: document 01, "Paths" and "The two caches".
 use Prim.Native.Nat.{ℕ, _+_, _-_, _%_, _^_}
-use mathlib.Core.Bool.{Bool, true, false, _&&_}
+use mathlib.Core.Bool.{Bool, false, _&&_}
 use mathlib.Core.List.{List, [], _∷_}
 use lib.ListN.{length, getD, set}
 use lib.Dec.{leb, ltb}
@@ -13,33 +13,39 @@ use Rattle.caches.specs.Memory.{Kind}
 use Rattle.lookup.specs.declared.Found.{Found}
 use Rattle.lookup.specs.declared.Found.the-variants.{At, Nothing}
 
--- "the longest match is used". Of the places from number i on, that whose prefix matches the path and has most units, where one of n units was found before
+-- a place whose prefix matches the path and has more than n units
 unfoldable pub longerMatch : List ℕ → ℕ → Place Referral → Bool
 longerMatch path n free = false
 longerMatch path n (used e) = ltb n (length (e .prefix)) && matches (e .prefix) path
 
+-- how long its prefix is
 unfoldable pub prefixUnits : Place Referral → ℕ
 prefixUnits free = 0
 prefixUnits (used e) = length (e .prefix)
 
+-- of the places from number i on, that of the longest matching prefix, where `best` of n units was found before
 unfoldable pub longestFrom : List ℕ → ℕ → Found → ℕ → List (Place Referral) → Found
 longestFrom path i best n [] = best
 longestFrom path i best n (p ∷ ps) =
     longestFrom path (i + 1) (choose (longerMatch path n p) (At i) best) (choose (longerMatch path n p) (prefixUnits p) n) ps
 
+-- "the longest match is used"
 unfoldable pub longestMatch : List ℕ → List (Place Referral) → Found
 longestMatch path ps = longestFrom path 0 Nothing 0 ps
 
--- the entry with an equal prefix (or name)
+-- looking up by an equal prefix (or name), not by the longest match
 module _ {E : Type 0} (k : Kind E) where
+  -- a place whose entry has it
   unfoldable pub hasKey : List ℕ → Place E → Bool
   hasKey name free = false
   hasKey name (used e) = sameName (k .key e) name
 
+  -- the first such place, counted from number i
   unfoldable pub withKeyFrom : List ℕ → ℕ → List (Place E) → Found
   withKeyFrom name i [] = Nothing
   withKeyFrom name i (p ∷ ps) = choose (hasKey name p) (At i) (withKeyFrom name (i + 1) ps)
 
+  -- the first of all
   unfoldable pub withKey : List ℕ → List (Place E) → Found
   withKey name ps = withKeyFrom name 0 ps
 
@@ -47,23 +53,21 @@ module _ {E : Type 0} (k : Kind E) where
   unfoldable pub entryAt : ℕ → List ℕ → E
   entryAt i raw = k .reads (placeAt i raw)
 
-  unfoldable pub isUsed : Place E → Bool
-  isUsed free = false
-  isUsed (used e) = true
-
 -- "An entry's age is now minus taken, modulo 2^32; it is expired when its age is TTL or more"
 unfoldable pub age : ℕ → ℕ → ℕ
 age clock taken = (clock + (2 ^ 32 - taken)) % 2 ^ 32
 
+-- of an entry
 unfoldable pub expired : ℕ → Referral → Bool
 expired clock e = leb (e .ttl) (age clock (e .taken))
 
--- "A new referral entry goes to the lowest free place; if none, to that of the entry of greatest age, lowest place among equals"
+-- the lowest free place, counted from number i
 unfoldable pub firstFreeFrom : ℕ → List (Place Referral) → Found
 firstFreeFrom i [] = Nothing
 firstFreeFrom i (free ∷ ps) = At i
 firstFreeFrom i (used e ∷ ps) = firstFreeFrom (i + 1) ps
 
+-- the age of what a place holds
 unfoldable pub placeAge : ℕ → Place Referral → ℕ
 placeAge clock free = 0
 placeAge clock (used e) = age clock (e .taken)
@@ -74,23 +78,28 @@ oldestFrom clock i best n [] = best
 oldestFrom clock i best n (p ∷ ps) =
     oldestFrom clock (i + 1) (choose (ltb n (placeAge clock p)) i best) (choose (ltb n (placeAge clock p)) (placeAge clock p) n) ps
 
+-- "the entry of greatest age, lowest place among equals"
 unfoldable pub oldest : ℕ → List (Place Referral) → ℕ
 oldest clock ps = oldestFrom clock 0 0 0 ps
 
+-- what was found, or else another place
 unfoldable pub foundOr : ℕ → Found → ℕ
 foundOr other (At i) = i
 foundOr other Nothing = other
 
+-- "A new referral entry goes to the lowest free place; if none, to that of the entry of greatest age"
 unfoldable pub newPlace : ℕ → List (Place Referral) → ℕ
 newPlace clock ps = foundOr (oldest clock ps) (firstFreeFrom 0 ps)
 
--- target and DC number j of an entry
+-- target number j of an entry
 unfoldable pub targetPath : ℕ → Referral → List ℕ
 targetPath j e = getD (e .targets) j (record { path = []; opens = false }) .path
 
+-- whether a set opens before it
 unfoldable pub targetOpens : ℕ → Referral → Bool
 targetOpens j e = getD (e .targets) j (record { path = []; opens = false }) .opens
 
+-- DC number j of an entry
 unfoldable pub dcName : ℕ → Domain → List ℕ
 dcName j d = getD (d .dcs) j []
 
@@ -99,7 +108,7 @@ unfoldable pub onEntry : {E : Type 0} → (E → E) → Place E → Place E
 onEntry f free = free
 onEntry f (used e) = used (f e)
 
--- the hint of an entry, and of that at place i, set to h
+-- an entry with TargetHint h
 unfoldable pub targetHintTo : ℕ → Referral → Referral
 targetHintTo h e = record {
   prefix = e .prefix;
@@ -112,11 +121,14 @@ targetHintTo h e = record {
   hint = h;
 }
 
+-- an entry with DCHint h
 unfoldable pub dcHintTo : ℕ → Domain → Domain
 dcHintTo h d = record { name = d .name; dcs = d .dcs; hint = h }
 
+-- the cache with TargetHint h at place i
 unfoldable pub targetHinted : ℕ → ℕ → List (Place Referral) → List (Place Referral)
 targetHinted i h ps = set ps i (onEntry (targetHintTo h) (getD ps i free))
 
+-- the cache with DCHint h at place i
 unfoldable pub dcHinted : ℕ → ℕ → List (Place Domain) → List (Place Domain)
 dcHinted i h ps = set ps i (onEntry (dcHintTo h) (getD ps i free))

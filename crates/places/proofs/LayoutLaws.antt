@@ -92,3 +92,18 @@ module _ (raw : List ℕ) (i : ℕ) (fits : i < length raw / 2336) where
     -- saved, changed and put back: everything is as it was
     pub changed-back : changed i (λ q. placeAt i raw) (changed i f raw) ≡ raw
     changed-back = changed-again (λ q. placeAt i raw) length-place ∙ changed-none
+
+    -- two writers of the place, one after the other
+    pub changed-then : (g : List ℕ → List ℕ) {m o : List ℕ} → m ≡ changed i f raw → o ≡ changed i g m → length (g (f (placeAt i raw))) ≡ 2336
+        → o ≡ changed i (λ q. g (f q)) raw
+    changed-then g e h w = h ∙ (ap (changed i g) e ∙ changed-again g w)
+
+  -- the place holds w, and a writer makes it w′
+  pub changed-step : (w w′ : List ℕ) (g : List ℕ → List ℕ) {m o : List ℕ} → m ≡ changed i (λ q. w) raw → o ≡ changed i g m → g w ≡ w′
+      → length w ≡ 2336 → length w′ ≡ 2336 → o ≡ changed i (λ q. w′) raw
+  changed-step w w′ g e h q u v =
+      changed-then (λ x. w) u g e h (ap length q ∙ v) ∙ ap (λ (x : List ℕ). changed i (λ p. x) raw) q
+
+  -- the place as it stands holds what it holds
+  pub changed-start : (w : List ℕ) → placeAt i raw ≡ w → raw ≡ changed i (λ q. w) raw
+  changed-start w e = sym changed-none ∙ ap (λ (x : List ℕ). changed i (λ q. x) raw) e

@@ -2,16 +2,17 @@
 use mathlib.Core.Path.{_≡_, refl, sym, ap, _∙_}
 use mathlib.Core.List.{List, [], _∷_, _++_, flatten}
 use mathlib.Core.Logic.{_≢_, _⊎_, inl, inr}
-use Prim.Native.Nat.{ℕ, _+_, _-_, _*_, _≤_, _<_}
+use Prim.Native.Nat.{ℕ, zero, suc, _+_, _-_, _*_, _≤_, _<_}
 use native.Mathlib.Omega.{arith}
-use lib.ListN.{length, getD, length-append, List·getD-append, List·getD-eq-default}
-use lib.Seq.{getD-append-seam}
+use lib.ListN.{length, getD, replicate, length-append, length-replicate, getD-replicate, List·getD-append, List·getD-eq-default}
+use lib.Seq.{getD-append-seam, ext-getD}
 use Rattle.laws.specs.Lists.{pasted, part, roomed}
 use Rattle.laws.specs.Listed.{listed}
 use Rattle.laws.proofs.Orders.{lt-or-le}
 use Rattle.laws.proofs.Tests.{eq-or-ne}
-use Rattle.laws.proofs.Pasting.{getD-pasted-low, getD-pasted-in, getD-pasted-high, length-pasted, part-pasted-low, part-pasted-high, part-pasted, length-roomed}
-use Rattle.places.specs.Layout.{unitAt, roomAt, blank, headOf, roomsOf, written, putUnit, putText}
+use Rattle.laws.proofs.Pasting.{getD-pasted-low, getD-pasted-in, getD-pasted-high, length-pasted, part-pasted-low, part-pasted-high, part-pasted, getD-part, length-part, length-roomed}
+use Rattle.laws.proofs.Parts.{getD-roomed}
+use Rattle.places.specs.Layout.{unitAt, roomAt, blank, headOf, roomsOf, written, putUnit, putText, putSettings, keyOnly}
 use Rattle.places.proofs.WriterLaws.{length-putUnit}
 use Rattle.places.proofs.WrittenLaws.{HeadUnit, a-length, the-count, the-hint, a-mark, a-setting, same-place, Shaped, length-written, written-length, written-count, written-hint, written-mark, written-setting, written-room}
 
@@ -230,3 +231,167 @@ module _ (ts : List (List ℕ)) (hint : ℕ) (marks settings : List ℕ) (shape 
 pub blank-written : blank ≡ written [] 0 [] []
 unfolding blank written headOf roomsOf listed flatten roomed
 blank-written = refl
+
+-- a piece of the head written over, from unit n on: units outside it and the rooms stay
+module _ (piece : List ℕ) (n : ℕ) (p : List ℕ) (whole : length piece ≡ 2336) (fits : n + length p ≤ 32) where
+  head-in : (j : ℕ) → j < length p → unitAt (n + j) (pasted piece n p) ≡ getD p j 0
+  head-in j h = getD-pasted-in piece n p (omega arith) j 0 h
+
+  head-out : (i : ℕ) → (i < n) ⊎ (n + length p ≤ i) → unitAt i (pasted piece n p) ≡ unitAt i piece
+  head-out i (inl h) = getD-pasted-low piece n p (omega arith) i 0 h
+  head-out i (inr h) = getD-pasted-high piece n p (omega arith) i 0 h
+
+  head-rooms : (r : ℕ) → r < 9 → roomAt r (pasted piece n p) ≡ roomAt r piece
+  unfolding roomAt
+  head-rooms r h = part-pasted-high piece n p (32 + r * 256) 256 (omega arith) (omega arith)
+
+-- settings written over those of a place, which are no more
+module _ (ts : List (List ℕ)) (hint : ℕ) (marks settings settings′ : List ℕ) (s : Shaped ts marks settings) (s′ : Shaped ts marks settings′)
+    (more : length settings ≤ length settings′) where
+  pub put-settings : putSettings settings′ (written ts hint marks settings) ≡ written ts hint marks settings′
+  unfolding putSettings
+  put-settings =
+      same-place (pasted old 19 settings′) (written ts hint marks settings′)
+      (length-pasted old 19 settings′ (omega (arith, whole, s′ .fewSettings)) ∙ whole)
+      (length-written _ _ _ _ s′)
+      unit
+      (λ r h. head-rooms old 19 settings′ whole (omega (arith, s′ .fewSettings)) r h ∙ (written-room _ _ _ _ s r h ∙ sym (written-room _ _ _ _ s′ r h)))
+    where
+      old : List ℕ
+      old = written ts hint marks settings
+
+      whole : length old ≡ 2336
+      whole = length-written _ _ _ _ s
+
+      below : (i : ℕ) → i < 19 → unitAt i (pasted old 19 settings′) ≡ unitAt i old
+      below i h = head-out old 19 settings′ whole (omega (arith, s′ .fewSettings)) i (inl h)
+
+      setting : (j : ℕ) → j < 13 → (j < length settings′) ⊎ (length settings′ ≤ j) → unitAt (19 + j) (pasted old 19 settings′) ≡ getD settings′ j 0
+      setting j h (inl u) = head-in old 19 settings′ whole (omega (arith, s′ .fewSettings)) j u
+      setting j h (inr u) =
+          head-out old 19 settings′ whole (omega (arith, s′ .fewSettings)) (19 + j) (inr (omega arith))
+          ∙ (written-setting _ _ _ _ s j h
+          ∙ (List·getD-eq-default settings 0 {n = j} (omega arith) ∙ sym (List·getD-eq-default settings′ 0 {n = j} u)))
+
+      unit : (i : ℕ) → HeadUnit i → unitAt i (pasted old 19 settings′) ≡ unitAt i (written ts hint marks settings′)
+      unit i (a-length u) = below i (omega arith) ∙ (written-length _ _ _ _ s i u ∙ sym (written-length _ _ _ _ s′ i u))
+      unit i the-count = below 9 (omega arith) ∙ (written-count _ _ _ _ s ∙ sym (written-count _ _ _ _ s′))
+      unit i the-hint = below 10 (omega arith) ∙ (written-hint _ _ _ _ s ∙ sym (written-hint _ _ _ _ s′))
+      unit i (a-mark j u) = below (11 + j) (omega arith) ∙ (written-mark _ _ _ _ s j u ∙ sym (written-mark _ _ _ _ s′ j u))
+      unit i (a-setting j u) = setting j u (lt-or-le j (length settings′)) ∙ sym (written-setting _ _ _ _ s′ j u)
+
+-- a part of zeros
+zero-part : (d : List ℕ) (n k m : ℕ) → n + k ≤ length d → n ≤ m → m + 256 ≤ n + k → part m 256 (pasted d n (replicate k 0)) ≡ roomed 256 []
+zero-part d n k m h u v =
+    let z : length (replicate {A = ℕ} k 0) ≡ k = length-replicate k 0 in
+    let l : length (pasted d n (replicate k 0)) ≡ length d = length-pasted d n (replicate k 0) (omega arith) in
+    let a : length (part m 256 (pasted d n (replicate k 0))) ≡ 256 = length-part m 256 (pasted d n (replicate k 0)) (omega arith) in
+    let b : length (roomed 256 []) ≡ 256 = length-roomed 256 [] (omega arith) in
+    ext-getD 0 (part m 256 (pasted d n (replicate k 0))) (roomed 256 []) (a ∙ sym b)
+    (λ i q. getD-part m 256 (pasted d n (replicate k 0)) i 0 (omega arith) ∙ (at (m + i) (omega arith) (omega arith) z ∙ sym (getD-roomed 256 [] i)))
+  where
+    at : (i : ℕ) → n ≤ i → i < n + k → length (replicate {A = ℕ} k 0) ≡ k → getD (pasted d n (replicate k 0)) i 0 ≡ 0
+    at i a b z =
+        let e : n + (i - n) ≡ i = omega arith in
+        ap (λ (x : ℕ). getD (pasted d n (replicate k 0)) x 0) (sym e)
+        ∙ (getD-pasted-in d n (replicate k 0) (omega arith) (i - n) 0 (omega arith) ∙ getD-replicate k (i - n) 0 0 (omega arith))
+
+-- rooms beside and under zeros
+low-room : (d : List ℕ) (k : ℕ) → 288 + k ≤ length d → roomAt 0 (pasted d 288 (replicate k 0)) ≡ roomAt 0 d
+unfolding roomAt
+low-room d k h = let z : length (replicate {A = ℕ} k 0) ≡ k = length-replicate k 0 in part-pasted-low d 288 (replicate k 0) 32 256 (omega arith) (omega arith)
+
+past-room : (d : List ℕ) (n : ℕ) → (n ≤ 31) × (288 ≤ length d) → roomAt 0 (pasted d 1 (replicate n 0)) ≡ roomAt 0 d
+unfolding roomAt
+past-room d n h =
+    let z : length (replicate {A = ℕ} n 0) ≡ n = length-replicate n 0 in
+    let a : n ≤ 31 = h .0 in
+    let b : 288 ≤ length d = h .1 in
+    part-pasted-high d 1 (replicate n 0) 32 256 (omega arith) (omega arith)
+
+high-room : (d : List ℕ) (k r : ℕ) → 288 + k ≤ length d → 1 ≤ r → 32 + r * 256 + 256 ≤ 288 + k → roomAt r (pasted d 288 (replicate k 0)) ≡ roomed 256 []
+unfolding roomAt
+high-room d k r h u v = zero-part d 288 k (32 + r * 256) h (omega arith) v
+
+-- all but the key cleared
+module _ (key : List ℕ) (list : List (List ℕ)) (hint : ℕ) (marks settings : List ℕ) (s : Shaped (key ∷ list) marks settings) where
+  pub shape-key : Shaped (key ∷ []) [] []
+  shape-key = record {
+    fewTexts = omega arith;
+    short = at;
+    fewMarks = omega arith;
+    fewSettings = omega arith;
+  }
+    where
+      at : (j : ℕ) → length (getD (key ∷ []) j []) ≤ 256
+      at zero = s .short 0
+      at (suc j) = omega arith
+
+  -- with the numbers of zeros as variables
+  cleared : (n k : ℕ) → n ≡ 31 → k ≡ 2048 → pasted (pasted (written (key ∷ list) hint marks settings) 1 (replicate n 0)) 288 (replicate k 0) ≡ written (key ∷ []) 0 [] []
+  cleared n k p q =
+      same-place (pasted (pasted old 1 (replicate n 0)) 288 (replicate k 0)) (written (key ∷ []) 0 [] [])
+      (length-pasted (pasted old 1 (replicate n 0)) 288 (replicate k 0) (omega (arith, zn, zk, first)) ∙ first)
+      (length-written _ _ _ _ shape-key)
+      (λ i u. below i (omega (arith, bound i u)) ∙ unit i u)
+      (λ r h. room r h (eq-or-ne r 0))
+    where
+      old : List ℕ
+      old = written (key ∷ list) hint marks settings
+
+      whole : length old ≡ 2336
+      whole = length-written _ _ _ _ s
+
+      zn : length (replicate {A = ℕ} n 0) ≡ n
+      zn = length-replicate n 0
+
+      zk : length (replicate {A = ℕ} k 0) ≡ k
+      zk = length-replicate k 0
+
+      first : length (pasted old 1 (replicate n 0)) ≡ 2336
+      first = length-pasted old 1 (replicate n 0) (omega (arith, zn, whole)) ∙ whole
+
+      bound : (i : ℕ) → HeadUnit i → i < 32
+      bound i (a-length u) = omega arith
+      bound i the-count = omega arith
+      bound i the-hint = omega arith
+      bound i (a-mark j u) = omega arith
+      bound i (a-setting j u) = omega arith
+
+      below : (i : ℕ) → i < 288 → unitAt i (pasted (pasted old 1 (replicate n 0)) 288 (replicate k 0)) ≡ unitAt i (pasted old 1 (replicate n 0))
+      below i h = getD-pasted-low (pasted old 1 (replicate n 0)) 288 (replicate k 0) (omega (arith, zk, first)) i 0 h
+
+      -- past the first unit all is zero
+      nought : (i : ℕ) → i < 31 → unitAt (1 + i) (pasted old 1 (replicate n 0)) ≡ 0
+      nought i h =
+          getD-pasted-in old 1 (replicate n 0) (omega (arith, zn, whole)) i 0 (omega (arith, zn)) ∙ getD-replicate n i 0 0 (omega arith)
+
+      zero-at : (i : ℕ) → 1 ≤ i → i < 32 → unitAt i (pasted old 1 (replicate n 0)) ≡ 0
+      zero-at i a b = let e : 1 + (i - 1) ≡ i = omega arith in ap (λ (x : ℕ). unitAt x (pasted old 1 (replicate n 0))) (sym e) ∙ nought (i - 1) (omega arith)
+
+      unit : (i : ℕ) → HeadUnit i → unitAt i (pasted old 1 (replicate n 0)) ≡ unitAt i (written (key ∷ []) 0 [] [])
+      unit i (a-length u) = go i u
+        where
+          go : (j : ℕ) → j < 9 → unitAt j (pasted old 1 (replicate n 0)) ≡ unitAt j (written (key ∷ []) 0 [] [])
+          go zero v =
+              getD-pasted-low old 1 (replicate n 0) (omega (arith, zn, whole)) 0 0 (omega arith)
+              ∙ (written-length _ _ _ _ s 0 (omega arith) ∙ sym (written-length _ _ _ _ shape-key 0 (omega arith)))
+          go (suc j) v = zero-at (suc j) (omega arith) (omega arith) ∙ sym (written-length _ _ _ _ shape-key (suc j) v)
+      unit i the-count = zero-at 9 (omega arith) (omega arith) ∙ sym (written-count _ _ _ _ shape-key)
+      unit i the-hint = zero-at 10 (omega arith) (omega arith) ∙ sym (written-hint _ _ _ _ shape-key)
+      unit i (a-mark j u) = zero-at (11 + j) (omega arith) (omega arith) ∙ sym (written-mark _ _ _ _ shape-key j u)
+      unit i (a-setting j u) = zero-at (19 + j) (omega arith) (omega arith) ∙ sym (written-setting _ _ _ _ shape-key j u)
+
+      room : (r : ℕ) → r < 9 → (r ≡ 0) ⊎ (r ≡ 0 → ⊥) → roomAt r (pasted (pasted old 1 (replicate n 0)) 288 (replicate k 0)) ≡ roomAt r (written (key ∷ []) 0 [] [])
+      room r h (inl e) =
+          rw e
+          (low-room (pasted old 1 (replicate n 0)) k (omega (arith, first))
+          ∙ (past-room old n (omega (arith, whole))
+          ∙ (written-room _ _ _ _ s 0 (omega arith) ∙ sym (written-room _ _ _ _ shape-key 0 (omega arith)))))
+      room r h (inr e) =
+          high-room (pasted old 1 (replicate n 0)) k r (omega (arith, first)) (omega arith) (omega arith)
+          ∙ (ap (roomed 256) (sym (List·getD-eq-default (key ∷ []) [] {n = r} (omega arith))) ∙ sym (written-room _ _ _ _ shape-key r h))
+
+  pub key-only : keyOnly (written (key ∷ list) hint marks settings) ≡ written (key ∷ []) 0 [] []
+  unfolding keyOnly
+  key-only = cleared 31 2048 refl refl

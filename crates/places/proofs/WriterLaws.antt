@@ -4,12 +4,12 @@ use mathlib.Core.List.{List, [], _∷_, _++_, append-nil}
 use Prim.Native.Nat.{ℕ, _+_, _-_, _*_, _/_, _%_, _≤_, _<_}
 use native.Mathlib.Nat.{zero-add}
 use native.Mathlib.Omega.{arith}
-use lib.ListN.{length, take, drop, replicate, drop-of-length-le}
+use lib.ListN.{length, take, drop, replicate, drop-of-length-le, length-replicate}
 use Rattle.laws.specs.Lists.{pasted, roomed}
 use Rattle.laws.proofs.Pasting.{length-pasted, pasted-join, length-roomed}
 use Rattle.laws.proofs.Parts.{part-slice}
-use Rattle.places.specs.Layout.{placeAt, changed, wideUnits, blank, putUnit, putWide, putText}
-use Rattle.places.proofs.LayoutLaws.{length-place, changed-pasted, changed-again, length-changed}
+use Rattle.places.specs.Layout.{placeAt, changed, wideUnits, blank, putUnit, putWide, putText, putSettings, keyOnly}
+use Rattle.places.proofs.LayoutLaws.{length-place, changed-pasted, changed-then}
 
 pub length-putUnit : (j v : ℕ) (piece : List ℕ) → length piece ≡ 2336 → j < 2336 → length (putUnit j v piece) ≡ 2336
 unfolding putUnit
@@ -34,19 +34,6 @@ module _ (raw : List ℕ) (i : ℕ) (fits : i < length raw / 2336) where
       ∙ (pasted-join raw (i * 2336 + j) (v % 65536 ∷ []) (v / 65536 ∷ []) (omega arith)
       ∙ changed-pasted raw i fits (i * 2336 + j) j (wideUnits v) refl (omega arith)))
 
-  pub text-put : (j : ℕ) (t : List ℕ) {m o : List ℕ} → m ≡ pasted raw (i * 2336 + j) (length t ∷ []) → o ≡ pasted m (i * 2336 + 32 + j * 256) (roomed 256 t)
-      → length t ≤ 256 → j < 9 → o ≡ changed i (putText j t) raw
-  unfolding putText
-  text-put j t e f u h =
-      let l : length (roomed 256 t) ≡ 256 = length-roomed 256 t u in
-      let p : length (placeAt i raw) ≡ 2336 = length-place raw i fits in
-      let w : length (putUnit j (length t) (placeAt i raw)) ≡ 2336 = length-putUnit j (length t) (placeAt i raw) p (omega arith) in
-      let c : length (changed i (putUnit j (length t)) raw) ≡ length raw = length-changed raw i fits (putUnit j (length t)) w in
-      f ∙ (ap (λ (x : List ℕ). pasted x (i * 2336 + 32 + j * 256) (roomed 256 t)) (unit-put j (length t) e (omega arith))
-      ∙ (changed-pasted (changed i (putUnit j (length t)) raw) i (omega arith) (i * 2336 + 32 + j * 256) (32 + j * 256) (roomed 256 t) (omega arith) (omega arith)
-      ∙ changed-again raw i fits (putUnit j (length t)) w (λ q. pasted q (32 + j * 256) (roomed 256 t))
-      (length-pasted (putUnit j (length t) (placeAt i raw)) (32 + j * 256) (roomed 256 t) (omega arith) ∙ w)))
-
   pub place-put : (p : List ℕ) {m : List ℕ} → m ≡ pasted raw (i * 2336) p → m ≡ changed i (λ q. p) raw
   unfolding changed
   place-put p e = e
@@ -64,3 +51,60 @@ module _ (raw : List ℕ) (i : ℕ) (fits : i < length raw / 2336) where
   place-saved d e h =
       let l : length (placeAt i raw) ≡ 2336 = length-place raw i fits in
       e ∙ (ap (λ (p : List ℕ). pasted d 0 p) slice-place ∙ pasted-over d (placeAt i raw) (omega arith))
+
+  -- two pieces written into the place
+  two-pieces : (j : ℕ) (p : List ℕ) (k : ℕ) (r : List ℕ) {m o : List ℕ} → m ≡ changed i (λ q. pasted q j p) raw → o ≡ changed i (λ q. pasted q k r) m
+      → j + length p ≤ 2336 → k + length r ≤ 2336 → o ≡ changed i (λ q. pasted (pasted q j p) k r) raw
+  two-pieces j p k r e f h u =
+      let w : length (placeAt i raw) ≡ 2336 = length-place raw i fits in
+      let v : length (pasted (placeAt i raw) j p) ≡ 2336 = length-pasted (placeAt i raw) j p (omega arith) ∙ w in
+      changed-then raw i fits (λ q. pasted q j p) v (λ q. pasted q k r) e f (length-pasted (pasted (placeAt i raw) j p) k r (omega arith) ∙ v)
+
+  -- that touch
+  touching : (j : ℕ) (p : List ℕ) (k : ℕ) (r : List ℕ) {m o : List ℕ} → m ≡ changed i (λ q. pasted q j p) raw → o ≡ changed i (λ q. pasted q k r) m
+      → k ≡ j + length p → k + length r ≤ 2336 → o ≡ changed i (λ q. pasted q j (p ++ r)) raw
+  unfolding changed
+  touching j p k r e f h u =
+      let w : length (placeAt i raw) ≡ 2336 = length-place raw i fits in
+      two-pieces j p k r e f (omega arith) u
+      ∙ ap (λ (q : List ℕ). pasted raw (i * 2336) q)
+      (ap (λ (x : ℕ). pasted (pasted (placeAt i raw) j p) x r) h ∙ pasted-join (placeAt i raw) j p r (omega arith))
+
+  -- two pieces written over the memory inside the place
+  raw-pieces : (j : ℕ) (p : List ℕ) (k n : ℕ) (r : List ℕ) {m o : List ℕ} → m ≡ pasted raw (i * 2336 + j) p → o ≡ pasted m n r → n ≡ i * 2336 + k
+      → j + length p ≤ 2336 → k + length r ≤ 2336 → o ≡ changed i (λ q. pasted (pasted q j p) k r) raw
+  raw-pieces j p k n r {m} e f h u v =
+      let l : length m ≡ length raw = ap length e ∙ length-pasted raw (i * 2336 + j) p (omega arith) in
+      two-pieces j p k r
+      (e ∙ changed-pasted raw i fits (i * 2336 + j) j p refl u)
+      (f ∙ changed-pasted m i (omega arith) n k r h v)
+      u v
+
+  pub text-put : (j : ℕ) (t : List ℕ) {m o : List ℕ} → m ≡ pasted raw (i * 2336 + j) (length t ∷ [])
+      → o ≡ pasted m (i * 2336 + 32 + j * 256) (roomed 256 t) → length t ≤ 256 → j < 9 → o ≡ changed i (putText j t) raw
+  unfolding putText putUnit
+  text-put j t e f u h =
+      let l : length (roomed 256 t) ≡ 256 = length-roomed 256 t u in
+      raw-pieces j (length t ∷ []) (32 + j * 256) (i * 2336 + 32 + j * 256) (roomed 256 t) e f (omega arith) (omega arith) (omega arith)
+
+  -- all but the key made zero
+  pub key-kept : (n k : ℕ) {m o : List ℕ} → m ≡ pasted raw (i * 2336 + 1) (replicate n 0) → o ≡ pasted m (i * 2336 + 32 + 256) (replicate k 0)
+      → n ≡ 31 → k ≡ 2048 → o ≡ changed i keyOnly raw
+  unfolding keyOnly
+  key-kept n k e f p q =
+      let a : length (replicate {A = ℕ} n 0) ≡ n = length-replicate n 0 in
+      let b : length (replicate {A = ℕ} k 0) ≡ k = length-replicate k 0 in
+      raw-pieces 1 (replicate n 0) 288 (i * 2336 + 32 + 256) (replicate k 0) e f (omega arith) (omega arith) (omega arith)
+      ∙ (λ j. changed i (λ x. pasted (pasted x 1 (replicate (p j) 0)) 288 (replicate (q j) 0)) raw)
+
+  -- settings, one after the other
+  pub settings-put : (a b c d e : ℕ) {m₁ m₂ m₃ m₄ o : List ℕ} → m₁ ≡ changed i (putUnit 19 a) raw → m₂ ≡ changed i (putUnit 20 b) m₁
+      → m₃ ≡ changed i (putUnit 21 c) m₂ → m₄ ≡ changed i (putWide 22 d) m₃ → o ≡ changed i (putWide 24 e) m₄
+      → o ≡ changed i (putSettings (a ∷ b ∷ c ∷ (wideUnits d ++ wideUnits e))) raw
+  unfolding putUnit putWide putSettings
+  settings-put a b c d e h₁ h₂ h₃ h₄ h =
+      touching 19 (a ∷ b ∷ c ∷ wideUnits d) 24 (wideUnits e)
+      (touching 19 (a ∷ b ∷ c ∷ []) 22 (wideUnits d)
+      (touching 19 (a ∷ b ∷ []) 21 (c ∷ []) (touching 19 (a ∷ []) 20 (b ∷ []) h₁ h₂ refl (omega arith)) h₃ refl (omega arith))
+      h₄ refl (omega arith))
+      h refl (omega arith)

@@ -18,6 +18,7 @@ use Rattle.laws.specs.Listed.{listed, sameList}
 abbrev pub placeCount : List ℕ → ℕ
 placeCount raw = length raw / 2336
 
+-- place i: 2,336 units
 unfoldable pub placeAt : ℕ → List ℕ → List ℕ
 placeAt i raw = part (i * 2336) 2336 raw
 
@@ -25,6 +26,7 @@ placeAt i raw = part (i * 2336) 2336 raw
 unfoldable pub changed : ℕ → (List ℕ → List ℕ) → List ℕ → List ℕ
 changed i f raw = pasted raw (i * 2336) (f (placeAt i raw))
 
+-- unit i of a place
 abbrev pub unitAt : ℕ → List ℕ → ℕ
 unitAt i piece = getD piece i 0
 
@@ -32,16 +34,19 @@ unitAt i piece = getD piece i 0
 unfoldable pub wideAt : ℕ → List ℕ → ℕ
 wideAt i piece = unitAt i piece + 65536 * unitAt (i + 1) piece
 
+-- and the two units that write it
 abbrev pub wideUnits : ℕ → List ℕ
 wideUnits n = n % 65536 ∷ n / 65536 ∷ []
 
--- a flag is a unit 0 or 1
+-- a flag is a unit, 1 where it is set
 unfoldable pub flagAt : ℕ → List ℕ → Bool
 flagAt i piece = eqb (unitAt i piece) 1
 
+-- and 0 where it is not
 unfoldable pub flagUnit : Bool → ℕ
 flagUnit b = choose b 1 0
 
+-- room j: 256 units
 unfoldable pub roomAt : ℕ → List ℕ → List ℕ
 roomAt j piece = part (32 + j * 256) 256 piece
 
@@ -57,24 +62,28 @@ listCount piece = min 8 (unitAt 9 piece)
 unfoldable pub blank : List ℕ
 blank = replicate 2336 0
 
--- the head and the rooms of a place that holds these texts, the key first, this hint, these marks and these settings; all unused room is zero
+-- the head of a place that holds these texts, the key first, this hint, these marks and these settings; all else in it is zero
 unfoldable pub headOf : List (List ℕ) → ℕ → List ℕ → List ℕ → List ℕ
 headOf ts hint marks settings =
     listed 9 (λ j. length (getD ts j [])) ++ (((length ts - 1) ∷ hint ∷ []) ++ (roomed 8 marks ++ roomed 13 settings))
 
+-- its rooms: each text with zeros after it
 unfoldable pub roomsOf : List (List ℕ) → List ℕ
 roomsOf ts = flatten (listed 9 (λ j. roomed 256 (getD ts j [])))
 
+-- the whole place
 unfoldable pub written : List (List ℕ) → ℕ → List ℕ → List ℕ → List ℕ
 written ts hint marks settings = headOf ts hint marks settings ++ roomsOf ts
 
--- what a place holds, read back
+-- read back from a place: the key and the texts of the list
 unfoldable pub textsOf : List ℕ → List (List ℕ)
 textsOf piece = listed (1 + listCount piece) (λ j. textAt j piece)
 
+-- the marks of the list
 unfoldable pub marksOf : List ℕ → List ℕ
 marksOf piece = listed (listCount piece) (λ j. unitAt (11 + j) piece)
 
+-- the settings, of which seven units are in use
 unfoldable pub settingsOf : List ℕ → List ℕ
 settingsOf piece = listed 7 (λ j. unitAt (19 + j) piece)
 
@@ -82,6 +91,7 @@ settingsOf piece = listed 7 (λ j. unitAt (19 + j) piece)
 unfoldable pub tidy : List ℕ → Bool
 tidy piece = sameList (written (textsOf piece) (unitAt 10 piece) (marksOf piece) (settingsOf piece)) piece
 
+-- every unit is zero
 unfoldable pub zeros : List ℕ → Bool
 zeros s = every (λ u. eqb u 0) s
 
@@ -89,16 +99,26 @@ zeros s = every (λ u. eqb u 0) s
 unfoldable pub tidyRoom : List ℕ → ℕ → Bool
 tidyRoom piece j = leb (unitAt j piece) 256 && zeros (part (32 + j * 256 + unitAt j piece) (256 - unitAt j piece) piece)
 
+-- the same of the nine rooms
 unfoldable pub tidyRooms : List ℕ → Bool
 tidyRooms piece = every (tidyRoom piece) (listed 9 (λ j. j))
 
--- what the writers of a place make of it
+-- what the writers of a place make of it: one unit
 unfoldable pub putUnit : ℕ → ℕ → List ℕ → List ℕ
 putUnit j v piece = pasted piece j (v ∷ [])
 
+-- a number of 32 bits
 unfoldable pub putWide : ℕ → ℕ → List ℕ → List ℕ
 putWide j v piece = pasted piece j (wideUnits v)
 
 -- a text with its length; the rest of its room becomes zero
 unfoldable pub putText : ℕ → List ℕ → List ℕ → List ℕ
 putText j t piece = pasted (putUnit j (length t) piece) (32 + j * 256) (roomed 256 t)
+
+-- settings in units 19 and on
+unfoldable pub putSettings : List ℕ → List ℕ → List ℕ
+putSettings settings piece = pasted piece 19 settings
+
+-- all but the key becomes zero
+unfoldable pub keyOnly : List ℕ → List ℕ
+keyOnly piece = pasted (pasted piece 1 (replicate 31 0)) 288 (replicate 2048 0)

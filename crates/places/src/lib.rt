@@ -1,10 +1,10 @@
 // Lent memory as places of 2,336 units, one layout for both caches (specs/Layout.antt): reading and writing one place.
 ghost use mathlib.Core.Path.{_≡_};
-ghost use mathlib.Core.List.{List, [], _∷_};
-ghost use Prim.Native.Nat.{ℕ, _+_, _-_, _*_, _/_, _≤_, _<_};
+ghost use mathlib.Core.List.{_∷_, _++_};
+ghost use Prim.Native.Nat.{_+_, _-_, _/_, _≤_, _<_};
 ghost use lib.ListN.{length};
 ghost use Rattle.laws.specs.Lists.{part};
-ghost use Rattle.places.specs.Layout.{placeAt, changed, unitAt, wideAt, textAt, listCount, blank, zeros, tidyRoom, tidyRooms, tidy, putUnit, putWide, putText};
+ghost use Rattle.places.specs.Layout.{placeAt, changed, unitAt, wideAt, textAt, listCount, blank, zeros, tidyRoom, tidyRooms, tidy, putUnit, putWide, putText, putSettings, keyOnly, wideUnits};
 
 pub const PLACE: usize = 2336;
 
@@ -84,6 +84,28 @@ pub fn put_text(cache: &mut [u16], i: usize, j: usize, text: &[u16])
     let at = i * PLACE;
     rooms::put_unit(cache, at + j, text.len() as u16);
     rooms::put_text(cache, at + HEAD + j * ROOM, ROOM, text);
+}
+
+// Three units and two numbers of 32 bits, as settings of place i.
+pub fn put_settings(cache: &mut [u16], i: usize, a: u16, b: u16, c: u16, d: u32, e: u32)
+    requires { ⌜ i < length (now cache) / 2336 ⌝ }
+    ensures { λ r. ⌜ now (cache .exit) ≡ changed i (putSettings (a ∷ b ∷ c ∷ (wideUnits d ++ wideUnits e))) (now (cache .entry)) ⌝ }
+{
+    put_unit(cache, i, 19, a);
+    put_unit(cache, i, 20, b);
+    put_unit(cache, i, 21, c);
+    put_wide(cache, i, 22, d);
+    put_wide(cache, i, 24, e);
+}
+
+// Makes all of place i but its key zero.
+pub fn keep_key(cache: &mut [u16], i: usize)
+    requires { ⌜ i < length (now cache) / 2336 ⌝ }
+    ensures { λ r. ⌜ now (cache .exit) ≡ changed i keyOnly (now (cache .entry)) ⌝ }
+{
+    let at = i * PLACE;
+    rooms::clear_units(cache, at + 1, HEAD - 1);
+    rooms::clear_units(cache, at + HEAD + ROOM, PLACE - HEAD - ROOM);
 }
 
 pub fn clear_place(cache: &mut [u16], i: usize)

@@ -1,0 +1,1 @@
+// Referral requests and replies on lent bytes: document 01, "Layouts".

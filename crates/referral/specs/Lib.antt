@@ -1,4 +1,3 @@
 -- Document 01, "Layouts": requests and replies as bytes.
-pub mod Bytes
 pub mod Request
 pub mod Replies

@@ -8,7 +8,7 @@ use Rattle.laws.specs.Choice.{choose}
 use Rattle.laws.specs.Lists.{every}
 use Rattle.unc.specs.Names.{sameName, goodName, backslash}
 use Rattle.unc.specs.Paths.{goodPath, normalised, componentCount, matches, pathUnits}
-use Rattle.referral.specs.Bytes.{u16At, u32At, flag, Text, ended, unended, textAt}
+use Rattle.spans.specs.Bytes.{u16At, u32At, flag, Text, ended, unended, textAt}
 
 -- The header: NumberOfReferrals, ReferralServers, StorageServers, TargetFailback. PathConsumed is not used.
 unfoldable pub referralCount : List ℕ → ℕ

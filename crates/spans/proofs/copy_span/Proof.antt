@@ -1,3 +1,13 @@
+use mathlib.Core.Path.{_≡_, refl, _∙_, sym, ap}
+use mathlib.Core.List.{List}
+use Prim.Native.Nat.{ℕ, _≤_, _+_, _-_}
+use lib.ListN.{take, set, length}
+use denote.Ref.{now}
+use native.Mathlib.Omega.{arith}
+use Rattle.laws.specs.Lists.{pasted}
+use Rattle.laws.proofs.Pasting.{pasted-nil, copied-more, copied-all, length-pasted}
+use Rattle.spans.proofs.UnitLaws.{length-spanned}
+use Rattle.spans.specs.Spans.{spanned}
 use borrow.Author.Needs.{needs}
 use Rattle.spans.proofs.copy_span.Statement.{statement}
 use Rattle.spans.proofs.copy_span.Tie as tie
@@ -6,50 +16,44 @@ use Rattle.spans.proofs.copy_span.Lts as lts
 use Rattle.spans.proofs.unit_of.Reads as unit-of-reads
 
 abbrev Inv-loop : tie.InvT-loop
-Inv-loop r s dst₀ at n i₀ dst i = ?
+Inv-loop r s dst₀ at n i₀ dst i = (i ≤ n) × ((length dst ≡ length dst₀) × (dst ≡ pasted dst₀ at (take i (spanned r s))))
 
 abbrev μ-loop : tie.MeasureT-loop
-μ-loop r s dst₀ at n i₀ dst i = ?
+μ-loop r s dst₀ at n i₀ dst i = n - i
 
--- src/lib.rt:263:5
 loop-holds : tie.Need-loop-holds Inv-loop μ-loop
-loop-holds c = search needs
+loop-holds c = (search needs, (search needs, sym (pasted-nil _ _)))
 
--- src/lib.rt:264:23
 unit-of-requires : tie.Need-unit-of-requires Inv-loop μ-loop
 unit-of-requires c κs = search needs
 
--- src/lib.rt:264:13
 add-dst : tie.Need-add-dst Inv-loop μ-loop
 add-dst c = search needs
 
--- src/lib.rt:264:9
 mul-dst : tie.Need-mul-dst Inv-loop μ-loop
 mul-dst c = search needs
 
--- src/lib.rt:264:9
 slice-write-dst : tie.Need-slice-write-dst Inv-loop μ-loop
 slice-write-dst c = search needs
 
--- src/lib.rt:265:9
 add-i : tie.Need-add-i Inv-loop μ-loop
 add-i c = search needs
 
--- src/lib.rt:263:5
 loop-less : tie.Need-loop-less Inv-loop μ-loop
 loop-less c = search needs
 
--- src/lib.rt:263:5
 loop-again : tie.Need-loop-again Inv-loop μ-loop
-loop-again c = search needs
+loop-again c = 
+    let l = length-spanned (now (c .before .before .before .before .before .args .r)) (c .before .before .before .before .before .args .s) in
+    (search needs, (search needs, ap (λ (v : ℕ). set (c .before .before .loop .dst) (c .before .before .before .before .before .args .at + c .before .before .loop .i) v) (c .unit-of .ensures) ∙ copied-more (now (c .before .before .before .before .before .args .dst)) (c .before .before .before .before .before .args .at) (spanned (now (c .before .before .before .before .before .args .r)) (c .before .before .before .before .before .args .s)) (c .before .before .loop .i) (c .before .before .loop .inv .1 .1) (omega arith) (omega arith)))
 
--- src/lib.rt:257:1
 same-length : tie.Need-same-length Inv-loop μ-loop
 same-length c = search needs
 
--- src/lib.rt:257:1
 returns : tie.Need-returns Inv-loop μ-loop
-returns c = search needs
+returns c = 
+    let l = length-spanned (now (c .before .before .before .before .args .r)) (c .before .before .before .before .args .s) in
+    copied-all (now (c .before .before .before .before .args .dst)) (c .before .before .before .before .args .at) (spanned (now (c .before .before .before .before .args .r)) (c .before .before .before .before .args .s)) (c .before .loop .i) (c .before .loop .inv .1 .1) (omega arith)
 
 pub copy-span-spec : {M : Type 1} → statement M
 copy-span-spec =

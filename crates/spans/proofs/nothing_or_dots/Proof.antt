@@ -1,3 +1,11 @@
+-- Empty, "." or "..".
+use mathlib.Core.Path.{_∙_, sym, ap}
+use lib.Dec.{eqb}
+use Prim.Native.Nat.{ℕ}
+use denote.Ref.{now}
+use native.Mathlib.Omega.{arith}
+use Rattle.unc.proofs.NameLaws.{dots-long, dots-none, dots-other, dots-one, dots-two}
+use Rattle.spans.proofs.UnitLaws.{length-spanned}
 use borrow.Author.Needs.{needs}
 use Rattle.spans.proofs.nothing_or_dots.Statement.{statement}
 use Rattle.spans.proofs.nothing_or_dots.Tie as tie
@@ -5,33 +13,26 @@ use Rattle.spans.proofs.nothing_or_dots.Reads as reads
 use Rattle.spans.proofs.nothing_or_dots.Lts as lts
 use Rattle.spans.proofs.unit_of.Reads as unit-of-reads
 
--- src/lib.rt:167:9
 returns : tie.Need-returns
-returns c = ?
+returns c = dots-long _ (omega (arith, length-spanned (now (c .before .before .args .r)) (c .before .before .args .s)))
 
--- src/lib.rt:170:9
 returns-2 : tie.Need-returns-2
-returns-2 c = ?
+returns-2 c = dots-none _ (length-spanned (now (c .before .before .before .args .r)) (c .before .before .before .args .s) ∙ c .if2 .taken)
 
--- src/lib.rt:172:8
 unit-of-requires : tie.Need-unit-of-requires
 unit-of-requires c κs = search needs
 
--- src/lib.rt:173:9
 returns-3 : tie.Need-returns-3
-returns-3 c = ?
+returns-3 c = dots-other _ (λ e. c .before .before .if2 .left (sym (length-spanned (now (c .before .before .before .before .before .args .r)) (c .before .before .before .before .before .args .s)) ∙ e)) (λ e. c .if3 .taken (c .before .unit-of .ensures ∙ e))
 
--- src/lib.rt:176:9
 returns-4 : tie.Need-returns-4
-returns-4 c = ?
+returns-4 c = dots-one _ (length-spanned (now (c .before .before .before .before .before .before .args .r)) (c .before .before .before .before .before .before .args .s) ∙ c .if4 .taken) (sym (c .before .before .unit-of .ensures) ∙ c .before .if3 .left)
 
--- src/lib.rt:178:5
 unit-of-requires-2 : tie.Need-unit-of-requires-2
 unit-of-requires-2 c κs = search needs
 
--- src/lib.rt:161:1
 returns-5 : tie.Need-returns-5
-returns-5 c = ?
+returns-5 c = ap (λ (u : ℕ). eqb u 46) (c .unit-of2 .ensures) ∙ dots-two _ (length-spanned (now (c .before .before .before .before .before .before .before .args .r)) (c .before .before .before .before .before .before .before .args .s) ∙ omega arith) (sym (c .before .before .before .unit-of .ensures) ∙ c .before .before .if3 .left)
 
 pub nothing-or-dots-spec : {M : Type 1} → statement M
 nothing-or-dots-spec =

@@ -1,3 +1,12 @@
+use mathlib.Core.Path.{_≡_, refl, _∙_, sym, ap}
+use Prim.Native.Nat.{_≤_, _+_, _-_}
+use lib.ListN.{drop}
+use denote.Ref.{now}
+use native.Mathlib.Omega.{arith}
+use Rattle.unc.specs.Names.{folded, sameName}
+use Rattle.unc.proofs.NameLaws.{sameName-unlike, same-hit, same-miss, same-end}
+use Rattle.spans.proofs.UnitLaws.{length-spanned}
+use Rattle.spans.specs.Spans.{spanned}
 use borrow.Author.Needs.{needs}
 use Rattle.spans.proofs.same_spans.Statement.{statement}
 use Rattle.spans.proofs.same_spans.Tie as tie
@@ -7,54 +16,52 @@ use Rattle.spans.proofs.unit_of.Reads as unit-of-reads
 use Rattle.unc.proofs.fold.Reads as fold-reads
 
 abbrev Inv-loop : tie.InvT-loop
-Inv-loop r a b n i₀ i = ?
+Inv-loop r a b n i₀ i = (i ≤ n) × (sameName (spanned r a) (spanned r b) ≡ sameName (drop i (spanned r a)) (drop i (spanned r b)))
 
 abbrev μ-loop : tie.MeasureT-loop
-μ-loop r a b n i₀ i = ?
+μ-loop r a b n i₀ i = n - i
 
--- src/lib.rt:91:9
 returns : tie.Need-returns Inv-loop μ-loop
-returns c = search needs
+returns c = sym (sameName-unlike _ _ (λ e. c .if1 .taken (sym (length-spanned (now (c .before .before .before .args .r)) (c .before .before .before .args .a)) ∙ (e ∙ length-spanned (now (c .before .before .before .args .r)) (c .before .before .before .args .b)))))
 
--- src/lib.rt:94:5
 loop-holds : tie.Need-loop-holds Inv-loop μ-loop
-loop-holds c = search needs
+loop-holds c = (search needs, refl)
 
--- src/lib.rt:95:27
 unit-of-requires : tie.Need-unit-of-requires Inv-loop μ-loop
 unit-of-requires c κs = search needs
 
--- src/lib.rt:95:13
 fold-requires : tie.Need-fold-requires Inv-loop μ-loop
 fold-requires c κs = search needs
 
--- src/lib.rt:96:27
 unit-of-requires-2 : tie.Need-unit-of-requires-2 Inv-loop μ-loop
 unit-of-requires-2 c κs = search needs
 
--- src/lib.rt:96:13
 fold-requires-2 : tie.Need-fold-requires-2 Inv-loop μ-loop
 fold-requires-2 c κs = search needs
 
--- src/lib.rt:98:13
 returns-2 : tie.Need-returns-2 Inv-loop μ-loop
-returns-2 c = search needs
+returns-2 c = 
+    let l = length-spanned (now (c .before .before .before .before .before .before .before .before .before .before .args .r)) (c .before .before .before .before .before .before .before .before .before .before .args .a) in
+    let m = length-spanned (now (c .before .before .before .before .before .before .before .before .before .before .args .r)) (c .before .before .before .before .before .before .before .before .before .before .args .b) in
+    sym (c .before .before .before .before .before .before .loop .inv .1 ∙ same-miss (spanned (now (c .before .before .before .before .before .before .before .before .before .before .args .r)) (c .before .before .before .before .before .before .before .before .before .before .args .a)) (spanned (now (c .before .before .before .before .before .before .before .before .before .before .args .r)) (c .before .before .before .before .before .before .before .before .before .before .args .b)) (c .before .before .before .before .before .before .loop .i) (omega arith) (omega arith) (c .before .before .before .fold .ensures ∙ ap folded (c .before .before .before .before .unit-of .ensures)) (c .before .fold2 .ensures ∙ ap folded (c .before .before .unit-of2 .ensures)) (c .if2 .taken))
 
--- src/lib.rt:100:9
 add-i : tie.Need-add-i Inv-loop μ-loop
 add-i c = search needs
 
--- src/lib.rt:94:5
 loop-less : tie.Need-loop-less Inv-loop μ-loop
 loop-less c = search needs
 
--- src/lib.rt:94:5
 loop-again : tie.Need-loop-again Inv-loop μ-loop
-loop-again c = search needs
+loop-again c = 
+    let l = length-spanned (now (c .before .before .before .before .before .before .before .before .before .before .args .r)) (c .before .before .before .before .before .before .before .before .before .before .args .a) in
+    let m = length-spanned (now (c .before .before .before .before .before .before .before .before .before .before .args .r)) (c .before .before .before .before .before .before .before .before .before .before .args .b) in
+    (search needs, c .before .before .before .before .before .before .loop .inv .1 ∙ same-hit (spanned (now (c .before .before .before .before .before .before .before .before .before .before .args .r)) (c .before .before .before .before .before .before .before .before .before .before .args .a)) (spanned (now (c .before .before .before .before .before .before .before .before .before .before .args .r)) (c .before .before .before .before .before .before .before .before .before .before .args .b)) (c .before .before .before .before .before .before .loop .i) (omega arith) (omega arith) (c .before .before .before .fold .ensures ∙ ap folded (c .before .before .before .before .unit-of .ensures)) (c .before .fold2 .ensures ∙ ap folded (c .before .before .unit-of2 .ensures)) (c .if2 .left))
 
--- src/lib.rt:85:1
 returns-3 : tie.Need-returns-3 Inv-loop μ-loop
-returns-3 c = search needs
+returns-3 c = 
+    let l = length-spanned (now (c .before .before .before .before .before .args .r)) (c .before .before .before .before .before .args .a) in
+    let m = length-spanned (now (c .before .before .before .before .before .args .r)) (c .before .before .before .before .before .args .b) in
+    sym (c .before .loop .inv .1 ∙ same-end (spanned (now (c .before .before .before .before .before .args .r)) (c .before .before .before .before .before .args .a)) (spanned (now (c .before .before .before .before .before .args .r)) (c .before .before .before .before .before .args .b)) (c .before .loop .i) (omega arith) (omega arith))
 
 pub same-spans-spec : {M : Type 1} → statement M
 same-spans-spec =

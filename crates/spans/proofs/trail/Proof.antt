@@ -1,3 +1,11 @@
+use mathlib.Core.Path.{_∙_, sym, ap}
+use Prim.Native.Nat.{ℕ, _-_}
+use lib.ListN.{getD, length}
+use denote.Ref.{now}
+use native.Mathlib.Omega.{arith}
+use Rattle.unc.proofs.FormLaws.{trail-none, trail-dropped, trail-kept}
+use Rattle.spans.proofs.UnitLaws.{length-spanned}
+use Rattle.spans.specs.Spans.{spanned}
 use borrow.Author.Needs.{needs}
 use Rattle.spans.proofs.trail.Statement.{statement}
 use Rattle.spans.proofs.trail.Tie as tie
@@ -5,29 +13,29 @@ use Rattle.spans.proofs.trail.Reads as reads
 use Rattle.spans.proofs.trail.Lts as lts
 use Rattle.spans.proofs.unit_of.Reads as unit-of-reads
 
--- src/lib.rt:248:9
 returns : tie.Need-returns
-returns c = ?
+returns c = sym (trail-none (spanned (now (c .before .before .args .r)) (c .before .before .args .s)) (c .before .before .args .from) (omega (arith, length-spanned (now (c .before .before .args .r)) (c .before .before .args .s))))
 
--- src/lib.rt:250:22
 sub-unit-of : tie.Need-sub-unit-of
 sub-unit-of c = search needs
 
--- src/lib.rt:250:8
 unit-of-requires : tie.Need-unit-of-requires
 unit-of-requires c κs = search needs
 
--- src/lib.rt:251:16
 sub-result : tie.Need-sub-result
 sub-result c = search needs
 
--- src/lib.rt:251:9
 returns-2 : tie.Need-returns-2
-returns-2 c = ?
+returns-2 c = 
+    let l = length-spanned (now (c .before .before .before .before .args .r)) (c .before .before .before .before .args .s) in
+    let e = ap (λ (k : ℕ). getD (spanned (now (c .before .before .before .before .args .r)) (c .before .before .before .before .args .s)) (k - 1) 0) l in
+    sym (trail-dropped (spanned (now (c .before .before .before .before .args .r)) (c .before .before .before .before .args .s)) (c .before .before .before .before .args .from) (omega arith) (e ∙ (sym (c .before .unit-of .ensures) ∙ c .if2 .taken)) ∙ omega arith)
 
--- src/lib.rt:242:1
 returns-3 : tie.Need-returns-3
-returns-3 c = ?
+returns-3 c = 
+    let l = length-spanned (now (c .before .before .before .before .args .r)) (c .before .before .before .before .args .s) in
+    let e = ap (λ (k : ℕ). getD (spanned (now (c .before .before .before .before .args .r)) (c .before .before .before .before .args .s)) (k - 1) 0) l in
+    sym (trail-kept (spanned (now (c .before .before .before .before .args .r)) (c .before .before .before .before .args .s)) (c .before .before .before .before .args .from) (omega arith) (λ z. c .if2 .left (c .before .unit-of .ensures ∙ (sym e ∙ z))) ∙ l)
 
 pub trail-spec : {M : Type 1} → statement M
 trail-spec =

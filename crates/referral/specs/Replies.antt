@@ -125,16 +125,16 @@ keptTargets r (e ∷ es) = record { path = targetAt r e; opens = false } ∷ map
 
 unfoldable pub referralIn : List ℕ → Referral
 referralIn r = record {
-    version = versionAt r 8;
-    root = eqb (serverTypeAt r 8) 1;
-    referralServers = headerFlag 1 r;
-    storageServers = headerFlag 2 r;
-    failback = eqb (versionAt r 8) 4 && headerFlag 4 r;
-    count = referralCount r;
-    ttl = ttlAt (versionAt r 8) r 8;
-    prefix = prefixAt r 8;
-    targets = keptTargets r (take 8 (entries r))
-  }
+  version = versionAt r 8;
+  root = eqb (serverTypeAt r 8) 1;
+  referralServers = headerFlag 1 r;
+  storageServers = headerFlag 2 r;
+  failback = eqb (versionAt r 8) 4 && headerFlag 4 r;
+  count = referralCount r;
+  ttl = ttlAt (versionAt r 8) r 8;
+  prefix = prefixAt r 8;
+  targets = keptTargets r (take 8 (entries r));
+}
 
 -- What a reply is read as: malformed, without an entry, or what it says.
 pub data Reply (A : Type 0) : Type 0 where

@@ -1,5 +1,5 @@
 -- Laws of units, spans and texts in bytes.
-use mathlib.Core.Path.{_≡_, refl, sym, ap, _∙_}
+use mathlib.Core.Path.{_≡_, refl, sym, ap, _∙_, subst}
 use mathlib.Core.Bool.{Bool, true, false}
 use mathlib.Core.List.{List, [], _∷_}
 use mathlib.Core.Logic.{_⊎_, inl, inr}
@@ -8,14 +8,16 @@ use native.Mathlib.Nat.{not-suc-le-zero, add-zero}
 use native.Mathlib.Numerals.{add-one}
 use native.Mathlib.Omega.{arith}
 use lib.Dec.{eqb}
-use lib.ListN.{length, getD, take, drop, drop-of-length-le, length-drop}
+use lib.ListN.{length, getD, take, drop, drop-of-length-le, length-drop, replicate}
 use lib.Seq.{drop-cons, getD-drop}
 use borrow.Author.Tests.{eqb-true, eqb-false, eq-eqb, ne-eqb}
 use Rattle.laws.specs.Choice.{choose}
 use Rattle.laws.proofs.Choices.{choose-yes, choose-no}
+use Rattle.laws.specs.Lists.{pasted, roomed}
 use Rattle.laws.proofs.Orders.{told}
+use Rattle.laws.proofs.Pasting.{pasted-room}
 use Rattle.spans.specs.Bytes.{u16At, u32At, unitsAt, Text, ended, unended, longer, text, textAt}
-use Rattle.spans.specs.Spans.{spanned, partOf, textEnd}
+use Rattle.spans.specs.Spans.{spanned, Inside, partOf, textEnd}
 use Rattle.spans.specs.declared.Span.{Span}
 use Rattle.spans.specs.declared.Read.{Read}
 use Rattle.spans.specs.declared.Read.the-variants.{Ended, Unended}
@@ -60,6 +62,16 @@ pub part-spanned : (r : List ℕ) (s : Span) (a e : ℕ) → a ≤ e → e ≤ s
 unfolding spanned
 part-spanned r s a e h k =
     sym (ap (take (e - a)) (drop-units a (s .units) (s .from) r) ∙ take-units (e - a) (s .units - a) (s .from + 2 * a) r (omega arith))
+
+pub inside-is : (r : List ℕ) (s t : Span) → s ≡ t → Inside r t → Inside r s
+inside-is r s t e h = subst (Inside r) (sym e) h
+
+-- a span's units and then zeros make the room
+pub room-spanned : (r : List ℕ) (s : Span) (d : List ℕ) (at n : ℕ) {m o : List ℕ} → m ≡ pasted d at (spanned r s)
+    → o ≡ pasted m (at + s .units) (replicate (n - s .units) 0) → s .units ≤ n → at + n ≤ length d → o ≡ pasted d at (roomed n (spanned r s))
+room-spanned r s d at n {m} e f h u =
+    let l : length (spanned r s) ≡ s .units = length-spanned r s in
+    pasted-room d at n (spanned r s) e (f ∙ ap (λ (k : ℕ). pasted m (at + k) (replicate (n - k) 0)) (sym l)) (omega arith) u
 
 -- The text at a place: the ways of its first unit.
 two-bytes : (r : List ℕ) (i : ℕ) → i + 1 < length r → drop i r ≡ getD r i 0 ∷ (getD r (i + 1) 0 ∷ drop (i + 2) r)

@@ -1,19 +1,15 @@
-use mathlib.Core.Path.{_≡_, refl, _∙_, sym, ap}
-use mathlib.Core.List.{List}
+use mathlib.Core.Path.{_≡_, _∙_, sym, ap}
 use Prim.Native.Nat.{ℕ, _≤_, _+_, _-_}
 use lib.ListN.{take, set, length}
 use denote.Ref.{now}
 use native.Mathlib.Omega.{arith}
 use Rattle.laws.specs.Lists.{pasted}
-use Rattle.laws.proofs.Pasting.{pasted-nil, copied-more, copied-all, length-pasted}
+use Rattle.laws.proofs.Pasting.{pasted-nil, copied-more, copied-all}
 use Rattle.spans.proofs.UnitLaws.{length-spanned}
 use Rattle.spans.specs.Spans.{spanned}
 use borrow.Author.Needs.{needs}
 use Rattle.spans.proofs.copy_span.Statement.{statement}
 use Rattle.spans.proofs.copy_span.Tie as tie
-use Rattle.spans.proofs.copy_span.Reads as reads
-use Rattle.spans.proofs.copy_span.Lts as lts
-use Rattle.spans.proofs.unit_of.Reads as unit-of-reads
 
 abbrev Inv-loop : tie.InvT-loop
 Inv-loop r s dst₀ at n i₀ dst i = (i ≤ n) × ((length dst ≡ length dst₀) × (dst ≡ pasted dst₀ at (take i (spanned r s))))
@@ -43,7 +39,7 @@ loop-less : tie.Need-loop-less Inv-loop μ-loop
 loop-less c = search needs
 
 loop-again : tie.Need-loop-again Inv-loop μ-loop
-loop-again c = 
+loop-again c =
     let l = length-spanned (now (c .before .before .before .before .before .args .r)) (c .before .before .before .before .before .args .s) in
     (search needs, (search needs, ap (λ (v : ℕ). set (c .before .before .loop .dst) (c .before .before .before .before .before .args .at + c .before .before .loop .i) v) (c .unit-of .ensures) ∙ copied-more (now (c .before .before .before .before .before .args .dst)) (c .before .before .before .before .before .args .at) (spanned (now (c .before .before .before .before .before .args .r)) (c .before .before .before .before .before .args .s)) (c .before .before .loop .i) (c .before .before .loop .inv .1 .1) (omega arith) (omega arith)))
 
@@ -51,7 +47,7 @@ same-length : tie.Need-same-length Inv-loop μ-loop
 same-length c = search needs
 
 returns : tie.Need-returns Inv-loop μ-loop
-returns c = 
+returns c =
     let l = length-spanned (now (c .before .before .before .before .args .r)) (c .before .before .before .before .args .s) in
     copied-all (now (c .before .before .before .before .args .dst)) (c .before .before .before .before .args .at) (spanned (now (c .before .before .before .before .args .r)) (c .before .before .before .before .args .s)) (c .before .loop .i) (c .before .loop .inv .1 .1) (omega arith)
 

@@ -8,9 +8,6 @@ use Rattle.spans.specs.Spans.{spanned}
 use borrow.Author.Needs.{needs}
 use Rattle.spans.proofs.lead.Statement.{statement}
 use Rattle.spans.proofs.lead.Tie as tie
-use Rattle.spans.proofs.lead.Reads as reads
-use Rattle.spans.proofs.lead.Lts as lts
-use Rattle.spans.proofs.unit_of.Reads as unit-of-reads
 
 returns : tie.Need-returns
 returns c = sym (leads-none _ (past-end (spanned (now (c .before .before .args .r)) (c .before .before .args .s)) 0 (omega (arith, length-spanned (now (c .before .before .args .r)) (c .before .before .args .s)))))

@@ -9,9 +9,6 @@ use Rattle.spans.proofs.UnitLaws.{length-spanned}
 use borrow.Author.Needs.{needs}
 use Rattle.spans.proofs.nothing_or_dots.Statement.{statement}
 use Rattle.spans.proofs.nothing_or_dots.Tie as tie
-use Rattle.spans.proofs.nothing_or_dots.Reads as reads
-use Rattle.spans.proofs.nothing_or_dots.Lts as lts
-use Rattle.spans.proofs.unit_of.Reads as unit-of-reads
 
 returns : tie.Need-returns
 returns c = dots-long _ (omega (arith, length-spanned (now (c .before .before .args .r)) (c .before .before .args .s)))

@@ -12,10 +12,6 @@ use Rattle.spans.specs.Spans.{spanned}
 use borrow.Author.Needs.{needs}
 use Rattle.spans.proofs.plain_end.Statement.{statement}
 use Rattle.spans.proofs.plain_end.Tie as tie
-use Rattle.spans.proofs.plain_end.Reads as reads
-use Rattle.spans.proofs.plain_end.Lts as lts
-use Rattle.spans.proofs.unit_of.Reads as unit-of-reads
-use Rattle.unc.proofs.is_plain.Reads as is-plain-reads
 
 abbrev Inv-loop : tie.InvT-loop
 Inv-loop r s from n i₀ i = (from ≤ i) × (from + plainLength (drop from (spanned r s)) ≡ i + plainLength (drop i (spanned r s)))
@@ -33,7 +29,7 @@ is-plain-requires : tie.Need-is-plain-requires Inv-loop μ-loop
 is-plain-requires c κs = search needs
 
 returns : tie.Need-returns Inv-loop μ-loop
-returns c = 
+returns c =
     let l = length-spanned (now (c .before .before .before .before .before .before .args .r)) (c .before .before .before .before .before .before .args .s) in
     sym (c .before .before .before .before .loop .inv .1 ∙ plain-miss (spanned (now (c .before .before .before .before .before .before .args .r)) (c .before .before .before .before .before .before .args .s)) (c .before .before .before .before .loop .i) (omega arith) (c .before .is-plain .ensures ∙ ap plain (c .before .before .unit-of .ensures)) (not-true _ (c .if1 .taken)))
 
@@ -44,12 +40,12 @@ loop-less : tie.Need-loop-less Inv-loop μ-loop
 loop-less c = search needs
 
 loop-again : tie.Need-loop-again Inv-loop μ-loop
-loop-again c = 
+loop-again c =
     let l = length-spanned (now (c .before .before .before .before .before .before .args .r)) (c .before .before .before .before .before .before .args .s) in
     (search needs, c .before .before .before .before .loop .inv .1 ∙ plain-hit (spanned (now (c .before .before .before .before .before .before .args .r)) (c .before .before .before .before .before .before .args .s)) (c .before .before .before .before .loop .i) (omega arith) (c .before .is-plain .ensures ∙ ap plain (c .before .before .unit-of .ensures)) (not-false _ (c .if1 .left)))
 
 returns-2 : tie.Need-returns-2 Inv-loop μ-loop
-returns-2 c = 
+returns-2 c =
     let l = length-spanned (now (c .before .before .before .args .r)) (c .before .before .before .args .s) in
     sym (c .before .loop .inv .1 ∙ plain-over (spanned (now (c .before .before .before .args .r)) (c .before .before .before .args .s)) (c .before .loop .i) (omega arith))
 

@@ -1,6 +1,6 @@
 -- The text at a byte: the loop goes unit by unit to a unit 0 or past the end.
 use denote.Ref.{now}
-use Prim.Native.Nat.{ℕ, _≤_, _-_, _+_, _*_}
+use Prim.Native.Nat.{_≤_, _-_}
 use lib.ListN.{length}
 use mathlib.Core.Path.{_≡_, refl, sym, _∙_}
 use native.Mathlib.Omega.{arith}
@@ -10,9 +10,6 @@ use Rattle.spans.proofs.UnitLaws.{text-over, text-half, text-zero, text
 use borrow.Author.Needs.{needs}
 use Rattle.spans.proofs.read_text.Statement.{statement}
 use Rattle.spans.proofs.read_text.Tie as tie
-use Rattle.spans.proofs.read_text.Reads as reads
-use Rattle.spans.proofs.read_text.Lts as lts
-use Rattle.spans.proofs.unit_at.Reads as unit-at-reads
 
 abbrev Inv-loop : tie.InvT-loop
 Inv-loop r at i₀ n₀ i n = (n ≤ i) × (textEnd 0 (textAt r at) ≡ textEnd n (textAt r i))

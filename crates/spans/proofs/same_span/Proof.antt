@@ -1,5 +1,5 @@
 use mathlib.Core.Path.{_≡_, refl, _∙_, sym, ap}
-use Prim.Native.Nat.{_≤_, _+_, _-_}
+use Prim.Native.Nat.{_≤_, _-_}
 use lib.ListN.{drop}
 use denote.Ref.{now}
 use native.Mathlib.Omega.{arith}
@@ -10,10 +10,6 @@ use Rattle.spans.specs.Spans.{spanned}
 use borrow.Author.Needs.{needs}
 use Rattle.spans.proofs.same_span.Statement.{statement}
 use Rattle.spans.proofs.same_span.Tie as tie
-use Rattle.spans.proofs.same_span.Reads as reads
-use Rattle.spans.proofs.same_span.Lts as lts
-use Rattle.spans.proofs.unit_of.Reads as unit-of-reads
-use Rattle.unc.proofs.fold.Reads as fold-reads
 
 abbrev Inv-loop : tie.InvT-loop
 Inv-loop r s name n i₀ i = (i ≤ n) × (sameName (spanned r s) name ≡ sameName (drop i (spanned r s)) (drop i name))
@@ -43,7 +39,7 @@ fold-requires-2 : tie.Need-fold-requires-2 Inv-loop μ-loop
 fold-requires-2 c κs = search needs
 
 returns-2 : tie.Need-returns-2 Inv-loop μ-loop
-returns-2 c = 
+returns-2 c =
     let l = length-spanned (now (c .before .before .before .before .before .before .before .before .before .before .args .r)) (c .before .before .before .before .before .before .before .before .before .before .args .s) in
     sym (c .before .before .before .before .before .before .loop .inv .1 ∙ same-miss (spanned (now (c .before .before .before .before .before .before .before .before .before .before .args .r)) (c .before .before .before .before .before .before .before .before .before .before .args .s)) (now (c .before .before .before .before .before .before .before .before .before .before .args .name)) (c .before .before .before .before .before .before .loop .i) (omega arith) (omega arith) (c .before .before .before .fold .ensures ∙ ap folded (c .before .before .before .before .unit-of .ensures)) (c .before .fold2 .ensures) (c .if2 .taken))
 
@@ -54,12 +50,12 @@ loop-less : tie.Need-loop-less Inv-loop μ-loop
 loop-less c = search needs
 
 loop-again : tie.Need-loop-again Inv-loop μ-loop
-loop-again c = 
+loop-again c =
     let l = length-spanned (now (c .before .before .before .before .before .before .before .before .before .before .args .r)) (c .before .before .before .before .before .before .before .before .before .before .args .s) in
     (search needs, c .before .before .before .before .before .before .loop .inv .1 ∙ same-hit (spanned (now (c .before .before .before .before .before .before .before .before .before .before .args .r)) (c .before .before .before .before .before .before .before .before .before .before .args .s)) (now (c .before .before .before .before .before .before .before .before .before .before .args .name)) (c .before .before .before .before .before .before .loop .i) (omega arith) (omega arith) (c .before .before .before .fold .ensures ∙ ap folded (c .before .before .before .before .unit-of .ensures)) (c .before .fold2 .ensures) (c .if2 .left))
 
 returns-3 : tie.Need-returns-3 Inv-loop μ-loop
-returns-3 c = 
+returns-3 c =
     let l = length-spanned (now (c .before .before .before .before .before .args .r)) (c .before .before .before .before .before .args .s) in
     sym (c .before .loop .inv .1 ∙ same-end (spanned (now (c .before .before .before .before .before .args .r)) (c .before .before .before .before .before .args .s)) (now (c .before .before .before .before .before .args .name)) (c .before .loop .i) (omega arith) (omega arith))
 

@@ -1,6 +1,6 @@
 use mathlib.Core.Path.{_∙_, sym, ap}
 use Prim.Native.Nat.{ℕ, _-_}
-use lib.ListN.{getD, length}
+use lib.ListN.{getD}
 use denote.Ref.{now}
 use native.Mathlib.Omega.{arith}
 use Rattle.unc.proofs.FormLaws.{trail-none, trail-dropped, trail-kept}
@@ -9,9 +9,6 @@ use Rattle.spans.specs.Spans.{spanned}
 use borrow.Author.Needs.{needs}
 use Rattle.spans.proofs.trail.Statement.{statement}
 use Rattle.spans.proofs.trail.Tie as tie
-use Rattle.spans.proofs.trail.Reads as reads
-use Rattle.spans.proofs.trail.Lts as lts
-use Rattle.spans.proofs.unit_of.Reads as unit-of-reads
 
 returns : tie.Need-returns
 returns c = sym (trail-none (spanned (now (c .before .before .args .r)) (c .before .before .args .s)) (c .before .before .args .from) (omega (arith, length-spanned (now (c .before .before .args .r)) (c .before .before .args .s))))
@@ -26,13 +23,13 @@ sub-result : tie.Need-sub-result
 sub-result c = search needs
 
 returns-2 : tie.Need-returns-2
-returns-2 c = 
+returns-2 c =
     let l = length-spanned (now (c .before .before .before .before .args .r)) (c .before .before .before .before .args .s) in
     let e = ap (λ (k : ℕ). getD (spanned (now (c .before .before .before .before .args .r)) (c .before .before .before .before .args .s)) (k - 1) 0) l in
     sym (trail-dropped (spanned (now (c .before .before .before .before .args .r)) (c .before .before .before .before .args .s)) (c .before .before .before .before .args .from) (omega arith) (e ∙ (sym (c .before .unit-of .ensures) ∙ c .if2 .taken)) ∙ omega arith)
 
 returns-3 : tie.Need-returns-3
-returns-3 c = 
+returns-3 c =
     let l = length-spanned (now (c .before .before .before .before .args .r)) (c .before .before .before .before .args .s) in
     let e = ap (λ (k : ℕ). getD (spanned (now (c .before .before .before .before .args .r)) (c .before .before .before .before .args .s)) (k - 1) 0) l in
     sym (trail-kept (spanned (now (c .before .before .before .before .args .r)) (c .before .before .before .before .args .s)) (c .before .before .before .before .args .from) (omega arith) (λ z. c .if2 .left (c .before .unit-of .ensures ∙ (sym e ∙ z))) ∙ l)

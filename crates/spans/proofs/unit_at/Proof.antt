@@ -1,4 +1,3 @@
-use denote.Ref.{now}
 use Prim.Native.Nat.{_+_}
 use mathlib.Core.Path.{refl}
 use native.Mathlib.Omega.{arith}
@@ -6,8 +5,6 @@ use Rattle.spans.specs.Bytes.{u16At}
 use borrow.Author.Needs.{needs}
 use Rattle.spans.proofs.unit_at.Statement.{statement}
 use Rattle.spans.proofs.unit_at.Tie as tie
-use Rattle.spans.proofs.unit_at.Reads as reads
-use Rattle.spans.proofs.unit_at.Lts as lts
 
 shared-slice-read-result : tie.Need-shared-slice-read-result
 shared-slice-read-result c = search needs

@@ -6,9 +6,6 @@ use Rattle.spans.proofs.UnitLaws.{unit-spanned}
 use borrow.Author.Needs.{needs}
 use Rattle.spans.proofs.unit_of.Statement.{statement}
 use Rattle.spans.proofs.unit_of.Tie as tie
-use Rattle.spans.proofs.unit_of.Reads as reads
-use Rattle.spans.proofs.unit_of.Lts as lts
-use Rattle.spans.proofs.unit_at.Reads as unit-at-reads
 
 mul-unit-at : tie.Need-mul-unit-at
 mul-unit-at c = search needs

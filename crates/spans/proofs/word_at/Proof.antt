@@ -1,13 +1,10 @@
 -- A number of two units, the low one first.
-use mathlib.Core.Path.{refl, ap₂}
+use mathlib.Core.Path.{ap₂}
 use Prim.Native.Nat.{ℕ, _+_, _*_}
 use Rattle.spans.specs.Bytes.{u32At}
 use borrow.Author.Needs.{needs}
 use Rattle.spans.proofs.word_at.Statement.{statement}
 use Rattle.spans.proofs.word_at.Tie as tie
-use Rattle.spans.proofs.word_at.Reads as reads
-use Rattle.spans.proofs.word_at.Lts as lts
-use Rattle.spans.proofs.unit_at.Reads as unit-at-reads
 
 unit-at-requires : tie.Need-unit-at-requires
 unit-at-requires c κs = search needs

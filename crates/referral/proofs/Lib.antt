@@ -1,1 +1,3 @@
 -- Laws of requests and replies.
+pub mod TextLaws
+pub mod EntryLaws

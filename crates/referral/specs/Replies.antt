@@ -54,12 +54,12 @@ pathOf (ended s) =
     choose (goodPath s && (leb (length (normalised s)) pathUnits && leb 2 (componentCount (normalised s)))) (normalised s) []
 
 -- A DC's name, "with or without a leading backslash", which is not kept; [] of any other text.
+unfoldable pub bare : List ℕ → List ℕ
+bare s = choose (eqb (getD s 0 0) backslash) (drop 1 s) s
+
 unfoldable pub dcOf : Text → List ℕ
 dcOf unended = []
 dcOf (ended s) = choose (goodName (bare s)) (bare s) []
-  where
-    bare : List ℕ → List ℕ
-    bare t = choose (eqb (getD t 0 0) backslash) (drop 1 t) t
 
 -- A domain's name, written "\domain"; [] of any other text.
 unfoldable pub domainOf : Text → List ℕ
@@ -86,16 +86,18 @@ prefixAt r e = pathOf (textOf 12 r e)
 unfoldable pub targetAt : List ℕ → ℕ → List ℕ
 targetAt r e = pathOf (textOf 16 r e)
 
--- one entry, held to the first one (at 8): a known version, ServerType 1 or 0, NameListReferral clear, one version, one ServerType and one DFSPath
-unfoldable pub goodEntry : List ℕ → ℕ → Bool
-goodEntry r e =
+-- the numbers of one entry, held to the first one (at 8): a known version, ServerType 1 or 0, NameListReferral clear, one version and one ServerType
+unfoldable pub goodFields : List ℕ → ℕ → Bool
+goodFields r e =
     readable (versionAt r e)
     && (eqb (versionAt r e) (versionAt r 8)
     && (fits (fixedLength (versionAt r e)) r e
-    && (not (entryFlag 2 r e)
-    && (leb (serverTypeAt r e) 1
-    && (eqb (serverTypeAt r e) (serverTypeAt r 8)
-    && (isRead (prefixAt r e) && (sameName (prefixAt r e) (prefixAt r 8) && isRead (targetAt r e))))))))
+    && (not (entryFlag 2 r e) && (leb (serverTypeAt r e) 1 && eqb (serverTypeAt r e) (serverTypeAt r 8)))))
+
+-- one entry: its numbers, one DFSPath, and its target
+unfoldable pub goodEntry : List ℕ → ℕ → Bool
+goodEntry r e =
+    goodFields r e && (isRead (prefixAt r e) && (sameName (prefixAt r e) (prefixAt r 8) && isRead (targetAt r e)))
 
 -- A kept target: its path, and whether a target set opens before it.
 pub record Target : Type 0 where

@@ -1,1 +1,235 @@
 // Referral requests and replies on lent bytes: document 01, "Layouts".
+ghost use mathlib.Core.Path.{_≡_};
+ghost use mathlib.Core.Bool.{true};
+ghost use mathlib.Core.List.{List, [], _∷_, map};
+ghost use Prim.Native.Nat.{_+_, _-_, _*_, _≤_, _<_, min};
+ghost use lib.ListN.{length, take};
+ghost use Rattle.laws.specs.Lists.{every, pasted};
+ghost use Rattle.spans.specs.Bytes.{u16At, flag, ended, textAt};
+ghost use Rattle.spans.specs.Spans.{spanned, Inside};
+ghost use Rattle.referral.specs.Request.{bytesOf, request};
+ghost use Rattle.referral.specs.Replies.{pathOf, bare, dcOf, domainOf, isRead, textOf, textsAt};
+ghost use Rattle.referral.specs.Replies.{referralCount, versionAt, sizeAt, serverTypeAt, starts, entries, fits, readable};
+ghost use Rattle.referral.specs.Replies.{goodFields, goodEntry, keptTargets, prefixAt, referralIn, readReferral};
+ghost use Rattle.referral.specs.Replies.{says, goodDcs, readDcs, domainAt, goodDomain, readDomains};
+ghost use Rattle.referral.specs.Found.{inside, keptInside, targetShown, denoted, denotedDcs, answerOf, asked, bufferWith};
+
+use spans::Span;
+use spans::Read;
+
+const BACKSLASH: u16 = 92;
+
+// The most units of a normalised path.
+const PATH_UNITS: usize = 256;
+
+// What a reply is read as.
+pub enum Answer {
+    Malformed,
+    Nothing,
+    Says,
+}
+
+// A kept target, and whether a target set opens before it.
+pub struct Kept {
+    pub path: Span,
+    pub opens: bool,
+}
+
+// A reply to a root, link or SYSVOL request: its texts are spans of the reply. The first `targets` places of `kept` are the targets.
+pub struct ReferralFound {
+    pub answer: Answer,
+    pub version: u16,
+    pub root: bool,
+    pub servers: bool,
+    pub storage: bool,
+    pub failback: bool,
+    pub count: u16,
+    pub ttl: u32,
+    pub prefix: Span,
+    pub kept: [Kept; 8],
+    pub targets: usize,
+}
+
+// A DC reply: the first `count` places of `kept` are the DC names.
+pub struct DcsFound {
+    pub answer: Answer,
+    pub kept: [Span; 8],
+    pub count: usize,
+}
+
+// What writing a request answers.
+pub enum Asked {
+    Bytes(usize),
+    TooShort,
+}
+
+// Whether the flag m, a power of two, is set.
+fn has_flag(m: u16, f: u16) -> bool
+    requires { ⌜ 0 < m ⌝ }
+    ensures { λ v. ⌜ v ≡ flag m f ⌝ }
+{
+    f / m % 2 == 1
+}
+
+// The path in a text, normalised; no units where it is bad, too long or has less than 2 components.
+fn path_span(r: &[u8], s: Span) -> Span
+    requires { ⌜ Inside (now r) s ⌝ }
+    ensures path { λ v. ⌜ spanned (now (r .entry)) v ≡ pathOf (ended (spanned (now (r .entry)) s)) ⌝ }
+    ensures inside { λ v. ⌜ Inside (now (r .entry)) v ⌝ }
+{
+    let from = spans::lead(r, s);
+    if from == 0 {
+        return Span { from: 0, units: 0 };
+    }
+    let to = spans::trail(r, s, from);
+    let n = spans::good_count(r, spans::part(s, from, to));
+    if n < 2 {
+        return Span { from: 0, units: 0 };
+    }
+    if PATH_UNITS < to - from + 1 {
+        return Span { from: 0, units: 0 };
+    }
+    spans::part(s, from - 1, to)
+}
+
+// The path at a byte; no units where there is none.
+fn path_at(r: &[u8], at: usize) -> Span
+    ensures path { λ v. ⌜ spanned (now (r .entry)) v ≡ pathOf (textAt (now (r .entry)) at) ⌝ }
+    ensures inside { λ v. ⌜ Inside (now (r .entry)) v ⌝ }
+{
+    let Read::Ended { units } = spans::read_text(r, at) else {
+        return Span { from: 0, units: 0 };
+    };
+    path_span(r, Span { from: at, units })
+}
+
+// The path whose offset from the entry at e stands f bytes into it.
+fn path_of(r: &[u8], e: usize, f: usize) -> Span
+    requires { ⌜ (e + f + 1 < length (now r)) × (length (now r) < 4294967296) ⌝ }
+    ensures path { λ v. ⌜ spanned (now (r .entry)) v ≡ pathOf (textOf f (now (r .entry)) e) ⌝ }
+    ensures inside { λ v. ⌜ Inside (now (r .entry)) v ⌝ }
+{
+    let o = spans::unit_at(r, e + f) as usize;
+    path_at(r, e + o)
+}
+
+// A name without a leading backslash.
+fn bare(r: &[u8], s: Span) -> Span
+    requires { ⌜ Inside (now r) s ⌝ }
+    ensures name { λ v. ⌜ spanned (now (r .entry)) v ≡ bare (spanned (now (r .entry)) s) ⌝ }
+    ensures inside { λ v. ⌜ Inside (now (r .entry)) v ⌝ }
+{
+    let n = s.units;
+    if n == 0 {
+        return s;
+    }
+    if spans::unit_of(r, s, 0) != BACKSLASH {
+        return s;
+    }
+    spans::part(s, 1, n)
+}
+
+// The DC name in a text; no units where it is not one.
+fn dc_span(r: &[u8], s: Span) -> Span
+    requires { ⌜ Inside (now r) s ⌝ }
+    ensures name { λ v. ⌜ spanned (now (r .entry)) v ≡ dcOf (ended (spanned (now (r .entry)) s)) ⌝ }
+    ensures inside { λ v. ⌜ Inside (now (r .entry)) v ⌝ }
+{
+    let b = bare(r, s);
+    if spans::good_name(r, b) {
+        return b;
+    }
+    Span { from: 0, units: 0 }
+}
+
+// The domain name in a text "\domain"; no units where it is not one.
+fn domain_span(r: &[u8], s: Span) -> Span
+    requires { ⌜ Inside (now r) s ⌝ }
+    ensures name { λ v. ⌜ spanned (now (r .entry)) v ≡ domainOf (ended (spanned (now (r .entry)) s)) ⌝ }
+    ensures inside { λ v. ⌜ Inside (now (r .entry)) v ⌝ }
+{
+    let n = s.units;
+    if n == 0 {
+        return Span { from: 0, units: 0 };
+    }
+    if spans::unit_of(r, s, 0) != BACKSLASH {
+        return Span { from: 0, units: 0 };
+    }
+    let b = spans::part(s, 1, n);
+    if spans::good_name(r, b) {
+        return b;
+    }
+    Span { from: 0, units: 0 }
+}
+
+// The domain name of the entry at e.
+pub fn domain_at(r: &[u8], e: usize) -> Span
+    requires { ⌜ (e + 13 < length (now r)) × (length (now r) < 4294967296) ⌝ }
+    ensures name { λ v. ⌜ spanned (now (r .entry)) v ≡ domainAt (now (r .entry)) e ⌝ }
+    ensures inside { λ v. ⌜ Inside (now (r .entry)) v ⌝ }
+{
+    let o = spans::unit_at(r, e + 12) as usize;
+    let at = e + o;
+    let Read::Ended { units } = spans::read_text(r, at) else {
+        return Span { from: 0, units: 0 };
+    };
+    domain_span(r, Span { from: at, units })
+}
+
+// Where the entry after the one at e starts.
+pub fn next_entry(r: &[u8], e: usize) -> usize
+    requires { ⌜ (e + 3 < length (now r)) × (length (now r) < 4294967296) ⌝ }
+    ensures { λ v. ⌜ v ≡ e + sizeAt (now (r .entry)) e ⌝ }
+{
+    e + spans::unit_at(r, e + 2) as usize
+}
+
+// Size is at least the fixed length and the entry lies inside the reply.
+fn entry_fits(r: &[u8], e: usize, fixed: usize) -> bool
+    requires { ⌜ (4 ≤ fixed) × (e ≤ length (now r)) ⌝ }
+    ensures { λ v. ⌜ v ≡ fits fixed (now (r .entry)) e ⌝ }
+{
+    if r.len() - e < fixed {
+        return false;
+    }
+    let size = spans::unit_at(r, e + 2) as usize;
+    if size < fixed {
+        return false;
+    }
+    size <= r.len() - e
+}
+
+fn is_readable(v: u16) -> bool
+    ensures { λ r. ⌜ r ≡ readable v ⌝ }
+{
+    if v == 3 {
+        return true;
+    }
+    v == 4
+}
+
+// The numbers of the entry at e, held to those of the first one.
+fn good_fields(r: &[u8], e: usize, version: u16, kind: u16) -> bool
+    requires { ⌜ (e ≤ length (now r)) × ((version ≡ versionAt (now r) 8) × (kind ≡ serverTypeAt (now r) 8)) ⌝ }
+    ensures { λ v. ⌜ v ≡ goodFields (now (r .entry)) e ⌝ }
+{
+    if !entry_fits(r, e, 34) {
+        return false;
+    }
+    let v = spans::unit_at(r, e);
+    if v != version {
+        return false;
+    }
+    if !is_readable(v) {
+        return false;
+    }
+    let flags = spans::unit_at(r, e + 6);
+    if has_flag(2, flags) {
+        return false;
+    }
+    let t = spans::unit_at(r, e + 4);
+    if 1 < t {
+        return false;
+    }
+    t == kind
+}

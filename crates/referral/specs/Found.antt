@@ -1,0 +1,70 @@
+-- What the readers hand on: spans of the reply and numbers. Each is given its meaning here, in the words of Replies.antt.
+use Prim.Native.Nat.{ℕ, _+_, _*_}
+use mathlib.Core.Bool.{Bool}
+use mathlib.Core.List.{List, map}
+use lib.ListN.{length, take}
+use lib.Dec.{leb}
+use Rattle.laws.specs.Choice.{choose}
+use Rattle.laws.specs.Lists.{pasted}
+use Rattle.spans.specs.Spans.{spanned}
+use Rattle.spans.specs.declared.Span.{Span}
+use Rattle.referral.specs.Request.{request}
+use Rattle.referral.specs.Replies.{Target, Referral, Reply, malformed, nothing, says}
+use Rattle.referral.specs.declared.Kept.{Kept}
+use Rattle.referral.specs.declared.ReferralFound.{ReferralFound}
+use Rattle.referral.specs.declared.DcsFound.{DcsFound}
+use Rattle.referral.specs.declared.Answer.{Answer}
+use Rattle.referral.specs.declared.Answer.the-variants.{Malformed, Nothing, Says}
+use Rattle.referral.specs.declared.Asked.{Asked}
+use Rattle.referral.specs.declared.Asked.the-variants.{Bytes, TooShort}
+
+-- a span inside the reply
+unfoldable pub inside : List ℕ → Span → Bool
+inside r s = leb (s .from + 2 * s .units) (length r)
+
+unfoldable pub keptInside : List ℕ → Kept → Bool
+keptInside r k = inside r (k .path)
+
+-- a kept target
+unfoldable pub targetShown : List ℕ → Kept → Target
+targetShown r k = record { path = spanned r (k .path); opens = k .opens }
+
+-- one of the three ways of a reply
+unfoldable pub answered : {A : Type 0} → Answer → A → Reply A
+answered Malformed a = malformed
+answered Nothing a = nothing
+answered Says a = says a
+
+unfoldable pub referralShown : List ℕ → ReferralFound → Referral
+referralShown r f = record {
+    version = f .version;
+    root = f .root;
+    referralServers = f .servers;
+    storageServers = f .storage;
+    failback = f .failback;
+    count = f .count;
+    ttl = f .ttl;
+    prefix = spanned r (f .prefix);
+    targets = map (targetShown r) (take (f .targets) (f .kept))
+  }
+
+-- what a reader's answer says, given the reply
+unfoldable pub denoted : List ℕ → ReferralFound → Reply Referral
+denoted r f = answered (f .answer) (referralShown r f)
+
+unfoldable pub denotedDcs : List ℕ → DcsFound → Reply (List (List ℕ))
+denotedDcs r f = answered (f .answer) (map (spanned r) (take (f .count) (f .kept)))
+
+-- which of the three ways a reply is read
+unfoldable pub answerOf : {A : Type 0} → Reply A → Answer
+answerOf malformed = Malformed
+answerOf nothing = Nothing
+answerOf (says a) = Says
+
+-- a request written into a buffer of n bytes, or told to be longer
+unfoldable pub asked : ℕ → List ℕ → Asked
+asked n name = choose (leb (length (request name)) n) (Bytes (length (request name))) TooShort
+
+-- the buffer after that
+unfoldable pub bufferWith : List ℕ → List ℕ → List ℕ
+bufferWith name out = choose (leb (length (request name)) (length out)) (pasted out 0 (request name)) out

@@ -1,15 +1,16 @@
 -- What the readers hand on: spans of the reply and numbers. Each is given its meaning here, in the words of Replies.antt.
 use Prim.Native.Nat.{ℕ, _+_, _*_}
+use mathlib.Core.Path.{_≡_}
 use mathlib.Core.Bool.{Bool}
 use mathlib.Core.List.{List, map}
 use lib.ListN.{length, take}
 use lib.Dec.{leb}
 use Rattle.laws.specs.Choice.{choose}
 use Rattle.laws.specs.Lists.{pasted}
-use Rattle.spans.specs.Spans.{spanned}
+use Rattle.spans.specs.Spans.{spanned, Inside}
 use Rattle.spans.specs.declared.Span.{Span}
 use Rattle.referral.specs.Request.{request}
-use Rattle.referral.specs.Replies.{Target, Referral, Reply, malformed, nothing, says}
+use Rattle.referral.specs.Replies.{versionAt, serverTypeAt, prefixAt, Target, Referral, Reply, malformed, nothing, says}
 use Rattle.referral.specs.declared.Kept.{Kept}
 use Rattle.referral.specs.declared.ReferralFound.{ReferralFound}
 use Rattle.referral.specs.declared.DcsFound.{DcsFound}
@@ -21,6 +22,13 @@ use Rattle.referral.specs.declared.Asked.the-variants.{Bytes, TooShort}
 -- a span inside the reply
 unfoldable pub inside : List ℕ → Span → Bool
 inside r s = leb (s .from + 2 * s .units) (length r)
+
+-- the first entry's version, ServerType and DFSPath, which all others are held to
+pub record Held (r : List ℕ) (version kind : ℕ) (first : Span) : Type 0 where
+  pub version-is : version ≡ versionAt r 8
+  pub kind-is : kind ≡ serverTypeAt r 8
+  pub first-is : spanned r first ≡ prefixAt r 8
+  pub first-inside : Inside r first
 
 unfoldable pub keptInside : List ℕ → Kept → Bool
 keptInside r k = inside r (k .path)

@@ -12,7 +12,7 @@ ghost use Rattle.referral.specs.Replies.{pathOf, bare, dcOf, domainOf, i
 ghost use Rattle.referral.specs.Replies.{referralCount, versionAt, sizeAt, serverTypeAt, starts, entries, fits, readable};
 ghost use Rattle.referral.specs.Replies.{goodFields, goodEntry, keptTargets, prefixAt, referralIn, readReferral};
 ghost use Rattle.referral.specs.Replies.{says, goodDcs, readDcs, domainAt, goodDomain, readDomains};
-ghost use Rattle.referral.specs.Found.{inside, keptInside, targetShown, denoted, denotedDcs, answerOf, asked, bufferWith};
+ghost use Rattle.referral.specs.Found.{inside, Held, keptInside, targetShown, denoted, denotedDcs, answerOf, asked, bufferWith};
 
 use spans::Span;
 use spans::Read;
@@ -64,7 +64,7 @@ pub enum Asked {
 }
 
 // Whether the flag m, a power of two, is set.
-fn has_flag(m: u16, f: u16) -> bool
+fn has_flag(m: u32, f: u32) -> bool
     requires { ⌜ 0 < m ⌝ }
     ensures { λ v. ⌜ v ≡ flag m f ⌝ }
 {
@@ -224,7 +224,7 @@ fn good_fields(r: &[u8], e: usize, version: u16, kind: u16) -> bool
         return false;
     }
     let flags = spans::unit_at(r, e + 6);
-    if has_flag(2, flags) {
+    if has_flag(2, flags as u32) {
         return false;
     }
     let t = spans::unit_at(r, e + 4);
@@ -232,4 +232,47 @@ fn good_fields(r: &[u8], e: usize, version: u16, kind: u16) -> bool
         return false;
     }
     t == kind
+}
+
+// The entry at e, held to the first one: its version, ServerType and DFSPath.
+fn good_entry(r: &[u8], e: usize, version: u16, kind: u16, first: Span) -> bool
+    requires { ⌜ Held (now r) version kind first × ((e ≤ length (now r)) × (length (now r) < 4294967296)) ⌝ }
+    ensures { λ v. ⌜ v ≡ goodEntry (now (r .entry)) e ⌝ }
+{
+    if !good_fields(r, e, version, kind) {
+        return false;
+    }
+    let p = path_of(r, e, 12);
+    if p.units == 0 {
+        return false;
+    }
+    if !spans::same_spans(r, p, first) {
+        return false;
+    }
+    let t = path_of(r, e, 16);
+    t.units != 0
+}
+
+// All entries of a reply that has some.
+fn good_entries(r: &[u8]) -> bool
+    requires { ⌜ (8 ≤ length (now r)) × ((length (now r) < 4294967296) × (0 < referralCount (now r))) ⌝ }
+    ensures { λ v. ⌜ v ≡ every (goodEntry (now (r .entry))) (entries (now (r .entry))) ⌝ }
+{
+    let n = spans::unit_at(r, 2) as usize;
+    if r.len() < 42 {
+        return false;
+    }
+    let version = spans::unit_at(r, 8);
+    let kind = spans::unit_at(r, 12);
+    let first = path_of(r, 8, 12);
+    let mut e = 8;
+    let mut i = 0;
+    while i < n {
+        if !good_entry(r, e, version, kind, first) {
+            return false;
+        }
+        e = next_entry(r, e);
+        i += 1;
+    }
+    true
 }

@@ -158,11 +158,11 @@ unended-text unended h = refl
 unended-text (ended s) h = absurd (let z : _≡_ {A = ℕ} 0 1 = cc in omega arith)
 
 pub record EndedAt (r : List ℕ) (i n : ℕ) : Type 0 where
-  pub is : textAt r i ≡ ended (unitsAt n i r)
+  pub is : textAt r i ≡ ended (spanned r (record { from = i; units = n }))
   pub within : i + (2 * n + 2) ≤ length r
 
 ended-text : (r : List ℕ) (i n : ℕ) (x : Text) → ((y : List ℕ) → x ≡ ended y → Begins (drop i r) y) → Ended n ≡ textEnd 0 x → textAt r i ≡ x → EndedAt r i n
-unfolding textEnd
+unfolding textEnd spanned
 ended-text r i n unended f h e = absurd (let z : _≡_ {A = ℕ} 0 1 = cc in omega arith)
 ended-text r i n (ended y) f h e =
     let p : n ≡ 0 + length y = cc in

@@ -1,3 +1,17 @@
+-- The domain name of an entry.
+use denote.Ref.{now}
+use mathlib.Core.Path.{_≡_, refl, sym, ap, _∙_}
+use Prim.Native.Nat.{ℕ, _+_, _-_, _*_, _≤_, _<_}
+use lib.ListN.{length, getD, take, drop}
+use native.Mathlib.Omega.{arith}
+use Rattle.spans.specs.Bytes.{ended, unended, textAt, u16At, flag}
+use Rattle.spans.specs.Spans.{spanned, partOf, Inside}
+use Rattle.spans.specs.declared.Span.{Span}
+use Rattle.spans.proofs.UnitLaws.{length-spanned, part-spanned, inside-is, ended-at, unended-at, EndedAt}
+use Rattle.referral.specs.Replies.{pathOf, bare, dcOf, domainOf, textOf, versionAt, sizeAt, serverTypeAt, fits, readable, goodFields, goodEntry, starts, entries}
+use Rattle.referral.proofs.TextLaws.{none-spanned, path-unled-at, path-over, path-few, path-found, rest-spanned, bare-stays, bare-drops, dc-yes, dc-no, domain-unled, domain-no, domain-yes, path-unended, domain-unended, dc-unended}
+use Rattle.referral.proofs.EntryLaws.{flag-is, readable-three, readable-other, fits-short, fits-small, fits-size, fits-room, fields-unfit, fields-version, fields-unread, fields-list, fields-type, fields-good, fields-fit}
+use Rattle.referral.specs.Replies.{domainAt}
 use borrow.Author.Needs.{needs}
 use Rattle.referral.proofs.domain_at.Statement.{statement}
 use Rattle.referral.proofs.domain_at.Tie as tie
@@ -7,45 +21,44 @@ use Rattle.referral.proofs.domain_span.Reads as domain-span-reads
 use Rattle.spans.proofs.read_text.Reads as read-text-reads
 use Rattle.spans.proofs.unit_at.Reads as unit-at-reads
 
--- src/lib.rt:171:31
 add-unit-at : tie.Need-add-unit-at
 add-unit-at c = search needs
 
--- src/lib.rt:171:13
 unit-at-requires : tie.Need-unit-at-requires
 unit-at-requires c κs = search needs
 
--- src/lib.rt:171:13
 cast-o : tie.Need-cast-o
 cast-o c = search needs
 
--- src/lib.rt:172:14
 add-at : tie.Need-add-at
 add-at c = search needs
 
--- src/lib.rt:173:33
 read-text-requires : tie.Need-read-text-requires
 read-text-requires c κs = search needs
 
--- src/lib.rt:173:23
 enum-known-units : tie.Need-enum-known-units
 enum-known-units c = search needs
 
--- src/lib.rt:174:9
 enum-told : tie.Need-enum-told
 enum-told c = search needs
 
--- src/lib.rt:174:9
 returns : tie.Need-returns
-returns c = ?
+unfolding domainAt textOf
+returns c = 
+    let t = sym (ap (λ (o : ℕ). textAt (now (c .before .before .before .before .before .args .r)) (c .before .before .before .before .before .args .e + o)) (c .before .before .before .unit-at .ensures)) in
+    (none-spanned (now (c .before .before .before .before .before .args .r)) (domain-unended (t ∙ unended-at (now (c .before .before .before .before .before .args .r)) (c .before .before .before .before .before .args .e + c .before .before .before .unit-at .result) (sym (c .enum-told .given .1) ∙ c .before .before .read-text .ensures))), omega arith)
 
--- src/lib.rt:176:5
 domain-span-requires : tie.Need-domain-span-requires
-domain-span-requires c κs = ?
+domain-span-requires c κs = 
+    let w = ended-at (now (c .before .before .before .before .before .before .args .r)) (c .before .before .before .before .before .before .args .e + c .before .before .before .before .unit-at .result) _ (sym (c .before .units .given .1) ∙ c .before .before .before .read-text .ensures) in
+    omega (arith, w .within)
 
--- src/lib.rt:166:1
 returns-2 : tie.Need-returns-2
-returns-2 c = ?
+unfolding domainAt textOf
+returns-2 c = 
+    let t = sym (ap (λ (o : ℕ). textAt (now (c .before .before .before .before .before .before .before .args .r)) (c .before .before .before .before .before .before .before .args .e + o)) (c .before .before .before .before .before .unit-at .ensures)) in
+    let w = ended-at (now (c .before .before .before .before .before .before .before .args .r)) (c .before .before .before .before .before .before .before .args .e + c .before .before .before .before .before .unit-at .result) _ (sym (c .before .before .units .given .1) ∙ c .before .before .before .before .read-text .ensures) in
+    (c .domain-span .ensures .0 ∙ sym (ap domainOf (t ∙ w .is)), c .domain-span .ensures .1)
 
 pub domain-at-spec : {M : Type 1} → statement M
 domain-at-spec =

@@ -1,3 +1,17 @@
+-- The numbers of an entry, held to those of the first one.
+use denote.Ref.{now}
+use mathlib.Core.Path.{_≡_, refl, sym, ap, _∙_}
+use Prim.Native.Nat.{ℕ, _+_, _-_, _*_, _≤_, _<_}
+use lib.ListN.{length, getD, take, drop}
+use native.Mathlib.Omega.{arith}
+use Rattle.spans.specs.Bytes.{ended, unended, textAt, u16At, flag}
+use Rattle.spans.specs.Spans.{spanned, partOf, Inside}
+use Rattle.spans.specs.declared.Span.{Span}
+use Rattle.spans.proofs.UnitLaws.{length-spanned, part-spanned, inside-is, ended-at, unended-at, EndedAt}
+use Rattle.referral.specs.Replies.{pathOf, bare, dcOf, domainOf, textOf, versionAt, sizeAt, serverTypeAt, fits, readable, goodFields, goodEntry, starts, entries}
+use Rattle.referral.proofs.TextLaws.{none-spanned, path-unled-at, path-over, path-few, path-found, rest-spanned, bare-stays, bare-drops, dc-yes, dc-no, domain-unled, domain-no, domain-yes, path-unended, domain-unended, dc-unended}
+use Rattle.referral.proofs.EntryLaws.{flag-is, readable-three, readable-other, fits-short, fits-small, fits-size, fits-room, fields-unfit, fields-version, fields-unread, fields-list, fields-type, fields-good, fields-fit}
+use borrow.Author.Tests.{not-true, not-false}
 use borrow.Author.Needs.{needs}
 use Rattle.referral.proofs.good_fields.Statement.{statement}
 use Rattle.referral.proofs.good_fields.Tie as tie
@@ -8,61 +22,56 @@ use Rattle.referral.proofs.has_flag.Reads as has-flag-reads
 use Rattle.referral.proofs.is_readable.Reads as is-readable-reads
 use Rattle.spans.proofs.unit_at.Reads as unit-at-reads
 
--- src/lib.rt:216:9
 entry-fits-requires : tie.Need-entry-fits-requires
 entry-fits-requires c κs = search needs
 
--- src/lib.rt:217:9
 returns : tie.Need-returns
-returns c = ?
+returns c = fields-unfit (now (c .before .before .before .args .r)) (c .before .before .before .args .e) (c .before .entry-fits .ensures) (not-true _ (c .if1 .taken))
 
--- src/lib.rt:219:9
 unit-at-requires : tie.Need-unit-at-requires
-unit-at-requires c κs = ?
+unit-at-requires c κs = 
+    let w = fits-room 34 (now (c .before .before .before .args .r)) (c .before .before .before .args .e) (c .before .entry-fits .ensures) (not-false _ (c .if1 .left)) in
+    omega (arith, w .0, w .1)
 
--- src/lib.rt:221:9
 returns-2 : tie.Need-returns-2
-returns-2 c = ?
+returns-2 c = fields-version (now (c .before .before .before .before .before .args .r)) (c .before .before .before .before .before .args .e) (c .before .unit-at .ensures) (c .before .before .before .before .before .pre .1 .0) (c .if2 .taken)
 
--- src/lib.rt:223:9
 is-readable-requires : tie.Need-is-readable-requires
 is-readable-requires c κs = search needs
 
--- src/lib.rt:224:9
 returns-3 : tie.Need-returns-3
-returns-3 c = ?
+returns-3 c = fields-unread (now (c .before .before .before .before .before .before .before .args .r)) (c .before .before .before .before .before .before .before .args .e) (c .before .before .before .unit-at .ensures) (c .before .is-readable .ensures) (not-true _ (c .if3 .taken))
 
--- src/lib.rt:226:35
 add-unit-at : tie.Need-add-unit-at
 add-unit-at c = search needs
 
--- src/lib.rt:226:9
 unit-at-requires-2 : tie.Need-unit-at-requires-2
-unit-at-requires-2 c κs = ?
+unit-at-requires-2 c κs = 
+    let w = fits-room 34 (now (c .before .before .before .before .before .before .before .args .r)) (c .before .before .before .before .before .before .before .args .e) (c .before .before .before .before .before .entry-fits .ensures) (not-false _ (c .before .before .before .before .if1 .left)) in
+    omega (arith, w .0, w .1)
 
--- src/lib.rt:227:8
+cast-has-flag : tie.Need-cast-has-flag
+cast-has-flag c = search needs
+
 has-flag-requires : tie.Need-has-flag-requires
 has-flag-requires c κs = search needs
 
--- src/lib.rt:228:9
 returns-4 : tie.Need-returns-4
-returns-4 c = ?
+returns-4 c = fields-list (now (c .before .before .before .before .before .before .before .before .before .before .args .r)) (c .before .before .before .before .before .before .before .before .before .before .args .e) (c .before .before .before .before .before .before .before .before .entry-fits .ensures) (not-false _ (c .before .before .before .before .before .before .before .if1 .left)) (c .before .before .before .before .before .before .unit-at .ensures) (c .before .before .before .before .before .before .before .before .before .before .pre .1 .0) (c .before .before .before .before .before .if2 .left) (c .before .before .before .before .is-readable .ensures) (not-false _ (c .before .before .before .if3 .left)) (c .before .before .unit-at2 .ensures) (c .before .has-flag .ensures) (c .if4 .taken)
 
--- src/lib.rt:230:31
 add-unit-at-2 : tie.Need-add-unit-at-2
 add-unit-at-2 c = search needs
 
--- src/lib.rt:230:9
 unit-at-requires-3 : tie.Need-unit-at-requires-3
-unit-at-requires-3 c κs = ?
+unit-at-requires-3 c κs = 
+    let w = fits-room 34 (now (c .before .before .before .before .before .before .before .before .before .before .args .r)) (c .before .before .before .before .before .before .before .before .before .before .args .e) (c .before .before .before .before .before .before .before .before .entry-fits .ensures) (not-false _ (c .before .before .before .before .before .before .before .if1 .left)) in
+    omega (arith, w .0, w .1)
 
--- src/lib.rt:232:9
 returns-5 : tie.Need-returns-5
-returns-5 c = ?
+returns-5 c = fields-type (now (c .before .before .before .before .before .before .before .before .before .before .before .before .args .r)) (c .before .before .before .before .before .before .before .before .before .before .before .before .args .e) (c .before .before .before .before .before .before .before .before .before .before .entry-fits .ensures) (not-false _ (c .before .before .before .before .before .before .before .before .before .if1 .left)) (c .before .before .before .before .before .before .before .before .unit-at .ensures) (c .before .before .before .before .before .before .before .before .before .before .before .before .pre .1 .0) (c .before .before .before .before .before .before .before .if2 .left) (c .before .before .before .before .before .before .is-readable .ensures) (not-false _ (c .before .before .before .before .before .if3 .left)) (c .before .before .before .before .unit-at2 .ensures) (c .before .before .before .has-flag .ensures) (c .before .before .if4 .left) (c .before .unit-at3 .ensures) (c .if5 .taken)
 
--- src/lib.rt:212:1
 returns-6 : tie.Need-returns-6
-returns-6 c = ?
+returns-6 c = fields-good (now (c .before .before .before .before .before .before .before .before .before .before .before .before .args .r)) (c .before .before .before .before .before .before .before .before .before .before .before .before .args .e) (c .before .before .before .before .before .before .before .before .before .before .entry-fits .ensures) (not-false _ (c .before .before .before .before .before .before .before .before .before .if1 .left)) (c .before .before .before .before .before .before .before .before .unit-at .ensures) (c .before .before .before .before .before .before .before .before .before .before .before .before .pre .1 .0) (c .before .before .before .before .before .before .before .if2 .left) (c .before .before .before .before .before .before .is-readable .ensures) (not-false _ (c .before .before .before .before .before .if3 .left)) (c .before .before .before .before .unit-at2 .ensures) (c .before .before .before .has-flag .ensures) (c .before .before .if4 .left) (c .before .unit-at3 .ensures) (c .before .before .before .before .before .before .before .before .before .before .before .before .pre .1 .1) (omega arith)
 
 pub good-fields-spec : {M : Type 1} → statement M
 good-fields-spec =
@@ -76,6 +85,7 @@ good-fields-spec =
     returns-3
     add-unit-at
     unit-at-requires-2
+    cast-has-flag
     has-flag-requires
     returns-4
     add-unit-at-2

@@ -1,3 +1,21 @@
+-- All entries, one after another.
+use denote.Ref.{now}
+use mathlib.Core.Path.{_≡_, refl, sym, ap, _∙_}
+use Prim.Native.Nat.{ℕ, _+_, _-_, _*_, _≤_, _<_}
+use lib.ListN.{length, getD, take, drop}
+use native.Mathlib.Omega.{arith}
+use Rattle.spans.specs.Bytes.{ended, unended, textAt, u16At, flag}
+use Rattle.spans.specs.Spans.{spanned, partOf, Inside}
+use Rattle.spans.specs.declared.Span.{Span}
+use Rattle.spans.proofs.UnitLaws.{length-spanned, part-spanned, inside-is, ended-at, unended-at, EndedAt}
+use Rattle.referral.specs.Replies.{pathOf, bare, dcOf, domainOf, textOf, versionAt, sizeAt, serverTypeAt, fits, readable, goodFields, goodEntry, starts, entries}
+use Rattle.referral.proofs.TextLaws.{none-spanned, path-unled-at, path-over, path-few, path-found, rest-spanned, bare-stays, bare-drops, dc-yes, dc-no, domain-unled, domain-no, domain-yes, path-unended, domain-unended, dc-unended}
+use Rattle.referral.proofs.EntryLaws.{flag-is, readable-three, readable-other, fits-short, fits-small, fits-size, fits-room, fields-unfit, fields-version, fields-unread, fields-list, fields-type, fields-good, fields-fit}
+use borrow.Author.Tests.{not-true, not-false}
+use Rattle.laws.specs.Lists.{every}
+use Rattle.referral.specs.Replies.{versionAt, serverTypeAt, prefixAt, targetAt, referralCount}
+use Rattle.referral.specs.Found.{Held}
+use Rattle.referral.proofs.EntryLaws.{unread-spanned, read-spanned, read-test, entry-fields, entry-room, entry-fit, entry-prefix, entry-unlike, entry-good, starts-cons, starts-none, starts-hit, starts-miss, starts-end, entries-short, entry-short, entries-start}
 use borrow.Author.Needs.{needs}
 use Rattle.referral.proofs.good_entries.Statement.{statement}
 use Rattle.referral.proofs.good_entries.Tie as tie
@@ -9,66 +27,58 @@ use Rattle.referral.proofs.path_of.Reads as path-of-reads
 use Rattle.spans.proofs.unit_at.Reads as unit-at-reads
 
 abbrev Inv-loop : tie.InvT-loop
-Inv-loop r n version kind first e₀ i₀ e i = ?
+Inv-loop r n version kind first e₀ i₀ e i = (i ≤ n) × ((e ≤ length r) × (every (goodEntry r) (entries r) ≡ every (goodEntry r) (starts (n - i) e r)))
 
 abbrev μ-loop : tie.MeasureT-loop
-μ-loop r n version kind first e₀ i₀ e i = ?
+μ-loop r n version kind first e₀ i₀ e i = n - i
 
--- src/lib.rt:261:13
 unit-at-requires : tie.Need-unit-at-requires Inv-loop μ-loop
 unit-at-requires c κs = search needs
 
--- src/lib.rt:261:13
 cast-n : tie.Need-cast-n Inv-loop μ-loop
 cast-n c = search needs
 
--- src/lib.rt:263:9
 returns : tie.Need-returns Inv-loop μ-loop
-returns c = search needs
+returns c = sym (entries-short (goodEntry (now (c .before .before .before .args .r))) (now (c .before .before .before .args .r)) (omega arith) (entry-short (now (c .before .before .before .args .r)) (omega arith) (omega arith)))
 
--- src/lib.rt:265:9
 unit-at-requires-2 : tie.Need-unit-at-requires-2 Inv-loop μ-loop
 unit-at-requires-2 c κs = search needs
 
--- src/lib.rt:266:9
 unit-at-requires-3 : tie.Need-unit-at-requires-3 Inv-loop μ-loop
 unit-at-requires-3 c κs = search needs
 
--- src/lib.rt:267:9
 path-of-requires : tie.Need-path-of-requires Inv-loop μ-loop
 path-of-requires c κs = search needs
 
--- src/lib.rt:270:5
 loop-holds : tie.Need-loop-holds Inv-loop μ-loop
-loop-holds c = search needs
+unfolding prefixAt versionAt serverTypeAt referralCount
+loop-holds c = (search needs, (search needs, entries-start (goodEntry (now (c .before .before .before .before .before .before .args .r))) (now (c .before .before .before .before .before .before .args .r)) (c .before .before .before .before .unit-at .ensures)))
 
--- src/lib.rt:271:13
 good-entry-requires : tie.Need-good-entry-requires Inv-loop μ-loop
-good-entry-requires c κs = search needs
+unfolding prefixAt versionAt serverTypeAt referralCount
+good-entry-requires c κs = (record { version-is = c .before .before .before .before .unit-at2 .ensures; kind-is = c .before .before .before .unit-at3 .ensures; first-is = c .before .before .path-of .ensures .0; first-inside = c .before .before .path-of .ensures .1 }, (omega arith, omega arith))
 
--- src/lib.rt:272:13
 returns-2 : tie.Need-returns-2 Inv-loop μ-loop
-returns-2 c = search needs
+returns-2 c = sym (c .before .before .before .loop .inv .1 .1 ∙ starts-miss (goodEntry (now (c .before .before .before .before .before .before .before .before .before .before .args .r))) (now (c .before .before .before .before .before .before .before .before .before .before .args .r)) (c .before .before .before .before .before .before .before .before .unit-at .result) (c .before .before .before .loop .i) (c .before .before .before .loop .e) (omega arith) (c .before .good-entry .ensures) (not-true _ (c .if2 .taken)))
 
--- src/lib.rt:274:9
 next-entry-requires : tie.Need-next-entry-requires Inv-loop μ-loop
-next-entry-requires c κs = search needs
+next-entry-requires c κs = 
+    let w = entry-fit (now (c .before .before .before .before .before .before .before .before .before .before .args .r)) (c .before .before .before .loop .e) (c .before .good-entry .ensures) (not-false _ (c .if2 .left)) in
+    (omega (arith, w .0, w .1), omega arith)
 
--- src/lib.rt:275:9
 add-i : tie.Need-add-i Inv-loop μ-loop
 add-i c = search needs
 
--- src/lib.rt:270:5
 loop-less : tie.Need-loop-less Inv-loop μ-loop
 loop-less c = search needs
 
--- src/lib.rt:270:5
 loop-again : tie.Need-loop-again Inv-loop μ-loop
-loop-again c = search needs
+loop-again c = 
+    let w = entry-fit (now (c .before .before .before .before .before .before .before .before .before .before .before .args .r)) (c .before .before .before .before .loop .e) (c .before .before .good-entry .ensures) (not-false _ (c .before .if2 .left)) in
+    (omega arith, (omega (arith, c .next-entry .ensures, w .1), c .before .before .before .before .loop .inv .1 .1 ∙ starts-hit (goodEntry (now (c .before .before .before .before .before .before .before .before .before .before .before .args .r))) (now (c .before .before .before .before .before .before .before .before .before .before .before .args .r)) (c .before .before .before .before .before .before .before .before .before .unit-at .result) (c .before .before .before .before .loop .i) (c .before .before .before .before .loop .e) (omega arith) (c .before .before .good-entry .ensures) (not-false _ (c .before .if2 .left)) (c .next-entry .ensures)))
 
--- src/lib.rt:257:1
 returns-3 : tie.Need-returns-3 Inv-loop μ-loop
-returns-3 c = search needs
+returns-3 c = sym (c .before .loop .inv .1 .1 ∙ starts-end (goodEntry (now (c .before .before .before .before .before .before .before .before .args .r))) (now (c .before .before .before .before .before .before .before .before .args .r)) (c .before .before .before .before .before .before .unit-at .result) (c .before .loop .i) (c .before .loop .e) (omega arith))
 
 pub good-entries-spec : {M : Type 1} → statement M
 good-entries-spec =

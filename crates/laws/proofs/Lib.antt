@@ -2,5 +2,6 @@
 pub mod Choices
 pub mod Orders
 pub mod Pasting
+pub mod Filling
 pub mod Every
 pub mod Chunks

@@ -1,3 +1,5 @@
 -- Laws of requests and replies.
 pub mod TextLaws
 pub mod EntryLaws
+pub mod TargetLaws
+pub mod ReplyLaws

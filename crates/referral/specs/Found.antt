@@ -1,16 +1,16 @@
 -- What the readers hand on: spans of the reply and numbers. Each is given its meaning here, in the words of Replies.antt.
-use Prim.Native.Nat.{ℕ, _+_, _*_}
+use Prim.Native.Nat.{ℕ, zero, suc, _+_, _*_, _≤_, _<_}
 use mathlib.Core.Path.{_≡_}
-use mathlib.Core.Bool.{Bool}
+use mathlib.Core.Bool.{Bool, true, false, _&&_}
 use mathlib.Core.List.{List, map}
-use lib.ListN.{length, take}
-use lib.Dec.{leb}
+use lib.ListN.{length, take, replicate}
+use lib.Dec.{leb, eqb}
 use Rattle.laws.specs.Choice.{choose}
-use Rattle.laws.specs.Lists.{pasted}
+use Rattle.laws.specs.Lists.{pasted, every}
 use Rattle.spans.specs.Spans.{spanned, Inside}
 use Rattle.spans.specs.declared.Span.{Span}
 use Rattle.referral.specs.Request.{request}
-use Rattle.referral.specs.Replies.{versionAt, serverTypeAt, prefixAt, Target, Referral, Reply, malformed, nothing, says}
+use Rattle.referral.specs.Replies.{versionAt, serverTypeAt, entryFlag, goodEntry, entries, prefixAt, Target, Referral, Reply, malformed, nothing, says}
 use Rattle.referral.specs.declared.Kept.{Kept}
 use Rattle.referral.specs.declared.ReferralFound.{ReferralFound}
 use Rattle.referral.specs.declared.DcsFound.{DcsFound}
@@ -32,6 +32,43 @@ pub record Held (r : List ℕ) (version kind : ℕ) (first : Span) : Type 0 wher
 
 unfoldable pub keptInside : List ℕ → Kept → Bool
 keptInside r k = inside r (k .path)
+
+-- a reply whose entries are good, with its prefix
+pub record Told (r : List ℕ) (prefix : Span) : Type 0 where
+  pub short : length r < 4294967296
+  pub long : 42 ≤ length r
+  pub good : every (goodEntry r) (entries r) ≡ true
+  pub prefix-is : spanned r prefix ≡ prefixAt r 8
+  pub prefix-inside : Inside r prefix
+
+-- every span that a reader hands on lies inside the reply
+pub record Within (r : List ℕ) (f : ReferralFound) : Type 0 where
+  pub prefix-within : Inside r (f .prefix)
+  pub kept-within : every (keptInside r) (f .kept) ≡ true
+
+-- nothing is handed on
+unfoldable pub noReferral : Answer → ReferralFound
+noReferral a = record {
+    answer = a;
+    version = 0;
+    root = false;
+    servers = false;
+    storage = false;
+    failback = false;
+    count = 0;
+    ttl = 0;
+    prefix = record { from = 0; units = 0 };
+    kept = replicate 8 (record { path = record { from = 0; units = 0 }; opens = false });
+    targets = 0
+  }
+
+unfoldable pub noDcs : Answer → DcsFound
+noDcs a = record { answer = a; kept = replicate 8 (record { from = 0; units = 0 }); count = 0 }
+
+-- a target set opens before the target of entry number i, which starts at e
+unfoldable pub opensAt : ℕ → List ℕ → ℕ → Bool
+opensAt zero r e = false
+opensAt (suc i) r e = eqb (versionAt r e) 4 && entryFlag 4 r e
 
 -- a kept target
 unfoldable pub targetShown : List ℕ → Kept → Target

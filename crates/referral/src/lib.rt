@@ -1,6 +1,7 @@
 // Referral requests and replies on lent bytes: document 01, "Layouts".
 ghost use mathlib.Core.Path.{_≡_};
-ghost use mathlib.Core.Bool.{true};
+ghost use mathlib.Core.Bool.{true, _&&_};
+ghost use lib.Dec.{eqb};
 ghost use mathlib.Core.List.{List, [], _∷_, map};
 ghost use Prim.Native.Nat.{_+_, _-_, _*_, _≤_, _<_, min};
 ghost use lib.ListN.{length, take};
@@ -12,7 +13,7 @@ ghost use Rattle.referral.specs.Replies.{pathOf, bare, dcOf, domainOf, i
 ghost use Rattle.referral.specs.Replies.{referralCount, versionAt, sizeAt, serverTypeAt, starts, entries, fits, readable};
 ghost use Rattle.referral.specs.Replies.{goodFields, goodEntry, keptTargets, prefixAt, referralIn, readReferral};
 ghost use Rattle.referral.specs.Replies.{says, goodDcs, readDcs, domainAt, goodDomain, readDomains};
-ghost use Rattle.referral.specs.Found.{inside, Held, keptInside, targetShown, denoted, denotedDcs, answerOf, asked, bufferWith};
+ghost use Rattle.referral.specs.Found.{inside, Held, Told, Within, noReferral, noDcs, opensAt, keptInside, targetShown, denoted, denotedDcs, answerOf, asked, bufferWith};
 
 use spans::Span;
 use spans::Read;
@@ -275,4 +276,131 @@ fn good_entries(r: &[u8]) -> bool
         i += 1;
     }
     true
+}
+
+// Whether a target set opens before the target of the entry at e, i entries being before it.
+fn opens_at(r: &[u8], e: usize, i: usize) -> bool
+    requires { ⌜ e + 7 < length (now r) ⌝ }
+    ensures { λ v. ⌜ v ≡ opensAt i (now (r .entry)) e ⌝ }
+{
+    if i == 0 {
+        return false;
+    }
+    if spans::unit_at(r, e) != 4 {
+        return false;
+    }
+    has_flag(4, spans::unit_at(r, e + 6) as u32)
+}
+
+// How many of n are kept.
+fn kept_of(n: usize) -> usize
+    ensures { λ v. ⌜ v ≡ min n 8 ⌝ }
+{
+    if n < 8 { n } else { 8 }
+}
+
+// The first 8 targets of a reply whose entries are good.
+fn targets(r: &[u8]) -> [Kept; 8]
+    requires { ⌜ (8 ≤ length (now r)) × ((length (now r) < 4294967296) × (every (goodEntry (now r)) (entries (now r)) ≡ true)) ⌝ }
+    ensures targets { λ v. ⌜ map (targetShown (now (r .entry))) (take (min (referralCount (now (r .entry))) 8) v) ≡ keptTargets (now (r .entry)) (take 8 (entries (now (r .entry)))) ⌝ }
+    ensures inside { λ v. ⌜ every (keptInside (now (r .entry))) v ≡ true ⌝ }
+{
+    let n = spans::unit_at(r, 2) as usize;
+    let m = kept_of(n);
+    let mut kept = [Kept {
+        path: Span { from: 0, units: 0 },
+        opens: false,
+    }; 8];
+    let mut e = 8;
+    let mut i = 0;
+    while i < m {
+        let path = path_of(r, e, 16);
+        let opens = opens_at(r, e, i);
+        kept[i] = Kept { path, opens };
+        e = next_entry(r, e);
+        i += 1;
+    }
+    kept
+}
+
+// TargetFailback: the header's flag 4 in version 4, else 0.
+fn failback_in(version: u16, flags: u32) -> bool
+    ensures { λ v. ⌜ v ≡ (eqb version 4 && flag 4 flags) ⌝ }
+{
+    if version != 4 {
+        return false;
+    }
+    has_flag(4, flags)
+}
+
+// What a reply says whose entries are good.
+fn referral_in(r: &[u8], prefix: Span) -> ReferralFound
+    requires { ⌜ Told (now r) prefix ⌝ }
+    ensures found { λ v. ⌜ denoted (now (r .entry)) v ≡ says (referralIn (now (r .entry))) ⌝ }
+    ensures within { λ v. ⌜ Within (now (r .entry)) v ⌝ }
+{
+    let version = spans::unit_at(r, 8);
+    let kind = spans::unit_at(r, 12);
+    let flags = spans::word_at(r, 4);
+    let count = spans::unit_at(r, 2);
+    let ttl = spans::word_at(r, 16);
+    let kept = targets(r);
+    ReferralFound {
+        answer: Answer::Says,
+        version,
+        root: kind == 1,
+        servers: has_flag(1, flags),
+        storage: has_flag(2, flags),
+        failback: failback_in(version, flags),
+        count,
+        ttl,
+        prefix,
+        kept,
+        targets: kept_of(count as usize),
+    }
+}
+
+fn no_referral(answer: Answer) -> ReferralFound
+    ensures { λ v. ⌜ v ≡ noReferral answer ⌝ }
+{
+    ReferralFound {
+        answer,
+        version: 0,
+        root: false,
+        servers: false,
+        storage: false,
+        failback: false,
+        count: 0,
+        ttl: 0,
+        prefix: Span { from: 0, units: 0 },
+        kept: [Kept {
+            path: Span { from: 0, units: 0 },
+            opens: false,
+        }; 8],
+        targets: 0,
+    }
+}
+
+// A reply to a root, link or SYSVOL request for the name asked, with the size asked for.
+pub fn read_referral(r: &[u8], size: u32, asked: &[u16]) -> ReferralFound
+    ensures found { λ v. ⌜ denoted (now (r .entry)) v ≡ readReferral size (now (asked .entry)) (now (r .entry)) ⌝ }
+    ensures within { λ v. ⌜ Within (now (r .entry)) v ⌝ }
+{
+    if r.len() < 8 {
+        return no_referral(Answer::Malformed);
+    }
+    if (size as usize) < r.len() {
+        return no_referral(Answer::Malformed);
+    }
+    if spans::unit_at(r, 2) == 0 {
+        return no_referral(Answer::Nothing);
+    }
+    if !good_entries(r) {
+        return no_referral(Answer::Malformed);
+    }
+    let prefix = path_of(r, 8, 12);
+    if !spans::span_matches(r, prefix, asked) {
+        return no_referral(Answer::Malformed);
+    }
+    referral_in(r, prefix)
 }

@@ -1,6 +1,7 @@
 -- Laws of replies as a whole.
 use mathlib.Core.Path.{_≡_, refl, sym, ap, _∙_}
-use mathlib.Core.Bool.{Bool, true, false, _&&_}
+use mathlib.Core.Bool.{Bool, true, false, _&&_, true≢false}
+use mathlib.Core.Logic.{_⊎_, inl, inr}
 use mathlib.Core.List.{List, [], _∷_, map}
 use Prim.Native.Nat.{ℕ, _+_, _-_, _*_, _≤_, _<_, min}
 use native.Mathlib.Omega.{arith}
@@ -13,13 +14,15 @@ use Rattle.laws.proofs.Choices.{choose-yes, choose-no, and-both, and-no-left, a
 use Rattle.spans.specs.Bytes.{u16At, u32At, flag}
 use Rattle.spans.specs.Spans.{spanned}
 use Rattle.spans.specs.declared.Span.{Span}
-use Rattle.referral.specs.Replies.{Reply, malformed, nothing, says, readAs, referralCount, versionAt, serverTypeAt, headerFlag, ttlAt, prefixAt, keptTargets, entries, Referral, referralIn}
+use Rattle.referral.specs.Replies.{goodEntry, Reply, malformed, nothing, says, readAs, referralCount, versionAt, serverTypeAt, headerFlag, ttlAt, prefixAt, keptTargets, entries, Referral, referralIn}
 use Rattle.referral.specs.Found.{answered, answerOf, denoted, denotedDcs, referralShown, targetShown, noReferral, noDcs, Within, keptInside}
 use Rattle.referral.specs.declared.Kept.{Kept}
 use Rattle.referral.specs.declared.ReferralFound.{ReferralFound}
 use Rattle.referral.specs.declared.DcsFound.{DcsFound}
 use Rattle.referral.specs.declared.Answer.{Answer}
 use Rattle.referral.specs.declared.Answer.the-variants.{Malformed, Nothing, Says}
+use Rattle.laws.proofs.Orders.{lt-or-le}
+use Rattle.referral.proofs.EntryLaws.{entries-short, entry-short}
 use Rattle.referral.proofs.TargetLaws.{none-kept}
 
 -- the ways of `readAs`, in the order of its tests
@@ -56,12 +59,20 @@ module _ (r : List ℕ) {f : ReferralFound} where
   unfolding denoted answered noReferral
   none-nothing e = ap (denoted r) e
 
-  pub none-within : {a : Answer} → f ≡ noReferral a → Within r f
+  pub none-within : (a : Answer) → f ≡ noReferral a → Within r f
   unfolding noReferral
-  none-within {a} e = mathlib.Core.Path.subst (Within r) (sym e) (record { prefix-within = omega arith; kept-within = none-kept r 8 })
+  none-within a e = mathlib.Core.Path.subst (Within r) (sym e) (record { prefix-within = omega arith; kept-within = none-kept r 8 })
 
 pub failback-other : (v f : ℕ) → (v ≡ 4 → ⊥) → false ≡ (eqb v 4 && flag 4 f)
 failback-other v f h = sym (and-no-left _ (ne-eqb v 4 h))
 
 pub failback-flag : (v f : ℕ) {t : Bool} → v ≡ 4 → t ≡ flag 4 f → t ≡ (eqb v 4 && flag 4 f)
 failback-flag v f h g = let x : eqb v 4 ≡ true = eq-eqb v 4 h in rw (x, ← g)
+
+-- good entries reach past the fixed part of the first
+pub good-long : (r : List ℕ) → 8 ≤ length r → 0 < referralCount r → every (goodEntry r) (entries r) ≡ true → 42 ≤ length r
+good-long r h k g = go (lt-or-le (length r) 42)
+  where
+    go : (length r < 42) ⊎ (42 ≤ length r) → 42 ≤ length r
+    go (inr z) = z
+    go (inl z) = absurd (true≢false (sym g ∙ entries-short (goodEntry r) r k (entry-short r h z)))

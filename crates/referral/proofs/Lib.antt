@@ -3,3 +3,4 @@ pub mod TextLaws
 pub mod EntryLaws
 pub mod TargetLaws
 pub mod ReplyLaws
+pub mod ListLaws

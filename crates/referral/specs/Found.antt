@@ -49,18 +49,18 @@ pub record Within (r : List ℕ) (f : ReferralFound) : Type 0 where
 -- nothing is handed on
 unfoldable pub noReferral : Answer → ReferralFound
 noReferral a = record {
-    answer = a;
-    version = 0;
-    root = false;
-    servers = false;
-    storage = false;
-    failback = false;
-    count = 0;
-    ttl = 0;
-    prefix = record { from = 0; units = 0 };
-    kept = replicate 8 (record { path = record { from = 0; units = 0 }; opens = false });
-    targets = 0
-  }
+  answer = a;
+  version = 0;
+  root = false;
+  servers = false;
+  storage = false;
+  failback = false;
+  count = 0;
+  ttl = 0;
+  prefix = record { from = 0; units = 0 };
+  kept = replicate 8 (record { path = record { from = 0; units = 0 }; opens = false });
+  targets = 0;
+}
 
 unfoldable pub noDcs : Answer → DcsFound
 noDcs a = record { answer = a; kept = replicate 8 (record { from = 0; units = 0 }); count = 0 }
@@ -82,16 +82,16 @@ answered Says a = says a
 
 unfoldable pub referralShown : List ℕ → ReferralFound → Referral
 referralShown r f = record {
-    version = f .version;
-    root = f .root;
-    referralServers = f .servers;
-    storageServers = f .storage;
-    failback = f .failback;
-    count = f .count;
-    ttl = f .ttl;
-    prefix = spanned r (f .prefix);
-    targets = map (targetShown r) (take (f .targets) (f .kept))
-  }
+  version = f .version;
+  root = f .root;
+  referralServers = f .servers;
+  storageServers = f .storage;
+  failback = f .failback;
+  count = f .count;
+  ttl = f .ttl;
+  prefix = spanned r (f .prefix);
+  targets = map (targetShown r) (take (f .targets) (f .kept));
+}
 
 -- what a reader's answer says, given the reply
 unfoldable pub denoted : List ℕ → ReferralFound → Reply Referral

@@ -12,11 +12,10 @@ ghost use Rattle.referral.specs.Request.{bytesOf, request};
 ghost use Rattle.referral.specs.Replies.{pathOf, bare, dcOf, domainOf, isRead, textOf, textsAt};
 ghost use Rattle.referral.specs.Replies.{referralCount, versionAt, sizeAt, serverTypeAt, starts, entries, fits, readable};
 ghost use Rattle.referral.specs.Replies.{goodFields, goodEntry, keptTargets, prefixAt, referralIn, readReferral};
-ghost use Rattle.referral.specs.Replies.{says, goodDcs, readDcs, domainAt, goodDomain, readDomains};
+ghost use Rattle.referral.specs.Replies.{says, bytesPast, dcNames, goodDcs, readDcs, domainAt, goodDomain, readDomains};
 ghost use Rattle.referral.specs.Found.{inside, Held, Told, Within, noReferral, noDcs, opensAt, keptInside, targetShown, denoted, denotedDcs, answerOf, asked, bufferWith};
-
-use spans::Span;
 use spans::Read;
+use spans::Span;
 
 const BACKSLASH: u16 = 92;
 
@@ -403,4 +402,190 @@ pub fn read_referral(r: &[u8], size: u32, asked: &[u16]) -> ReferralFound
         return no_referral(Answer::Malformed);
     }
     referral_in(r, prefix)
+}
+
+// A DC name, and where the text after it starts.
+struct Dc {
+    name: Span,
+    next: usize,
+}
+
+// The DC name at a byte; no units where there is none.
+fn dc_at(r: &[u8], at: usize) -> Dc
+    ensures name { λ v. ⌜ spanned (now (r .entry)) (v .name) ≡ dcOf (textAt (now (r .entry)) at) ⌝ }
+    ensures next { λ v. ⌜ v .next ≡ at + bytesPast (textAt (now (r .entry)) at) ⌝ }
+    ensures inside { λ v. ⌜ Inside (now (r .entry)) (v .name) ⌝ }
+{
+    let Read::Ended { units } = spans::read_text(r, at) else {
+        return Dc {
+            name: Span { from: 0, units: 0 },
+            next: at,
+        };
+    };
+    let name = dc_span(r, Span { from: at, units });
+    Dc {
+        name,
+        next: at + 2 * (units + 1),
+    }
+}
+
+// Whether the n texts from a byte on are DC names.
+fn good_names(r: &[u8], n: usize, from: usize) -> bool
+    ensures { λ v. ⌜ v ≡ every isRead (map dcOf (textsAt n from (now (r .entry)))) ⌝ }
+{
+    let mut at = from;
+    let mut i = 0;
+    while i < n {
+        let d = dc_at(r, at);
+        let s = d.name;
+        if s.units == 0 {
+            return false;
+        }
+        at = d.next;
+        i += 1;
+    }
+    true
+}
+
+// The first 8 of the n DC names from a byte on.
+fn names(r: &[u8], n: usize, from: usize) -> [Span; 8]
+    ensures names { λ v. ⌜ map (spanned (now (r .entry))) (take (min n 8) v) ≡ take 8 (map dcOf (textsAt n from (now (r .entry)))) ⌝ }
+    ensures inside { λ v. ⌜ every (inside (now (r .entry))) v ≡ true ⌝ }
+{
+    let m = kept_of(n);
+    let mut kept = [Span { from: 0, units: 0 }; 8];
+    let mut at = from;
+    let mut i = 0;
+    while i < m {
+        let d = dc_at(r, at);
+        let s = d.name;
+        kept[i] = s;
+        at = d.next;
+        i += 1;
+    }
+    kept
+}
+
+// The first entry of a DC reply.
+fn good_dcs(r: &[u8]) -> bool
+    requires { ⌜ 8 ≤ length (now r) ⌝ }
+    ensures { λ v. ⌜ v ≡ goodDcs (now (r .entry)) ⌝ }
+{
+    if !entry_fits(r, 8, 18) {
+        return false;
+    }
+    if !is_readable(spans::unit_at(r, 8)) {
+        return false;
+    }
+    if !has_flag(2, spans::unit_at(r, 14) as u32) {
+        return false;
+    }
+    let n = spans::unit_at(r, 22) as usize;
+    if n == 0 {
+        return false;
+    }
+    let o = spans::unit_at(r, 24) as usize;
+    good_names(r, n, 8 + o)
+}
+
+// What a good DC reply says.
+fn dcs_in(r: &[u8]) -> DcsFound
+    requires { ⌜ 26 ≤ length (now r) ⌝ }
+    ensures found { λ v. ⌜ denotedDcs (now (r .entry)) v ≡ says (take 8 (dcNames (now (r .entry)))) ⌝ }
+    ensures within { λ v. ⌜ every (inside (now (r .entry))) (v .kept) ≡ true ⌝ }
+{
+    let n = spans::unit_at(r, 22) as usize;
+    let o = spans::unit_at(r, 24) as usize;
+    let kept = names(r, n, 8 + o);
+    DcsFound {
+        answer: Answer::Says,
+        kept,
+        count: kept_of(n),
+    }
+}
+
+fn no_dcs(answer: Answer) -> DcsFound
+    ensures { λ v. ⌜ v ≡ noDcs answer ⌝ }
+{
+    DcsFound {
+        answer,
+        kept: [Span { from: 0, units: 0 }; 8],
+        count: 0,
+    }
+}
+
+// A DC reply, with the size asked for.
+pub fn read_dcs(r: &[u8], size: u32) -> DcsFound
+    ensures found { λ v. ⌜ denotedDcs (now (r .entry)) v ≡ readDcs size (now (r .entry)) ⌝ }
+    ensures within { λ v. ⌜ every (inside (now (r .entry))) (v .kept) ≡ true ⌝ }
+{
+    if r.len() < 8 {
+        return no_dcs(Answer::Malformed);
+    }
+    if (size as usize) < r.len() {
+        return no_dcs(Answer::Malformed);
+    }
+    if spans::unit_at(r, 2) == 0 {
+        return no_dcs(Answer::Nothing);
+    }
+    if !good_dcs(r) {
+        return no_dcs(Answer::Malformed);
+    }
+    dcs_in(r)
+}
+
+// The entry at e of a domain reply.
+fn good_domain(r: &[u8], e: usize) -> bool
+    requires { ⌜ (e ≤ length (now r)) × (length (now r) < 4294967296) ⌝ }
+    ensures { λ v. ⌜ v ≡ goodDomain (now (r .entry)) e ⌝ }
+{
+    if !entry_fits(r, e, 18) {
+        return false;
+    }
+    if spans::unit_at(r, e) != 3 {
+        return false;
+    }
+    if !has_flag(2, spans::unit_at(r, e + 6) as u32) {
+        return false;
+    }
+    let d = domain_at(r, e);
+    d.units != 0
+}
+
+// All entries of a domain reply.
+fn good_domains(r: &[u8]) -> bool
+    requires { ⌜ (8 ≤ length (now r)) × (length (now r) < 4294967296) ⌝ }
+    ensures { λ v. ⌜ v ≡ every (goodDomain (now (r .entry))) (entries (now (r .entry))) ⌝ }
+{
+    let n = spans::unit_at(r, 2) as usize;
+    let mut e = 8;
+    let mut i = 0;
+    while i < n {
+        if !good_domain(r, e) {
+            return false;
+        }
+        e = next_entry(r, e);
+        i += 1;
+    }
+    true
+}
+
+// A domain reply, with the size asked for. Of one that says something the names are read one by one: `domain_at` of the entry at 8, then
+// of each that `next_entry` gives.
+pub fn read_domains(r: &[u8], size: u32) -> Answer
+    ensures { λ v. ⌜ v ≡ answerOf (readDomains size (now (r .entry))) ⌝ }
+{
+    if r.len() < 8 {
+        return Answer::Malformed;
+    }
+    if (size as usize) < r.len() {
+        return Answer::Malformed;
+    }
+    if spans::unit_at(r, 2) == 0 {
+        return Answer::Nothing;
+    }
+    if !good_domains(r) {
+        return Answer::Malformed;
+    }
+    Answer::Says
 }

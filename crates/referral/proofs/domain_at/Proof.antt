@@ -1,25 +1,16 @@
 -- The domain name of an entry.
 use denote.Ref.{now}
-use mathlib.Core.Path.{_≡_, refl, sym, ap, _∙_}
-use Prim.Native.Nat.{ℕ, _+_, _-_, _*_, _≤_, _<_}
-use lib.ListN.{length, getD, take, drop}
+use mathlib.Core.Path.{sym, ap, _∙_}
+use Prim.Native.Nat.{ℕ, _+_, _-_}
 use native.Mathlib.Omega.{arith}
-use Rattle.spans.specs.Bytes.{ended, unended, textAt, u16At, flag}
-use Rattle.spans.specs.Spans.{spanned, partOf, Inside}
-use Rattle.spans.specs.declared.Span.{Span}
-use Rattle.spans.proofs.UnitLaws.{length-spanned, part-spanned, inside-is, ended-at, unended-at, EndedAt}
-use Rattle.referral.specs.Replies.{pathOf, bare, dcOf, domainOf, textOf, versionAt, sizeAt, serverTypeAt, fits, readable, goodFields, goodEntry, starts, entries}
-use Rattle.referral.proofs.TextLaws.{none-spanned, path-unled-at, path-over, path-few, path-found, rest-spanned, bare-stays, bare-drops, dc-yes, dc-no, domain-unled, domain-no, domain-yes, path-unended, domain-unended, dc-unended}
-use Rattle.referral.proofs.EntryLaws.{flag-is, readable-three, readable-other, fits-short, fits-small, fits-size, fits-room, fields-unfit, fields-version, fields-unread, fields-list, fields-type, fields-good, fields-fit}
+use Rattle.spans.specs.Bytes.{textAt}
+use Rattle.spans.proofs.UnitLaws.{ended-at, unended-at}
+use Rattle.referral.specs.Replies.{domainOf, textOf}
+use Rattle.referral.proofs.TextLaws.{none-spanned, domain-unended}
 use Rattle.referral.specs.Replies.{domainAt}
 use borrow.Author.Needs.{needs}
 use Rattle.referral.proofs.domain_at.Statement.{statement}
 use Rattle.referral.proofs.domain_at.Tie as tie
-use Rattle.referral.proofs.domain_at.Reads as reads
-use Rattle.referral.proofs.domain_at.Lts as lts
-use Rattle.referral.proofs.domain_span.Reads as domain-span-reads
-use Rattle.spans.proofs.read_text.Reads as read-text-reads
-use Rattle.spans.proofs.unit_at.Reads as unit-at-reads
 
 add-unit-at : tie.Need-add-unit-at
 add-unit-at c = search needs
@@ -44,18 +35,18 @@ enum-told c = search needs
 
 returns : tie.Need-returns
 unfolding domainAt textOf
-returns c = 
+returns c =
     let t = sym (ap (λ (o : ℕ). textAt (now (c .before .before .before .before .before .args .r)) (c .before .before .before .before .before .args .e + o)) (c .before .before .before .unit-at .ensures)) in
     (none-spanned (now (c .before .before .before .before .before .args .r)) (domain-unended (t ∙ unended-at (now (c .before .before .before .before .before .args .r)) (c .before .before .before .before .before .args .e + c .before .before .before .unit-at .result) (sym (c .enum-told .given .1) ∙ c .before .before .read-text .ensures))), omega arith)
 
 domain-span-requires : tie.Need-domain-span-requires
-domain-span-requires c κs = 
+domain-span-requires c κs =
     let w = ended-at (now (c .before .before .before .before .before .before .args .r)) (c .before .before .before .before .before .before .args .e + c .before .before .before .before .unit-at .result) _ (sym (c .before .units .given .1) ∙ c .before .before .before .read-text .ensures) in
     omega (arith, w .within)
 
 returns-2 : tie.Need-returns-2
 unfolding domainAt textOf
-returns-2 c = 
+returns-2 c =
     let t = sym (ap (λ (o : ℕ). textAt (now (c .before .before .before .before .before .before .before .args .r)) (c .before .before .before .before .before .before .before .args .e + o)) (c .before .before .before .before .before .unit-at .ensures)) in
     let w = ended-at (now (c .before .before .before .before .before .before .before .args .r)) (c .before .before .before .before .before .before .before .args .e + c .before .before .before .before .before .unit-at .result) _ (sym (c .before .before .units .given .1) ∙ c .before .before .before .before .read-text .ensures) in
     (c .domain-span .ensures .0 ∙ sym (ap domainOf (t ∙ w .is)), c .domain-span .ensures .1)

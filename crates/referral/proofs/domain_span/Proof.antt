@@ -1,25 +1,15 @@
 -- The domain name in a text.
 use denote.Ref.{now}
-use mathlib.Core.Path.{_≡_, refl, sym, ap, _∙_}
-use Prim.Native.Nat.{ℕ, _+_, _-_, _*_, _≤_, _<_}
-use lib.ListN.{length, getD, take, drop}
+use mathlib.Core.Path.{sym, ap, _∙_}
+use Prim.Native.Nat.{_-_}
 use native.Mathlib.Omega.{arith}
-use Rattle.spans.specs.Bytes.{ended, unended, textAt, u16At, flag}
-use Rattle.spans.specs.Spans.{spanned, partOf, Inside}
-use Rattle.spans.specs.declared.Span.{Span}
-use Rattle.spans.proofs.UnitLaws.{length-spanned, part-spanned, inside-is, ended-at, unended-at, EndedAt}
-use Rattle.referral.specs.Replies.{pathOf, bare, dcOf, domainOf, textOf, versionAt, sizeAt, serverTypeAt, fits, readable, goodFields, goodEntry, starts, entries}
-use Rattle.referral.proofs.TextLaws.{none-spanned, path-unled-at, path-over, path-few, path-found, rest-spanned, bare-stays, bare-drops, dc-yes, dc-no, domain-unled, domain-no, domain-yes, path-unended, domain-unended, dc-unended}
-use Rattle.referral.proofs.EntryLaws.{flag-is, readable-three, readable-other, fits-short, fits-small, fits-size, fits-room, fields-unfit, fields-version, fields-unread, fields-list, fields-type, fields-good, fields-fit}
+use Rattle.spans.specs.Spans.{spanned, partOf}
+use Rattle.spans.proofs.UnitLaws.{length-spanned, inside-is}
+use Rattle.referral.proofs.TextLaws.{none-spanned, rest-spanned, domain-unled, domain-no, domain-yes}
 use Rattle.unc.proofs.FormLaws.{past-end}
 use borrow.Author.Needs.{needs}
 use Rattle.referral.proofs.domain_span.Statement.{statement}
 use Rattle.referral.proofs.domain_span.Tie as tie
-use Rattle.referral.proofs.domain_span.Reads as reads
-use Rattle.referral.proofs.domain_span.Lts as lts
-use Rattle.spans.proofs.good_name.Reads as good-name-reads
-use Rattle.spans.proofs.part.Reads as part-reads
-use Rattle.spans.proofs.unit_of.Reads as unit-of-reads
 
 returns : tie.Need-returns
 returns c = (none-spanned (now (c .before .before .args .r)) (domain-unled (spanned (now (c .before .before .args .r)) (c .before .before .args .s)) (past-end (spanned (now (c .before .before .args .r)) (c .before .before .args .s)) 0 (omega (arith, length-spanned (now (c .before .before .args .r)) (c .before .before .args .s))))), omega arith)

@@ -1,30 +1,17 @@
 -- All entries, one after another.
 use denote.Ref.{now}
-use mathlib.Core.Path.{_≡_, refl, sym, ap, _∙_}
-use Prim.Native.Nat.{ℕ, _+_, _-_, _*_, _≤_, _<_}
-use lib.ListN.{length, getD, take, drop}
+use mathlib.Core.Path.{_≡_, sym, _∙_}
+use Prim.Native.Nat.{_-_, _≤_}
+use lib.ListN.{length}
 use native.Mathlib.Omega.{arith}
-use Rattle.spans.specs.Bytes.{ended, unended, textAt, u16At, flag}
-use Rattle.spans.specs.Spans.{spanned, partOf, Inside}
-use Rattle.spans.specs.declared.Span.{Span}
-use Rattle.spans.proofs.UnitLaws.{length-spanned, part-spanned, inside-is, ended-at, unended-at, EndedAt}
-use Rattle.referral.specs.Replies.{pathOf, bare, dcOf, domainOf, textOf, versionAt, sizeAt, serverTypeAt, fits, readable, goodFields, goodEntry, starts, entries}
-use Rattle.referral.proofs.TextLaws.{none-spanned, path-unled-at, path-over, path-few, path-found, rest-spanned, bare-stays, bare-drops, dc-yes, dc-no, domain-unled, domain-no, domain-yes, path-unended, domain-unended, dc-unended}
-use Rattle.referral.proofs.EntryLaws.{flag-is, readable-three, readable-other, fits-short, fits-small, fits-size, fits-room, fields-unfit, fields-version, fields-unread, fields-list, fields-type, fields-good, fields-fit}
+use Rattle.referral.specs.Replies.{versionAt, serverTypeAt, goodEntry, starts, entries}
 use borrow.Author.Tests.{not-true, not-false}
 use Rattle.laws.specs.Lists.{every}
-use Rattle.referral.specs.Replies.{versionAt, serverTypeAt, prefixAt, targetAt, referralCount}
-use Rattle.referral.specs.Found.{Held}
-use Rattle.referral.proofs.EntryLaws.{unread-spanned, read-spanned, read-test, entry-fields, entry-room, entry-fit, entry-prefix, entry-unlike, entry-good, starts-cons, starts-none, starts-hit, starts-miss, starts-end, entries-short, entry-short, entries-start}
+use Rattle.referral.specs.Replies.{versionAt, serverTypeAt, prefixAt, referralCount}
+use Rattle.referral.proofs.EntryLaws.{entry-fit, starts-hit, starts-miss, starts-end, entries-short, entry-short, entries-start}
 use borrow.Author.Needs.{needs}
 use Rattle.referral.proofs.good_entries.Statement.{statement}
 use Rattle.referral.proofs.good_entries.Tie as tie
-use Rattle.referral.proofs.good_entries.Reads as reads
-use Rattle.referral.proofs.good_entries.Lts as lts
-use Rattle.referral.proofs.good_entry.Reads as good-entry-reads
-use Rattle.referral.proofs.next_entry.Reads as next-entry-reads
-use Rattle.referral.proofs.path_of.Reads as path-of-reads
-use Rattle.spans.proofs.unit_at.Reads as unit-at-reads
 
 abbrev Inv-loop : tie.InvT-loop
 Inv-loop r n version kind first e₀ i₀ e i = (i ≤ n) × ((e ≤ length r) × (every (goodEntry r) (entries r) ≡ every (goodEntry r) (starts (n - i) e r)))
@@ -62,7 +49,7 @@ returns-2 : tie.Need-returns-2 Inv-loop μ-loop
 returns-2 c = sym (c .before .before .before .loop .inv .1 .1 ∙ starts-miss (goodEntry (now (c .before .before .before .before .before .before .before .before .before .before .args .r))) (now (c .before .before .before .before .before .before .before .before .before .before .args .r)) (c .before .before .before .before .before .before .before .before .unit-at .result) (c .before .before .before .loop .i) (c .before .before .before .loop .e) (omega arith) (c .before .good-entry .ensures) (not-true _ (c .if2 .taken)))
 
 next-entry-requires : tie.Need-next-entry-requires Inv-loop μ-loop
-next-entry-requires c κs = 
+next-entry-requires c κs =
     let w = entry-fit (now (c .before .before .before .before .before .before .before .before .before .before .args .r)) (c .before .before .before .loop .e) (c .before .good-entry .ensures) (not-false _ (c .if2 .left)) in
     (omega (arith, w .0, w .1), omega arith)
 
@@ -73,7 +60,7 @@ loop-less : tie.Need-loop-less Inv-loop μ-loop
 loop-less c = search needs
 
 loop-again : tie.Need-loop-again Inv-loop μ-loop
-loop-again c = 
+loop-again c =
     let w = entry-fit (now (c .before .before .before .before .before .before .before .before .before .before .before .args .r)) (c .before .before .before .before .loop .e) (c .before .before .good-entry .ensures) (not-false _ (c .before .if2 .left)) in
     (omega arith, (omega (arith, c .next-entry .ensures, w .1), c .before .before .before .before .loop .inv .1 .1 ∙ starts-hit (goodEntry (now (c .before .before .before .before .before .before .before .before .before .before .before .args .r))) (now (c .before .before .before .before .before .before .before .before .before .before .before .args .r)) (c .before .before .before .before .before .before .before .before .before .unit-at .result) (c .before .before .before .before .loop .i) (c .before .before .before .before .loop .e) (omega arith) (c .before .before .good-entry .ensures) (not-false _ (c .before .if2 .left)) (c .next-entry .ensures)))
 

@@ -1,29 +1,12 @@
 -- One entry, held to the first one.
 use denote.Ref.{now}
-use mathlib.Core.Path.{_≡_, refl, sym, ap, _∙_}
-use Prim.Native.Nat.{ℕ, _+_, _-_, _*_, _≤_, _<_}
-use lib.ListN.{length, getD, take, drop}
+use Prim.Native.Nat.{_-_}
 use native.Mathlib.Omega.{arith}
-use Rattle.spans.specs.Bytes.{ended, unended, textAt, u16At, flag}
-use Rattle.spans.specs.Spans.{spanned, partOf, Inside}
-use Rattle.spans.specs.declared.Span.{Span}
-use Rattle.spans.proofs.UnitLaws.{length-spanned, part-spanned, inside-is, ended-at, unended-at, EndedAt}
-use Rattle.referral.specs.Replies.{pathOf, bare, dcOf, domainOf, textOf, versionAt, sizeAt, serverTypeAt, fits, readable, goodFields, goodEntry, starts, entries}
-use Rattle.referral.proofs.TextLaws.{none-spanned, path-unled-at, path-over, path-few, path-found, rest-spanned, bare-stays, bare-drops, dc-yes, dc-no, domain-unled, domain-no, domain-yes, path-unended, domain-unended, dc-unended}
-use Rattle.referral.proofs.EntryLaws.{flag-is, readable-three, readable-other, fits-short, fits-small, fits-size, fits-room, fields-unfit, fields-version, fields-unread, fields-list, fields-type, fields-good, fields-fit}
 use borrow.Author.Tests.{not-true, not-false}
-use Rattle.laws.specs.Lists.{every}
-use Rattle.referral.specs.Replies.{versionAt, serverTypeAt, prefixAt, targetAt, referralCount}
-use Rattle.referral.specs.Found.{Held}
-use Rattle.referral.proofs.EntryLaws.{unread-spanned, read-spanned, read-test, entry-fields, entry-room, entry-fit, entry-prefix, entry-unlike, entry-good, starts-cons, starts-none, starts-hit, starts-miss, starts-end, entries-short, entry-short, entries-start}
-use borrow.Author.Needs.{needs}
+use Rattle.referral.specs.Replies.{prefixAt, targetAt}
+use Rattle.referral.proofs.EntryLaws.{entry-fields, entry-room, entry-prefix, entry-unlike, entry-good}
 use Rattle.referral.proofs.good_entry.Statement.{statement}
 use Rattle.referral.proofs.good_entry.Tie as tie
-use Rattle.referral.proofs.good_entry.Reads as reads
-use Rattle.referral.proofs.good_entry.Lts as lts
-use Rattle.referral.proofs.good_fields.Reads as good-fields-reads
-use Rattle.referral.proofs.path_of.Reads as path-of-reads
-use Rattle.spans.proofs.same_spans.Reads as same-spans-reads
 
 good-fields-requires : tie.Need-good-fields-requires
 good-fields-requires c κs = (omega arith, (c .before .pre .0 .version-is, c .before .pre .0 .kind-is))
@@ -33,7 +16,7 @@ unfolding prefixAt targetAt
 returns c = entry-fields (now (c .before .before .before .args .r)) (c .before .before .before .args .e) (c .before .good-fields .ensures) (not-true _ (c .if1 .taken))
 
 path-of-requires : tie.Need-path-of-requires
-path-of-requires c κs = 
+path-of-requires c κs =
     let w = entry-room (now (c .before .before .before .args .r)) (c .before .before .before .args .e) (c .before .good-fields .ensures) (not-false _ (c .if1 .left)) in
     (omega (arith, w .0, w .1), omega arith)
 
@@ -49,7 +32,7 @@ unfolding prefixAt targetAt
 returns-3 c = entry-unlike (now (c .before .before .before .before .before .before .before .before .args .r)) (c .before .before .before .before .before .before .before .before .args .e) (c .before .before .before .before .path-of .result) (c .before .before .before .before .path-of .ensures .0) (c .before .before .before .before .before .before .before .before .args .first) (c .before .before .before .before .before .before .before .before .pre .0 .first-is) (c .before .same-spans .ensures) (not-true _ (c .if3 .taken))
 
 path-of-requires-2 : tie.Need-path-of-requires-2
-path-of-requires-2 c κs = 
+path-of-requires-2 c κs =
     let w = entry-room (now (c .before .before .before .before .before .before .before .before .args .r)) (c .before .before .before .before .before .before .before .before .args .e) (c .before .before .before .before .before .before .good-fields .ensures) (not-false _ (c .before .before .before .before .before .if1 .left)) in
     (omega (arith, w .0, w .1), omega arith)
 

@@ -1,26 +1,12 @@
 -- The numbers of an entry, held to those of the first one.
 use denote.Ref.{now}
-use mathlib.Core.Path.{_≡_, refl, sym, ap, _∙_}
-use Prim.Native.Nat.{ℕ, _+_, _-_, _*_, _≤_, _<_}
-use lib.ListN.{length, getD, take, drop}
+use Prim.Native.Nat.{_-_}
 use native.Mathlib.Omega.{arith}
-use Rattle.spans.specs.Bytes.{ended, unended, textAt, u16At, flag}
-use Rattle.spans.specs.Spans.{spanned, partOf, Inside}
-use Rattle.spans.specs.declared.Span.{Span}
-use Rattle.spans.proofs.UnitLaws.{length-spanned, part-spanned, inside-is, ended-at, unended-at, EndedAt}
-use Rattle.referral.specs.Replies.{pathOf, bare, dcOf, domainOf, textOf, versionAt, sizeAt, serverTypeAt, fits, readable, goodFields, goodEntry, starts, entries}
-use Rattle.referral.proofs.TextLaws.{none-spanned, path-unled-at, path-over, path-few, path-found, rest-spanned, bare-stays, bare-drops, dc-yes, dc-no, domain-unled, domain-no, domain-yes, path-unended, domain-unended, dc-unended}
-use Rattle.referral.proofs.EntryLaws.{flag-is, readable-three, readable-other, fits-short, fits-small, fits-size, fits-room, fields-unfit, fields-version, fields-unread, fields-list, fields-type, fields-good, fields-fit}
+use Rattle.referral.proofs.EntryLaws.{fits-room, fields-unfit, fields-version, fields-unread, fields-list, fields-type, fields-good}
 use borrow.Author.Tests.{not-true, not-false}
 use borrow.Author.Needs.{needs}
 use Rattle.referral.proofs.good_fields.Statement.{statement}
 use Rattle.referral.proofs.good_fields.Tie as tie
-use Rattle.referral.proofs.good_fields.Reads as reads
-use Rattle.referral.proofs.good_fields.Lts as lts
-use Rattle.referral.proofs.entry_fits.Reads as entry-fits-reads
-use Rattle.referral.proofs.has_flag.Reads as has-flag-reads
-use Rattle.referral.proofs.is_readable.Reads as is-readable-reads
-use Rattle.spans.proofs.unit_at.Reads as unit-at-reads
 
 entry-fits-requires : tie.Need-entry-fits-requires
 entry-fits-requires c κs = search needs
@@ -29,7 +15,7 @@ returns : tie.Need-returns
 returns c = fields-unfit (now (c .before .before .before .args .r)) (c .before .before .before .args .e) (c .before .entry-fits .ensures) (not-true _ (c .if1 .taken))
 
 unit-at-requires : tie.Need-unit-at-requires
-unit-at-requires c κs = 
+unit-at-requires c κs =
     let w = fits-room 34 (now (c .before .before .before .args .r)) (c .before .before .before .args .e) (c .before .entry-fits .ensures) (not-false _ (c .if1 .left)) in
     omega (arith, w .0, w .1)
 
@@ -46,7 +32,7 @@ add-unit-at : tie.Need-add-unit-at
 add-unit-at c = search needs
 
 unit-at-requires-2 : tie.Need-unit-at-requires-2
-unit-at-requires-2 c κs = 
+unit-at-requires-2 c κs =
     let w = fits-room 34 (now (c .before .before .before .before .before .before .before .args .r)) (c .before .before .before .before .before .before .before .args .e) (c .before .before .before .before .before .entry-fits .ensures) (not-false _ (c .before .before .before .before .if1 .left)) in
     omega (arith, w .0, w .1)
 
@@ -63,7 +49,7 @@ add-unit-at-2 : tie.Need-add-unit-at-2
 add-unit-at-2 c = search needs
 
 unit-at-requires-3 : tie.Need-unit-at-requires-3
-unit-at-requires-3 c κs = 
+unit-at-requires-3 c κs =
     let w = fits-room 34 (now (c .before .before .before .before .before .before .before .before .before .before .args .r)) (c .before .before .before .before .before .before .before .before .before .before .args .e) (c .before .before .before .before .before .before .before .before .entry-fits .ensures) (not-false _ (c .before .before .before .before .before .before .before .if1 .left)) in
     omega (arith, w .0, w .1)
 

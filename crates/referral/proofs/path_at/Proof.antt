@@ -1,23 +1,14 @@
 -- The path at a byte.
 use denote.Ref.{now}
-use mathlib.Core.Path.{_≡_, refl, sym, ap, _∙_}
-use Prim.Native.Nat.{ℕ, _+_, _-_, _*_, _≤_, _<_}
-use lib.ListN.{length, getD, take, drop}
+use mathlib.Core.Path.{sym, ap, _∙_}
+use Prim.Native.Nat.{_-_}
 use native.Mathlib.Omega.{arith}
-use Rattle.spans.specs.Bytes.{ended, unended, textAt, u16At, flag}
-use Rattle.spans.specs.Spans.{spanned, partOf, Inside}
-use Rattle.spans.specs.declared.Span.{Span}
-use Rattle.spans.proofs.UnitLaws.{length-spanned, part-spanned, inside-is, ended-at, unended-at, EndedAt}
-use Rattle.referral.specs.Replies.{pathOf, bare, dcOf, domainOf, textOf, versionAt, sizeAt, serverTypeAt, fits, readable, goodFields, goodEntry, starts, entries}
-use Rattle.referral.proofs.TextLaws.{none-spanned, path-unled-at, path-over, path-few, path-found, rest-spanned, bare-stays, bare-drops, dc-yes, dc-no, domain-unled, domain-no, domain-yes, path-unended, domain-unended, dc-unended}
-use Rattle.referral.proofs.EntryLaws.{flag-is, readable-three, readable-other, fits-short, fits-small, fits-size, fits-room, fields-unfit, fields-version, fields-unread, fields-list, fields-type, fields-good, fields-fit}
+use Rattle.spans.proofs.UnitLaws.{ended-at, unended-at}
+use Rattle.referral.specs.Replies.{pathOf}
+use Rattle.referral.proofs.TextLaws.{none-spanned, path-unended}
 use borrow.Author.Needs.{needs}
 use Rattle.referral.proofs.path_at.Statement.{statement}
 use Rattle.referral.proofs.path_at.Tie as tie
-use Rattle.referral.proofs.path_at.Reads as reads
-use Rattle.referral.proofs.path_at.Lts as lts
-use Rattle.referral.proofs.path_span.Reads as path-span-reads
-use Rattle.spans.proofs.read_text.Reads as read-text-reads
 
 read-text-requires : tie.Need-read-text-requires
 read-text-requires c κs = search needs
@@ -32,12 +23,12 @@ returns : tie.Need-returns
 returns c = (none-spanned (now (c .before .before .before .before .args .r)) (path-unended (unended-at (now (c .before .before .before .before .args .r)) (c .before .before .before .before .args .at) (sym (c .enum-told .given .1) ∙ c .before .before .read-text .ensures))), omega arith)
 
 path-span-requires : tie.Need-path-span-requires
-path-span-requires c κs = 
+path-span-requires c κs =
     let w = ended-at (now (c .before .before .before .before .before .args .r)) (c .before .before .before .before .before .args .at) _ (sym (c .before .units .given .1) ∙ c .before .before .before .read-text .ensures) in
     omega (arith, w .within)
 
 returns-2 : tie.Need-returns-2
-returns-2 c = 
+returns-2 c =
     let w = ended-at (now (c .before .before .before .before .before .before .args .r)) (c .before .before .before .before .before .before .args .at) _ (sym (c .before .before .units .given .1) ∙ c .before .before .before .before .read-text .ensures) in
     (c .path-span .ensures .0 ∙ sym (ap pathOf (w .is)), c .path-span .ensures .1)
 

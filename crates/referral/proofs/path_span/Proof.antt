@@ -1,27 +1,17 @@
 -- The path in a text: its body is found by its ends and its components are counted in one scan.
 use denote.Ref.{now}
-use mathlib.Core.Path.{_≡_, refl, sym, ap, _∙_}
-use Prim.Native.Nat.{ℕ, _+_, _-_, _*_, _≤_, _<_}
-use lib.ListN.{length, getD, take, drop}
+use mathlib.Core.Path.{sym, ap, _∙_}
+use Prim.Native.Nat.{_-_}
 use native.Mathlib.Omega.{arith}
-use Rattle.spans.specs.Bytes.{ended, unended, textAt, u16At, flag}
-use Rattle.spans.specs.Spans.{spanned, partOf, Inside}
+use Rattle.spans.specs.Spans.{spanned, partOf}
 use Rattle.spans.specs.declared.Span.{Span}
-use Rattle.spans.proofs.UnitLaws.{length-spanned, part-spanned, inside-is, ended-at, unended-at, EndedAt}
-use Rattle.referral.specs.Replies.{pathOf, bare, dcOf, domainOf, textOf, versionAt, sizeAt, serverTypeAt, fits, readable, goodFields, goodEntry, starts, entries}
-use Rattle.referral.proofs.TextLaws.{none-spanned, path-unled-at, path-over, path-few, path-found, rest-spanned, bare-stays, bare-drops, dc-yes, dc-no, domain-unled, domain-no, domain-yes, path-unended, domain-unended, dc-unended}
-use Rattle.referral.proofs.EntryLaws.{flag-is, readable-three, readable-other, fits-short, fits-small, fits-size, fits-room, fields-unfit, fields-version, fields-unread, fields-list, fields-type, fields-good, fields-fit}
+use Rattle.spans.proofs.UnitLaws.{length-spanned, part-spanned, inside-is}
+use Rattle.referral.proofs.TextLaws.{none-spanned, path-unled-at, path-over, path-few, path-found}
 use Rattle.unc.proofs.FormLaws.{body-within}
 use Rattle.unc.specs.Paths.{goodCount}
 use borrow.Author.Needs.{needs}
 use Rattle.referral.proofs.path_span.Statement.{statement}
 use Rattle.referral.proofs.path_span.Tie as tie
-use Rattle.referral.proofs.path_span.Reads as reads
-use Rattle.referral.proofs.path_span.Lts as lts
-use Rattle.spans.proofs.good_count.Reads as good-count-reads
-use Rattle.spans.proofs.lead.Reads as lead-reads
-use Rattle.spans.proofs.part.Reads as part-reads
-use Rattle.spans.proofs.trail.Reads as trail-reads
 
 lead-requires : tie.Need-lead-requires
 lead-requires c κs = search needs
@@ -33,19 +23,19 @@ trail-requires : tie.Need-trail-requires
 trail-requires c κs = search needs
 
 part-requires : tie.Need-part-requires
-part-requires c κs = 
+part-requires c κs =
     let w = body-within (spanned (now (c .before .before .before .before .args .r)) (c .before .before .before .before .args .s)) (c .before .before .lead .result) (c .trail .result) 0 (c .before .before .lead .ensures) (c .trail .ensures) in
     let l = length-spanned (now (c .before .before .before .before .args .r)) (c .before .before .before .before .args .s) in
     (omega arith, (omega arith, omega arith))
 
 good-count-requires : tie.Need-good-count-requires
-good-count-requires c κs = 
+good-count-requires c κs =
     let w = body-within (spanned (now (c .before .before .before .before .before .args .r)) (c .before .before .before .before .before .args .s)) (c .before .before .before .lead .result) (c .before .trail .result) 0 (c .before .before .before .lead .ensures) (c .before .trail .ensures) in
     let l = length-spanned (now (c .before .before .before .before .before .args .r)) (c .before .before .before .before .before .args .s) in
     inside-is (now (c .before .before .before .before .before .args .r)) (c .part .result) (partOf (c .before .before .before .before .before .args .s) (c .before .before .before .lead .result) (c .before .trail .result)) (c .part .ensures) (omega arith)
 
 returns-2 : tie.Need-returns-2
-returns-2 c = 
+returns-2 c =
     let w = body-within (spanned (now (c .before .before .before .before .before .before .before .args .r)) (c .before .before .before .before .before .before .before .args .s)) (c .before .before .before .before .before .lead .result) (c .before .before .before .trail .result) 0 (c .before .before .before .before .before .lead .ensures) (c .before .before .before .trail .ensures) in
     let l = length-spanned (now (c .before .before .before .before .before .before .before .args .r)) (c .before .before .before .before .before .before .before .args .s) in
     let e = ap (λ (x : Span). goodCount 0 (spanned (now (c .before .before .before .before .before .before .before .args .r)) x)) (c .before .before .part .ensures) ∙ ap (goodCount 0) (part-spanned (now (c .before .before .before .before .before .before .before .args .r)) (c .before .before .before .before .before .before .before .args .s) (c .before .before .before .before .before .lead .result) (c .before .before .before .trail .result) (omega arith) (omega arith)) in
@@ -64,13 +54,13 @@ sub-part : tie.Need-sub-part
 sub-part c = search needs
 
 part-requires-2 : tie.Need-part-requires-2
-part-requires-2 c κs = 
+part-requires-2 c κs =
     let w = body-within (spanned (now (c .before .before .before .before .before .before .before .before .args .r)) (c .before .before .before .before .before .before .before .before .args .s)) (c .before .before .before .before .before .before .lead .result) (c .before .before .before .before .trail .result) 0 (c .before .before .before .before .before .before .lead .ensures) (c .before .before .before .before .trail .ensures) in
     let l = length-spanned (now (c .before .before .before .before .before .before .before .before .args .r)) (c .before .before .before .before .before .before .before .before .args .s) in
     (omega arith, (omega arith, omega arith))
 
 returns-4 : tie.Need-returns-4
-returns-4 c = 
+returns-4 c =
     let w = body-within (spanned (now (c .before .before .before .before .before .before .before .before .before .args .r)) (c .before .before .before .before .before .before .before .before .before .args .s)) (c .before .before .before .before .before .before .before .lead .result) (c .before .before .before .before .before .trail .result) 0 (c .before .before .before .before .before .before .before .lead .ensures) (c .before .before .before .before .before .trail .ensures) in
     let l = length-spanned (now (c .before .before .before .before .before .before .before .before .before .args .r)) (c .before .before .before .before .before .before .before .before .before .args .s) in
     let e = ap (λ (x : Span). goodCount 0 (spanned (now (c .before .before .before .before .before .before .before .before .before .args .r)) x)) (c .before .before .before .before .part .ensures) ∙ ap (goodCount 0) (part-spanned (now (c .before .before .before .before .before .before .before .before .before .args .r)) (c .before .before .before .before .before .before .before .before .before .args .s) (c .before .before .before .before .before .before .before .lead .result) (c .before .before .before .before .before .trail .result) (omega arith) (omega arith)) in

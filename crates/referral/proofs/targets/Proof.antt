@@ -1,42 +1,24 @@
 -- The first 8 targets: the loop stores one of them each turn.
 
-use lib.ListN.{set, length-set}
-use Rattle.referral.proofs.TargetLaws.{opens-first, opens-other, opens-flag, toCome, come-none, come-all, target-next, inside-test, test-inside, kept-next, left-fits, left-next}
+use lib.ListN.{length-set}
+use Rattle.referral.proofs.TargetLaws.{toCome, come-all, target-next, kept-next, left-fits, left-next}
 use denote.Ref.{now}
-use mathlib.Core.Path.{_≡_, refl, sym, ap, _∙_}
-use Prim.Native.Nat.{ℕ, _+_, _-_, _*_, _≤_, _<_}
-use lib.ListN.{length, getD, take, drop}
+use mathlib.Core.Path.{_≡_, sym, _∙_}
+use Prim.Native.Nat.{_+_, _-_, _≤_}
+use lib.ListN.{length, take}
 use native.Mathlib.Omega.{arith}
-use Rattle.spans.specs.Bytes.{ended, unended, textAt, u16At, flag}
-use Rattle.spans.specs.Spans.{spanned, partOf, Inside}
-use Rattle.spans.specs.declared.Span.{Span}
-use Rattle.spans.proofs.UnitLaws.{length-spanned, part-spanned, inside-is, ended-at, unended-at, EndedAt}
-use Rattle.referral.specs.Replies.{pathOf, bare, dcOf, domainOf, textOf, versionAt, sizeAt, serverTypeAt, fits, readable, goodFields, goodEntry, starts, entries}
-use Rattle.referral.proofs.TextLaws.{none-spanned, path-unled-at, path-over, path-few, path-found, rest-spanned, bare-stays, bare-drops, dc-yes, dc-no, domain-unled, domain-no, domain-yes, path-unended, domain-unended, dc-unended}
-use Rattle.referral.proofs.EntryLaws.{flag-is, readable-three, readable-other, fits-short, fits-small, fits-size, fits-room, fields-unfit, fields-version, fields-unread, fields-list, fields-type, fields-good, fields-fit}
-use borrow.Author.Tests.{not-true, not-false}
+use Rattle.referral.specs.Replies.{goodEntry, starts, entries}
 use Rattle.laws.specs.Lists.{every}
-use Rattle.referral.specs.Replies.{versionAt, serverTypeAt, prefixAt, targetAt, referralCount}
-use Rattle.referral.specs.Found.{Held}
-use Rattle.referral.proofs.EntryLaws.{unread-spanned, read-spanned, read-test, entry-fields, entry-room, entry-fit, entry-prefix, entry-unlike, entry-good, starts-cons, starts-none, starts-hit, starts-miss, starts-end, entries-short, entry-short, entries-start}
-use mathlib.Core.Bool.{true, false}
-use mathlib.Core.List.{List, map, _++_}
-use Prim.Native.Nat.{min}
-use lib.ListN.{set}
-use Rattle.laws.proofs.Filling.{filled-whole}
+use Rattle.referral.specs.Replies.{targetAt, referralCount}
+use Rattle.referral.proofs.EntryLaws.{entries-start}
+use mathlib.Core.Bool.{true}
+use mathlib.Core.List.{map, _++_}
 use Rattle.referral.specs.Replies.{keptTargets}
 use Rattle.referral.specs.Found.{targetShown, keptInside}
-use Rattle.referral.proofs.TargetLaws.{opens-first, opens-other, opens-flag, toCome, come-none, come-all, target-all, none-kept, target-next, inside-test, test-inside, kept-next, left-fits, left-next}
+use Rattle.referral.proofs.TargetLaws.{toCome, come-all, target-all, none-kept, target-next, kept-next, left-fits, left-next}
 use borrow.Author.Needs.{needs}
 use Rattle.referral.proofs.targets.Statement.{statement}
 use Rattle.referral.proofs.targets.Tie as tie
-use Rattle.referral.proofs.targets.Reads as reads
-use Rattle.referral.proofs.targets.Lts as lts
-use Rattle.referral.proofs.kept_of.Reads as kept-of-reads
-use Rattle.referral.proofs.next_entry.Reads as next-entry-reads
-use Rattle.referral.proofs.opens_at.Reads as opens-at-reads
-use Rattle.referral.proofs.path_of.Reads as path-of-reads
-use Rattle.spans.proofs.unit_at.Reads as unit-at-reads
 
 abbrev Inv-loop : tie.InvT-loop
 Inv-loop r n m kept₀ e₀ i₀ kept e i = (i ≤ m) × ((length kept ≡ 8) × ((every (goodEntry r) (starts (n - i) e r) ≡ true) × ((keptTargets r (take 8 (entries r)) ≡ map (targetShown r) (take i kept) ++ toCome n i r e) × (every (keptInside r) kept ≡ true))))
@@ -58,12 +40,12 @@ unfolding referralCount
 loop-holds c = (search needs, (search needs, (sym (entries-start (goodEntry (now (c .before .before .before .args .r))) (now (c .before .before .before .args .r)) (c .before .unit-at .ensures)) ∙ c .before .before .before .pre .1 .1, (come-all (now (c .before .before .before .args .r)) (c .before .unit-at .ensures), none-kept (now (c .before .before .before .args .r)) 8))))
 
 path-of-requires : tie.Need-path-of-requires Inv-loop μ-loop
-path-of-requires c κs = 
+path-of-requires c κs =
     let w = left-fits (now (c .before .before .before .before .before .args .r)) (c .before .before .before .unit-at .result) (c .before .loop .i) (c .before .loop .e) (omega (arith, c .before .before .kept-of .ensures)) (c .before .loop .inv .1 .1 .0) in
     (omega (arith, w .0, w .1), omega arith)
 
 opens-at-requires : tie.Need-opens-at-requires Inv-loop μ-loop
-opens-at-requires c κs = 
+opens-at-requires c κs =
     let w = left-fits (now (c .before .before .before .before .before .before .args .r)) (c .before .before .before .before .unit-at .result) (c .before .before .loop .i) (c .before .before .loop .e) (omega (arith, c .before .before .before .kept-of .ensures)) (c .before .before .loop .inv .1 .1 .0) in
     omega (arith, w .0, w .1)
 
@@ -74,7 +56,7 @@ array-set-from-kept : tie.Need-array-set-from-kept Inv-loop μ-loop
 array-set-from-kept c = omega (arith, c .before .before .before .before .kept-of .ensures)
 
 next-entry-requires : tie.Need-next-entry-requires Inv-loop μ-loop
-next-entry-requires c κs = 
+next-entry-requires c κs =
     let w = left-fits (now (c .before .before .before .before .before .before .before .args .r)) (c .before .before .before .before .before .unit-at .result) (c .before .before .before .loop .i) (c .before .before .before .loop .e) (omega (arith, c .before .before .before .before .kept-of .ensures)) (c .before .before .before .loop .inv .1 .1 .0) in
     (omega (arith, w .0, w .1), omega arith)
 
@@ -86,7 +68,7 @@ loop-less c = search needs
 
 loop-again : tie.Need-loop-again Inv-loop μ-loop
 unfolding targetAt
-loop-again c = 
+loop-again c =
     let k = c .before .before .before .before .before .kept-of .ensures in
     (omega arith, (length-set (c .before .before .before .before .loop .kept) (c .before .before .before .before .loop .i) _ ∙ c .before .before .before .before .loop .inv .1 .0, (left-next (now (c .before .before .before .before .before .before .before .before .args .r)) (c .before .before .before .before .before .before .unit-at .result) (c .before .before .before .before .loop .i) (c .before .before .before .before .loop .e) (omega arith) (c .before .before .before .before .loop .inv .1 .1 .0) (c .next-entry .ensures), (target-next (c .before .before .before .before .before .before .unit-at .result) (c .before .before .before .before .loop .i) (now (c .before .before .before .before .before .before .before .before .args .r)) (c .before .before .before .before .loop .e) (c .before .before .before .before .loop .kept) (c .before .before .path-of .result) (c .before .opens-at .result) (c .before .before .before .before .loop .inv .1 .1 .1 .0) (omega (arith, c .before .before .before .before .loop .inv .1 .0)) (omega arith) (omega arith) (c .next-entry .ensures) (c .before .before .path-of .ensures .0) (c .before .opens-at .ensures), kept-next (now (c .before .before .before .before .before .before .before .before .args .r)) (c .before .before .before .before .loop .kept) (c .before .before .before .before .loop .i) (c .before .before .path-of .result) (c .before .opens-at .result) (c .before .before .before .before .loop .inv .1 .1 .1 .1) (c .before .before .path-of .ensures .1)))))
 

@@ -15,10 +15,9 @@ use Rattle.spans.specs.Bytes.{u16At, u32At, flag}
 use Rattle.spans.specs.Spans.{spanned}
 use Rattle.spans.specs.declared.Span.{Span}
 use Rattle.referral.specs.Replies.{goodEntry, Reply, malformed, nothing, says, readAs, referralCount, versionAt, serverTypeAt, headerFlag, ttlAt, prefixAt, keptTargets, entries, Referral, referralIn}
-use Rattle.referral.specs.Found.{answered, answerOf, denoted, denotedDcs, referralShown, targetShown, noReferral, noDcs, Within, keptInside}
+use Rattle.referral.specs.Found.{answered, denoted, referralShown, targetShown, noReferral, Within, keptInside}
 use Rattle.referral.specs.declared.Kept.{Kept}
 use Rattle.referral.specs.declared.ReferralFound.{ReferralFound}
-use Rattle.referral.specs.declared.DcsFound.{DcsFound}
 use Rattle.referral.specs.declared.Answer.{Answer}
 use Rattle.referral.specs.declared.Answer.the-variants.{Malformed, Nothing, Says}
 use Rattle.laws.proofs.Orders.{lt-or-le}

@@ -20,7 +20,7 @@ use Rattle.spans.specs.Bytes.{unitsAt, Text, ended, unended, textAt}
 use Rattle.spans.specs.Spans.{spanned, Inside, partOf}
 use Rattle.spans.specs.declared.Span.{Span}
 use Rattle.spans.proofs.UnitLaws.{length-spanned, part-spanned, EndedAt}
-use Rattle.referral.specs.Replies.{pathOf, bare, dcOf, domainOf, isRead}
+use Rattle.referral.specs.Replies.{pathOf}
 
 -- a span of no units
 pub none-spanned : (r : List ℕ) {x : List ℕ} → x ≡ [] → spanned r (record { from = 0; units = 0 }) ≡ x
@@ -100,52 +100,7 @@ module _ (u : List ℕ) (from to k : ℕ) (a : from ≡ leads u) (b : to ≡ fro
         whole-found h
         ∙ sym (path-is u (found-good u from to k a b c h y) (subst (λ (n : ℕ). n ≤ 256) (body-length u from to k a b) l) (omega arith))
 
--- a span without its first unit
-pub rest-spanned : (r : List ℕ) (s : Span) → 0 < s .units → spanned r (partOf s 1 (s .units)) ≡ drop 1 (spanned r s)
-rest-spanned r s h =
-    let l : length (spanned r s) ≡ s .units = length-spanned r s in
-    part-spanned r s 1 (s .units) (omega arith) (omega arith)
-    ∙ take-all (s .units - 1) (drop 1 (spanned r s)) (simp length-drop (omega arith))
-
--- the ways of `bare`, `dcOf` and `domainOf`
-module _ (u : List ℕ) where
-  pub bare-stays : (getD u 0 0 ≡ 92 → ⊥) → u ≡ bare u
-  unfolding bare
-  bare-stays h = sym (choose-no (drop 1 u) u (ne-eqb (getD u 0 0) 92 h))
-
-  pub bare-drops : getD u 0 0 ≡ 92 → drop 1 u ≡ bare u
-  unfolding bare
-  bare-drops h = sym (choose-yes (drop 1 u) u (eq-eqb (getD u 0 0) 92 h))
-
-  pub dc-yes : {b : List ℕ} {t : Bool} → b ≡ bare u → t ≡ goodName b → t ≡ true → b ≡ dcOf (ended u)
-  unfolding dcOf
-  dc-yes e f h = e ∙ sym (choose-yes (bare u) [] (sym (f ∙ ap goodName e) ∙ h))
-
-  pub dc-no : {b : List ℕ} {t : Bool} → b ≡ bare u → t ≡ goodName b → t ≡ false → dcOf (ended u) ≡ []
-  unfolding dcOf
-  dc-no e f h = choose-no (bare u) [] (sym (f ∙ ap goodName e) ∙ h)
-
-  pub domain-unled : (getD u 0 0 ≡ 92 → ⊥) → domainOf (ended u) ≡ []
-  unfolding domainOf
-  domain-unled h = choose-no (drop 1 u) [] (and-no-left _ (ne-eqb (getD u 0 0) 92 h))
-
-  pub domain-no : {b : List ℕ} {t : Bool} → b ≡ drop 1 u → t ≡ goodName b → t ≡ false → domainOf (ended u) ≡ []
-  unfolding domainOf
-  domain-no e f h = choose-no (drop 1 u) [] (and-no-right (eqb (getD u 0 0) 92) (sym (f ∙ ap goodName e) ∙ h))
-
-  pub domain-yes : {b : List ℕ} {t : Bool} → getD u 0 0 ≡ 92 → b ≡ drop 1 u → t ≡ goodName b → t ≡ true → b ≡ domainOf (ended u)
-  unfolding domainOf
-  domain-yes g e f h = e ∙ sym (choose-yes (drop 1 u) [] (and-both (eq-eqb (getD u 0 0) 92 g) (sym (f ∙ ap goodName e) ∙ h)))
-
 -- texts without an end
 pub path-unended : {t : Text} → t ≡ unended → pathOf t ≡ []
 unfolding pathOf
 path-unended e = ap pathOf e
-
-pub domain-unended : {t : Text} → t ≡ unended → domainOf t ≡ []
-unfolding domainOf
-domain-unended e = ap domainOf e
-
-pub dc-unended : {t : Text} → t ≡ unended → dcOf t ≡ []
-unfolding dcOf
-dc-unended e = ap dcOf e

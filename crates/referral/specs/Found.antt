@@ -13,7 +13,6 @@ use Rattle.referral.specs.Request.{request}
 use Rattle.referral.specs.Replies.{versionAt, serverTypeAt, entryFlag, goodEntry, entries, prefixAt, Target, Referral, Reply, malformed, nothing, says}
 use Rattle.referral.specs.declared.Kept.{Kept}
 use Rattle.referral.specs.declared.ReferralFound.{ReferralFound}
-use Rattle.referral.specs.declared.DcsFound.{DcsFound}
 use Rattle.referral.specs.declared.Answer.{Answer}
 use Rattle.referral.specs.declared.Answer.the-variants.{Malformed, Nothing, Says}
 use Rattle.referral.specs.declared.Asked.{Asked}
@@ -62,9 +61,6 @@ noReferral a = record {
   targets = 0;
 }
 
-unfoldable pub noDcs : Answer → DcsFound
-noDcs a = record { answer = a; kept = replicate 8 (record { from = 0; units = 0 }); count = 0 }
-
 -- a target set opens before the target of entry number i, which starts at e
 unfoldable pub opensAt : ℕ → List ℕ → ℕ → Bool
 opensAt zero r e = false
@@ -96,15 +92,6 @@ referralShown r f = record {
 -- what a reader's answer says, given the reply
 unfoldable pub denoted : List ℕ → ReferralFound → Reply Referral
 denoted r f = answered (f .answer) (referralShown r f)
-
-unfoldable pub denotedDcs : List ℕ → DcsFound → Reply (List (List ℕ))
-denotedDcs r f = answered (f .answer) (map (spanned r) (take (f .count) (f .kept)))
-
--- which of the three ways a reply is read
-unfoldable pub answerOf : {A : Type 0} → Reply A → Answer
-answerOf malformed = Malformed
-answerOf nothing = Nothing
-answerOf (says a) = Says
 
 -- a request written into a buffer of n bytes, or told to be longer
 unfoldable pub asked : ℕ → List ℕ → Asked

@@ -6,7 +6,7 @@ use lib.ListN.{length, getD, take, drop}
 use lib.Dec.{leb, eqb}
 use Rattle.laws.specs.Choice.{choose}
 use Rattle.laws.specs.Lists.{every}
-use Rattle.unc.specs.Names.{sameName, goodName, backslash}
+use Rattle.unc.specs.Names.{sameName}
 use Rattle.unc.specs.Paths.{goodPath, normalised, componentCount, matches, pathUnits}
 use Rattle.spans.specs.Bytes.{u16At, u32At, flag, Text, ended, unended, textAt}
 
@@ -52,19 +52,6 @@ unfoldable pub pathOf : Text → List ℕ
 pathOf unended = []
 pathOf (ended s) =
     choose (goodPath s && (leb (length (normalised s)) pathUnits && leb 2 (componentCount (normalised s)))) (normalised s) []
-
--- A DC's name, "with or without a leading backslash", which is not kept; [] of any other text.
-unfoldable pub bare : List ℕ → List ℕ
-bare s = choose (eqb (getD s 0 0) backslash) (drop 1 s) s
-
-unfoldable pub dcOf : Text → List ℕ
-dcOf unended = []
-dcOf (ended s) = choose (goodName (bare s)) (bare s) []
-
--- A domain's name, written "\domain"; [] of any other text.
-unfoldable pub domainOf : Text → List ℕ
-domainOf unended = []
-domainOf (ended s) = choose (eqb (getD s 0 0) backslash && goodName (drop 1 s)) (drop 1 s) []
 
 unfoldable pub isRead : List ℕ → Bool
 isRead [] = false
@@ -153,34 +140,3 @@ readAs size r good a =
 unfoldable pub readReferral : ℕ → List ℕ → List ℕ → Reply Referral
 readReferral size asked r =
     readAs size r (every (goodEntry r) (entries r) && matches (prefixAt r 8) asked) (referralIn r)
-
--- A DC reply: the first entry only; "its NumberOfExpandedNames DC names one after another, 1 or more".
-unfoldable pub bytesPast : Text → ℕ
-bytesPast unended = 0
-bytesPast (ended s) = 2 * (length s + 1)
-
-unfoldable pub textsAt : ℕ → ℕ → List ℕ → List Text
-textsAt zero i r = []
-textsAt (suc n) i r = textAt r i ∷ textsAt n (i + bytesPast (textAt r i)) r
-
-unfoldable pub dcNames : List ℕ → List (List ℕ)
-dcNames r = map dcOf (textsAt (u16At r 22) (8 + u16At r 24) r)
-
-unfoldable pub goodDcs : List ℕ → Bool
-goodDcs r =
-    readable (versionAt r 8)
-    && (fits 18 r 8 && (entryFlag 2 r 8 && (not (eqb (u16At r 22) 0) && every isRead (dcNames r))))
-
--- the first 8 are kept
-unfoldable pub readDcs : ℕ → List ℕ → Reply (List (List ℕ))
-readDcs size r = readAs size r (goodDcs r) (take 8 (dcNames r))
-
--- A domain reply: version 3, NameListReferral set, names "\domain". All names, in reply order.
-unfoldable pub domainAt : List ℕ → ℕ → List ℕ
-domainAt r e = domainOf (textOf 12 r e)
-
-unfoldable pub goodDomain : List ℕ → ℕ → Bool
-goodDomain r e = eqb (versionAt r e) 3 && (fits 18 r e && (entryFlag 2 r e && isRead (domainAt r e)))
-
-unfoldable pub readDomains : ℕ → List ℕ → Reply (List (List ℕ))
-readDomains size r = readAs size r (every (goodDomain r) (entries r)) (map (domainAt r) (entries r))

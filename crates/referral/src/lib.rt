@@ -9,15 +9,13 @@ ghost use Rattle.laws.specs.Lists.{every, pasted};
 ghost use Rattle.spans.specs.Bytes.{u16At, flag, ended, textAt};
 ghost use Rattle.spans.specs.Spans.{spanned, Inside};
 ghost use Rattle.referral.specs.Request.{bytesOf, request};
-ghost use Rattle.referral.specs.Replies.{pathOf, bare, dcOf, domainOf, isRead, textOf, textsAt};
+ghost use Rattle.referral.specs.Replies.{pathOf, textOf};
 ghost use Rattle.referral.specs.Replies.{referralCount, versionAt, sizeAt, serverTypeAt, starts, entries, fits, readable};
 ghost use Rattle.referral.specs.Replies.{goodFields, goodEntry, keptTargets, prefixAt, referralIn, readReferral};
-ghost use Rattle.referral.specs.Replies.{says, bytesPast, dcNames, goodDcs, readDcs, domainAt, goodDomain, readDomains};
-ghost use Rattle.referral.specs.Found.{inside, Held, Told, Within, noReferral, noDcs, opensAt, keptInside, targetShown, denoted, denotedDcs, answerOf, asked, bufferWith};
+ghost use Rattle.referral.specs.Replies.{says};
+ghost use Rattle.referral.specs.Found.{inside, Held, Told, Within, noReferral, opensAt, keptInside, targetShown, denoted, asked, bufferWith};
 use spans::Read;
 use spans::Span;
-
-const BACKSLASH: u16 = 92;
 
 // The most units of a normalised path.
 const PATH_UNITS: usize = 256;
@@ -51,12 +49,6 @@ pub struct ReferralFound {
 }
 
 // A DC reply: the first `count` places of `kept` are the DC names.
-pub struct DcsFound {
-    pub answer: Answer,
-    pub kept: [Span; 8],
-    pub count: usize,
-}
-
 // What writing a request answers.
 pub enum Asked {
     Bytes(usize),
@@ -64,7 +56,7 @@ pub enum Asked {
 }
 
 // Whether the flag m, a power of two, is set.
-fn has_flag(m: u32, f: u32) -> bool
+pub fn has_flag(m: u32, f: u32) -> bool
     requires { ⌜ 0 < m ⌝ }
     ensures { λ v. ⌜ v ≡ flag m f ⌝ }
 {
@@ -114,68 +106,9 @@ fn path_of(r: &[u8], e: usize, f: usize) -> Span
 }
 
 // A name without a leading backslash.
-fn bare(r: &[u8], s: Span) -> Span
-    requires { ⌜ Inside (now r) s ⌝ }
-    ensures name { λ v. ⌜ spanned (now (r .entry)) v ≡ bare (spanned (now (r .entry)) s) ⌝ }
-    ensures inside { λ v. ⌜ Inside (now (r .entry)) v ⌝ }
-{
-    let n = s.units;
-    if n == 0 {
-        return s;
-    }
-    if spans::unit_of(r, s, 0) != BACKSLASH {
-        return s;
-    }
-    spans::part(s, 1, n)
-}
-
 // The DC name in a text; no units where it is not one.
-fn dc_span(r: &[u8], s: Span) -> Span
-    requires { ⌜ Inside (now r) s ⌝ }
-    ensures name { λ v. ⌜ spanned (now (r .entry)) v ≡ dcOf (ended (spanned (now (r .entry)) s)) ⌝ }
-    ensures inside { λ v. ⌜ Inside (now (r .entry)) v ⌝ }
-{
-    let b = bare(r, s);
-    if spans::good_name(r, b) {
-        return b;
-    }
-    Span { from: 0, units: 0 }
-}
-
 // The domain name in a text "\domain"; no units where it is not one.
-fn domain_span(r: &[u8], s: Span) -> Span
-    requires { ⌜ Inside (now r) s ⌝ }
-    ensures name { λ v. ⌜ spanned (now (r .entry)) v ≡ domainOf (ended (spanned (now (r .entry)) s)) ⌝ }
-    ensures inside { λ v. ⌜ Inside (now (r .entry)) v ⌝ }
-{
-    let n = s.units;
-    if n == 0 {
-        return Span { from: 0, units: 0 };
-    }
-    if spans::unit_of(r, s, 0) != BACKSLASH {
-        return Span { from: 0, units: 0 };
-    }
-    let b = spans::part(s, 1, n);
-    if spans::good_name(r, b) {
-        return b;
-    }
-    Span { from: 0, units: 0 }
-}
-
 // The domain name of the entry at e.
-pub fn domain_at(r: &[u8], e: usize) -> Span
-    requires { ⌜ (e + 13 < length (now r)) × (length (now r) < 4294967296) ⌝ }
-    ensures name { λ v. ⌜ spanned (now (r .entry)) v ≡ domainAt (now (r .entry)) e ⌝ }
-    ensures inside { λ v. ⌜ Inside (now (r .entry)) v ⌝ }
-{
-    let o = spans::unit_at(r, e + 12) as usize;
-    let at = e + o;
-    let Read::Ended { units } = spans::read_text(r, at) else {
-        return Span { from: 0, units: 0 };
-    };
-    domain_span(r, Span { from: at, units })
-}
-
 // Where the entry after the one at e starts.
 pub fn next_entry(r: &[u8], e: usize) -> usize
     requires { ⌜ (e + 3 < length (now r)) × (length (now r) < 4294967296) ⌝ }
@@ -185,7 +118,7 @@ pub fn next_entry(r: &[u8], e: usize) -> usize
 }
 
 // Size is at least the fixed length and the entry lies inside the reply.
-fn entry_fits(r: &[u8], e: usize, fixed: usize) -> bool
+pub fn entry_fits(r: &[u8], e: usize, fixed: usize) -> bool
     requires { ⌜ (4 ≤ fixed) × (e ≤ length (now r)) ⌝ }
     ensures { λ v. ⌜ v ≡ fits fixed (now (r .entry)) e ⌝ }
 {
@@ -199,7 +132,7 @@ fn entry_fits(r: &[u8], e: usize, fixed: usize) -> bool
     size <= r.len() - e
 }
 
-fn is_readable(v: u16) -> bool
+pub fn is_readable(v: u16) -> bool
     ensures { λ r. ⌜ r ≡ readable v ⌝ }
 {
     if v == 3 {
@@ -292,7 +225,7 @@ fn opens_at(r: &[u8], e: usize, i: usize) -> bool
 }
 
 // How many of n are kept.
-fn kept_of(n: usize) -> usize
+pub fn kept_of(n: usize) -> usize
     ensures { λ v. ⌜ v ≡ min n 8 ⌝ }
 {
     if n < 8 { n } else { 8 }
@@ -405,187 +338,56 @@ pub fn read_referral(r: &[u8], size: u32, asked: &[u16]) -> ReferralFound
 }
 
 // A DC name, and where the text after it starts.
-struct Dc {
-    name: Span,
-    next: usize,
-}
-
 // The DC name at a byte; no units where there is none.
-fn dc_at(r: &[u8], at: usize) -> Dc
-    ensures name { λ v. ⌜ spanned (now (r .entry)) (v .name) ≡ dcOf (textAt (now (r .entry)) at) ⌝ }
-    ensures next { λ v. ⌜ v .next ≡ at + bytesPast (textAt (now (r .entry)) at) ⌝ }
-    ensures inside { λ v. ⌜ Inside (now (r .entry)) (v .name) ⌝ }
-{
-    let Read::Ended { units } = spans::read_text(r, at) else {
-        return Dc {
-            name: Span { from: 0, units: 0 },
-            next: at,
-        };
-    };
-    let name = dc_span(r, Span { from: at, units });
-    Dc {
-        name,
-        next: at + 2 * (units + 1),
-    }
-}
-
 // Whether the n texts from a byte on are DC names.
-fn good_names(r: &[u8], n: usize, from: usize) -> bool
-    ensures { λ v. ⌜ v ≡ every isRead (map dcOf (textsAt n from (now (r .entry)))) ⌝ }
-{
-    let mut at = from;
-    let mut i = 0;
-    while i < n {
-        let d = dc_at(r, at);
-        let s = d.name;
-        if s.units == 0 {
-            return false;
-        }
-        at = d.next;
-        i += 1;
-    }
-    true
-}
-
 // The first 8 of the n DC names from a byte on.
-fn names(r: &[u8], n: usize, from: usize) -> [Span; 8]
-    ensures names { λ v. ⌜ map (spanned (now (r .entry))) (take (min n 8) v) ≡ take 8 (map dcOf (textsAt n from (now (r .entry)))) ⌝ }
-    ensures inside { λ v. ⌜ every (inside (now (r .entry))) v ≡ true ⌝ }
-{
-    let m = kept_of(n);
-    let mut kept = [Span { from: 0, units: 0 }; 8];
-    let mut at = from;
-    let mut i = 0;
-    while i < m {
-        let d = dc_at(r, at);
-        let s = d.name;
-        kept[i] = s;
-        at = d.next;
-        i += 1;
-    }
-    kept
-}
-
 // The first entry of a DC reply.
-fn good_dcs(r: &[u8]) -> bool
-    requires { ⌜ 8 ≤ length (now r) ⌝ }
-    ensures { λ v. ⌜ v ≡ goodDcs (now (r .entry)) ⌝ }
-{
-    if !entry_fits(r, 8, 18) {
-        return false;
-    }
-    if !is_readable(spans::unit_at(r, 8)) {
-        return false;
-    }
-    if !has_flag(2, spans::unit_at(r, 14) as u32) {
-        return false;
-    }
-    let n = spans::unit_at(r, 22) as usize;
-    if n == 0 {
-        return false;
-    }
-    let o = spans::unit_at(r, 24) as usize;
-    good_names(r, n, 8 + o)
-}
-
 // What a good DC reply says.
-fn dcs_in(r: &[u8]) -> DcsFound
-    requires { ⌜ 26 ≤ length (now r) ⌝ }
-    ensures found { λ v. ⌜ denotedDcs (now (r .entry)) v ≡ says (take 8 (dcNames (now (r .entry)))) ⌝ }
-    ensures within { λ v. ⌜ every (inside (now (r .entry))) (v .kept) ≡ true ⌝ }
-{
-    let n = spans::unit_at(r, 22) as usize;
-    let o = spans::unit_at(r, 24) as usize;
-    let kept = names(r, n, 8 + o);
-    DcsFound {
-        answer: Answer::Says,
-        kept,
-        count: kept_of(n),
-    }
-}
-
-fn no_dcs(answer: Answer) -> DcsFound
-    ensures { λ v. ⌜ v ≡ noDcs answer ⌝ }
-{
-    DcsFound {
-        answer,
-        kept: [Span { from: 0, units: 0 }; 8],
-        count: 0,
-    }
-}
-
 // A DC reply, with the size asked for.
-pub fn read_dcs(r: &[u8], size: u32) -> DcsFound
-    ensures found { λ v. ⌜ denotedDcs (now (r .entry)) v ≡ readDcs size (now (r .entry)) ⌝ }
-    ensures within { λ v. ⌜ every (inside (now (r .entry))) (v .kept) ≡ true ⌝ }
-{
-    if r.len() < 8 {
-        return no_dcs(Answer::Malformed);
-    }
-    if (size as usize) < r.len() {
-        return no_dcs(Answer::Malformed);
-    }
-    if spans::unit_at(r, 2) == 0 {
-        return no_dcs(Answer::Nothing);
-    }
-    if !good_dcs(r) {
-        return no_dcs(Answer::Malformed);
-    }
-    dcs_in(r)
-}
-
 // The entry at e of a domain reply.
-fn good_domain(r: &[u8], e: usize) -> bool
-    requires { ⌜ (e ≤ length (now r)) × (length (now r) < 4294967296) ⌝ }
-    ensures { λ v. ⌜ v ≡ goodDomain (now (r .entry)) e ⌝ }
-{
-    if !entry_fits(r, e, 18) {
-        return false;
-    }
-    if spans::unit_at(r, e) != 3 {
-        return false;
-    }
-    if !has_flag(2, spans::unit_at(r, e + 6) as u32) {
-        return false;
-    }
-    let d = domain_at(r, e);
-    d.units != 0
-}
-
 // All entries of a domain reply.
-fn good_domains(r: &[u8]) -> bool
-    requires { ⌜ (8 ≤ length (now r)) × (length (now r) < 4294967296) ⌝ }
-    ensures { λ v. ⌜ v ≡ every (goodDomain (now (r .entry))) (entries (now (r .entry))) ⌝ }
-{
-    let n = spans::unit_at(r, 2) as usize;
-    let mut e = 8;
-    let mut i = 0;
-    while i < n {
-        if !good_domain(r, e) {
-            return false;
-        }
-        e = next_entry(r, e);
-        i += 1;
-    }
-    true
-}
-
 // A domain reply, with the size asked for. Of one that says something the names are read one by one: `domain_at` of the entry at 8, then
 // of each that `next_entry` gives.
-pub fn read_domains(r: &[u8], size: u32) -> Answer
-    ensures { λ v. ⌜ v ≡ answerOf (readDomains size (now (r .entry))) ⌝ }
+
+// The number of bytes of a request for a name.
+pub fn request_length(name: &[u16]) -> usize
+    ensures { λ v. ⌜ v ≡ length (request (now (name .entry))) ⌝ }
 {
-    if r.len() < 8 {
-        return Answer::Malformed;
+    4 + 2 * name.len()
+}
+
+// A unit as two bytes.
+fn put_pair(out: &mut [u8], at: usize, u: u16)
+    requires { ⌜ at + 1 < length (now out) ⌝ }
+    ensures { λ v. ⌜ now (out .exit) ≡ pasted (now (out .entry)) at (bytesOf (u ∷ [])) ⌝ }
+{
+    out[at] = (u % 256) as u8;
+    out[at + 1] = (u / 256) as u8;
+}
+
+// Units as bytes, one after another.
+fn put_units(out: &mut [u8], at: usize, name: &[u16])
+    requires { ⌜ at + 2 * length (now name) ≤ length (now out) ⌝ }
+    ensures { λ v. ⌜ now (out .exit) ≡ pasted (now (out .entry)) at (bytesOf (now (name .entry))) ⌝ }
+{
+    let mut i = 0;
+    while i < name.len() {
+        put_pair(out, at + 2 * i, name[i]);
+        i += 1;
     }
-    if (size as usize) < r.len() {
-        return Answer::Malformed;
+}
+
+// The request for a name, the empty one for domains, into a lent buffer. A buffer that is too short is told before anything is written.
+pub fn request(name: &[u16], out: &mut [u8]) -> Asked
+    ensures answer { λ v. ⌜ v ≡ asked (length (now (out .entry))) (now (name .entry)) ⌝ }
+    ensures buffer { λ v. ⌜ now (out .exit) ≡ bufferWith (now (name .entry)) (now (out .entry)) ⌝ }
+{
+    let n = request_length(name);
+    if out.len() < n {
+        return Asked::TooShort;
     }
-    if spans::unit_at(r, 2) == 0 {
-        return Answer::Nothing;
-    }
-    if !good_domains(r) {
-        return Answer::Malformed;
-    }
-    Answer::Says
+    put_pair(out, 0, 4);
+    put_units(out, 2, name);
+    put_pair(out, n - 2, 0);
+    Asked::Bytes(n)
 }

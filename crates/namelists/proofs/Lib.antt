@@ -1,0 +1,2 @@
+-- Laws of DC and domain replies.
+pub mod ListLaws

@@ -23,7 +23,7 @@ use Rattle.referral.specs.Replies.{isRead, readable, versionAt, fits, entryFlag
 use Rattle.namelists.specs.NameLists.{bare, dcOf, domainOf, bytesPast, textsAt, dcNames, goodDcs, domainAt, goodDomain}
 use Rattle.referral.specs.Replies.{Reply, malformed, nothing, says}
 use Rattle.referral.specs.Found.{inside, answered}
-use Rattle.namelists.specs.Found.{answerOf, denotedDcs, noDcs}
+use Rattle.namelists.specs.Found.{answerOf, denotedDcs, noDcs, Within}
 use Rattle.namelists.specs.declared.DcsFound.{DcsFound}
 use Rattle.referral.specs.declared.Answer.{Answer}
 use Rattle.referral.specs.declared.Answer.the-variants.{Malformed, Nothing, Says}
@@ -193,9 +193,9 @@ module _ (r : List ℕ) {f : DcsFound} where
   unfolding denotedDcs answered noDcs
   dcs-nothing e = ap (denotedDcs r) e
 
-  pub dcs-within : (a : Answer) → f ≡ noDcs a → every (inside r) (f .kept) ≡ true
+  pub dcs-within : (a : Answer) → f ≡ noDcs a → Within r f
   unfolding noDcs
-  dcs-within a e = ap (λ (x : DcsFound). every (inside r) (x .kept)) e ∙ none-inside r 8
+  dcs-within a e = subst (Within r) (sym e) (record { kept-within = none-inside r 8; few = omega arith })
 
 -- the ways of `goodDomain`, in the order of the tests
 module _ (r : List ℕ) (e : ℕ) where

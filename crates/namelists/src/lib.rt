@@ -10,7 +10,7 @@ ghost use Rattle.spans.specs.Spans.{spanned, Inside};
 ghost use Rattle.referral.specs.Replies.{isRead, entries, says};
 ghost use Rattle.referral.specs.Found.{inside};
 ghost use Rattle.namelists.specs.NameLists.{bare, dcOf, domainOf, bytesPast, textsAt, dcNames, goodDcs, readDcs, domainAt, goodDomain, readDomains};
-ghost use Rattle.namelists.specs.Found.{denotedDcs, noDcs, answerOf};
+ghost use Rattle.namelists.specs.Found.{denotedDcs, Within, noDcs, answerOf};
 use referral::Answer;
 use spans::Read;
 use spans::Span;
@@ -164,7 +164,7 @@ fn good_dcs(r: &[u8]) -> bool
 fn dcs_in(r: &[u8]) -> DcsFound
     requires { ⌜ 26 ≤ length (now r) ⌝ }
     ensures found { λ v. ⌜ denotedDcs (now (r .entry)) v ≡ says (take 8 (dcNames (now (r .entry)))) ⌝ }
-    ensures within { λ v. ⌜ every (inside (now (r .entry))) (v .kept) ≡ true ⌝ }
+    ensures within { λ v. ⌜ Within (now (r .entry)) v ⌝ }
 {
     let n = spans::unit_at(r, 22) as usize;
     let o = spans::unit_at(r, 24) as usize;
@@ -188,7 +188,7 @@ fn no_dcs(answer: Answer) -> DcsFound
 
 pub fn read_dcs(r: &[u8], size: u32) -> DcsFound
     ensures found { λ v. ⌜ denotedDcs (now (r .entry)) v ≡ readDcs size (now (r .entry)) ⌝ }
-    ensures within { λ v. ⌜ every (inside (now (r .entry))) (v .kept) ≡ true ⌝ }
+    ensures within { λ v. ⌜ Within (now (r .entry)) v ⌝ }
 {
     if r.len() < 8 {
         return no_dcs(Answer::Malformed);

@@ -4,3 +4,5 @@ pub mod TextLaws
 pub mod EntryLaws
 pub mod TargetLaws
 pub mod ReplyLaws
+pub mod SaysLaws
+pub mod Examples

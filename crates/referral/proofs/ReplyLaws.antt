@@ -60,7 +60,7 @@ module _ (r : List ℕ) {f : ReferralFound} where
 
   pub none-within : (a : Answer) → f ≡ noReferral a → Within r f
   unfolding noReferral
-  none-within a e = mathlib.Core.Path.subst (Within r) (sym e) (record { prefix-within = omega arith; kept-within = none-kept r 8 })
+  none-within a e = mathlib.Core.Path.subst (Within r) (sym e) (record { prefix-within = omega arith; kept-within = none-kept r 8; few = omega arith })
 
 pub failback-other : (v f : ℕ) → (v ≡ 4 → ⊥) → false ≡ (eqb v 4 && flag 4 f)
 failback-other v f h = sym (and-no-left _ (ne-eqb v 4 h))

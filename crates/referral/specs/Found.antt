@@ -40,10 +40,11 @@ pub record Told (r : List ℕ) (prefix : Span) : Type 0 where
   pub prefix-is : spanned r prefix ≡ prefixAt r 8
   pub prefix-inside : Inside r prefix
 
--- every span that a reader hands on lies inside the reply
+-- every span that a reader hands on lies inside the reply, and at most 8 are handed on
 pub record Within (r : List ℕ) (f : ReferralFound) : Type 0 where
   pub prefix-within : Inside r (f .prefix)
   pub kept-within : every (keptInside r) (f .kept) ≡ true
+  pub few : f .targets ≤ 8
 
 -- nothing is handed on
 unfoldable pub noReferral : Answer → ReferralFound

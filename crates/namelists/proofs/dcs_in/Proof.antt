@@ -1,4 +1,5 @@
 -- What a good DC reply says.
+use native.Mathlib.Omega.{arith}
 use denote.Ref.{now}
 use mathlib.Core.Path.{ap, _∙_}
 use Prim.Native.Nat.{ℕ, _+_, _-_}
@@ -37,7 +38,7 @@ kept-of-requires c κs = search needs
 
 returns : tie.Need-returns
 unfolding denotedDcs answered dcNames
-returns c = (λ x. says ((ap (λ (k : ℕ). map (spanned (now (c .before .before .before .before .before .args .r))) (take k (c .before .names .result))) (c .kept-of .ensures) ∙ (c .before .names .ensures .0 ∙ (λ y. take 8 (map dcOf (textsAt (c .before .before .before .unit-at .ensures y) (8 + c .before .before .unit-at2 .ensures y) (now (c .before .before .before .before .before .args .r))))))) x), c .before .names .ensures .1)
+returns c = (λ x. says ((ap (λ (k : ℕ). map (spanned (now (c .before .before .before .before .before .args .r))) (take k (c .before .names .result))) (c .kept-of .ensures) ∙ (c .before .names .ensures .0 ∙ (λ y. take 8 (map dcOf (textsAt (c .before .before .before .unit-at .ensures y) (8 + c .before .before .unit-at2 .ensures y) (now (c .before .before .before .before .before .args .r))))))) x), record { kept-within = c .before .names .ensures .1; few = omega (arith, c .kept-of .ensures) })
 
 pub dcs-in-spec : {M : Type 1} → statement M
 dcs-in-spec =

@@ -65,7 +65,7 @@ returns c = (
     prefix = c .before .before .before .before .before .before .before .before .before .before .before .pre .prefix-is x;
     targets = (ap (λ (k : ℕ). map (targetShown (now (c .before .before .before .before .before .before .before .before .before .before .before .args .r))) (take k (c .before .before .before .before .targets .result))) (c .kept-of .ensures ∙ ap (λ (k : ℕ). min k 8) (c .before .before .before .before .before .before .unit-at3 .ensures)) ∙ c .before .before .before .before .targets .ensures .0) x;
   }),
-  record { prefix-within = c .before .before .before .before .before .before .before .before .before .before .before .pre .prefix-inside; kept-within = c .before .before .before .before .targets .ensures .1 },
+  record { prefix-within = c .before .before .before .before .before .before .before .before .before .before .before .pre .prefix-inside; kept-within = c .before .before .before .before .targets .ensures .1; few = omega (arith, c .kept-of .ensures) },
 )
 
 pub referral-in-spec : {M : Type 1} → statement M

@@ -41,16 +41,16 @@ reply-length = refl
 
 -- "80 bytes are read"
 pub reply-read : readReferral 8192 files reply ≡ says (record {
-    version = 3;
-    root = true;
-    referralServers = true;
-    storageServers = true;
-    failback = false;
-    count = 1;
-    ttl = 300;
-    prefix = files;
-    targets = record { path = nas; opens = false } ∷ [];
-  })
+  version = 3;
+  root = true;
+  referralServers = true;
+  storageServers = true;
+  failback = false;
+  count = 1;
+  ttl = 300;
+  prefix = files;
+  targets = record { path = nas; opens = false } ∷ [];
+})
 unfolding reply bytesOf choose every folded sameUnit sameName plain nothingOrDots goodComponent before pieces components componentCount leads withoutTrail body goodPath normalised begins matches u16At u32At flag longer text textAt referralCount headerFlag versionAt sizeAt serverTypeAt entryFlag textOf starts entries fits pathOf isRead readable fixedLength ttlAt prefixAt targetAt goodFields goodEntry laterTarget keptTargets referralIn readAs readReferral
 reply-read = refl
 

@@ -167,13 +167,13 @@ says-sound size asked r x h = subst (Sound asked) (sym (w .same)) sound
 
     sound : Sound asked (referralIn r)
     sound = record {
-          some = omega (arith, count, w .some);
-          most = omega (arith, count);
-          targets-normal = kept-good r (take 8 (entries r)) (every-take (goodEntry r) 8 (entries r) good);
-          prefix-normal = path-normal _ (first-read r (w .some) good);
-          prefix-matches = and-right (every (goodEntry r) (entries r)) _ (w .passed);
-          first-shut = λ t ts e. first-kept r (take 8 (entries r)) t ts e;
-        }
+      some = omega (arith, count, w .some);
+      most = omega (arith, count);
+      targets-normal = kept-good r (take 8 (entries r)) (every-take (goodEntry r) 8 (entries r) good);
+      prefix-normal = path-normal _ (first-read r (w .some) good);
+      prefix-matches = and-right (every (goodEntry r) (entries r)) _ (w .passed);
+      first-shut = λ t ts e. first-kept r (take 8 (entries r)) t ts e;
+    }
 
 -- the reader's answer
 pub denoted-says : (r : List ℕ) (f : ReferralFound) → f .answer ≡ Says → denoted r f ≡ says (referralShown r f)

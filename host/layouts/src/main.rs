@@ -195,7 +195,18 @@ fn captures(c: &mut Counts, dir: &str) {
         }
         if asked.is_empty() {
             domains += 1;
-            c.check(unsafe { wire_domains(r.as_ptr(), r.len(), SIZE) } == SAYS, &format!("{name}: domain reply"));
+            let answer = |r: &[u8]| unsafe { wire_domains(r.as_ptr(), r.len(), SIZE) };
+            c.check(answer(&r) == SAYS, &format!("{name}: domain reply"));
+            let starts: Vec<usize> = entries.iter().map(|e| (e.get("at").number() + e.get("offsets").list()[0].number()) as usize).collect();
+            for n in 0..last_end(&r, &starts) {
+                cuts += 1;
+                c.check(answer(&r[..n]) == MALFORMED, &format!("{name} cut to {n}"));
+            }
+            for (what, at, v) in [("version 4", 8, 4u16), ("NameListReferral clear", 14, 0), ("Size 17", 10, 17), ("offset to a unit 0", 20, 18)] {
+                let mut d = r.clone();
+                d[at..at + 2].copy_from_slice(&v.to_le_bytes());
+                c.check(answer(&d) == MALFORMED, &format!("{name}: {what}"));
+            }
             continue;
         }
         if entries[0].get("name_list_referral").is_true() {
@@ -212,6 +223,20 @@ fn captures(c: &mut Counts, dir: &str) {
             let all: Vec<String> = entries[0].get("expanded_names").list().iter().map(|n| n.text().unwrap().trim_start_matches('\\').into()).collect();
             let expected: Vec<String> = all.into_iter().take(8).collect();
             c.check(k(0) == SAYS && got == expected, &format!("{name}: DC reply, {got:?}"));
+            let answer = |r: &[u8]| unsafe { wire_dcs(r.as_ptr(), r.len(), SIZE, 0) };
+            let mut end = 8 + entries[0].get("offsets").list()[2].number() as usize;
+            for _ in entries[0].get("expanded_names").list() {
+                end = last_end(&r, &[end]);
+            }
+            for n in 0..end {
+                cuts += 1;
+                c.check(answer(&r[..n]) == MALFORMED, &format!("{name} cut to {n}"));
+            }
+            for (what, at, v) in [("version 2", 8, 2u16), ("NameListReferral clear", 14, 0), ("Size 17", 10, 17), ("no names", 22, 0), ("more names than there are", 22, 65535)] {
+                let mut d = r.clone();
+                d[at..at + 2].copy_from_slice(&v.to_le_bytes());
+                c.check(answer(&d) == MALFORMED, &format!("{name}: {what}"));
+            }
             continue;
         }
         let Some(path) = normal(asked) else {

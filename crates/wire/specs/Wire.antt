@@ -1,17 +1,19 @@
 -- The readers' findings as numbers, for programs in other languages.
-use Prim.Native.Nat.{ℕ, _+_, _*_}
+use Prim.Native.Nat.{ℕ, _+_, _*_, _≤_, _<_}
 use mathlib.Core.Path.{_≡_}
 use mathlib.Core.Bool.{Bool, true, false}
 use mathlib.Core.List.{List, [], _∷_}
-use lib.ListN.{getD}
+use lib.ListN.{length, getD}
 use Rattle.spans.specs.declared.Span.{Span}
-use Rattle.referral.specs.Replies.{readReferral}
+use Rattle.laws.specs.Lists.{every}
+use Rattle.spans.specs.Spans.{spanned}
+use Rattle.referral.specs.Replies.{referralCount, entries, readReferral}
 use Rattle.referral.specs.Found.{denoted}
 use Rattle.referral.specs.declared.Kept.{Kept}
 use Rattle.referral.specs.declared.ReferralFound.{ReferralFound}
 use Rattle.referral.specs.declared.Answer.{Answer}
 use Rattle.referral.specs.declared.Answer.the-variants.{Malformed, Nothing, Says}
-use Rattle.namelists.specs.NameLists.{readDcs, readDomains}
+use Rattle.namelists.specs.NameLists.{domainAt, goodDomain, readDcs, readDomains}
 use Rattle.namelists.specs.Found.{denotedDcs, answerOf}
 use Rattle.namelists.specs.declared.DcsFound.{DcsFound}
 
@@ -63,3 +65,16 @@ pub record DcsOf (size : ℕ) (r : List ℕ) (k v : ℕ) : Type 0 where
   pub found : DcsFound
   pub is : denotedDcs r found ≡ readDcs size r
   pub number : v ≡ getD (answerNumber (found .answer) ∷ found .count ∷ []) k 0
+
+-- a good domain reply that has an entry i
+pub record Good (r : List ℕ) (i : ℕ) : Type 0 where
+  pub header : 8 ≤ length r
+  pub short : length r < 4294967296
+  pub good : every (goodDomain r) (entries r) ≡ true
+  pub there : i < referralCount r
+
+-- number k of its domain i
+pub record DomainOf (r : List ℕ) (i k v : ℕ) : Type 0 where
+  pub span : Span
+  pub is : spanned r span ≡ domainAt r (getD (entries r) i 0)
+  pub number : v ≡ getD (spanOf span) k 0

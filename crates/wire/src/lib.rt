@@ -1,10 +1,12 @@
 // What the readers of replies find, as numbers for programs in other languages: the tests over captures link this.
 ghost use mathlib.Core.Path.{_≡_};
-ghost use Prim.Native.Nat.{_<_, _≤_};
+ghost use Prim.Native.Nat.{_+_, _<_, _≤_};
 ghost use lib.ListN.{length, getD};
 ghost use Rattle.namelists.specs.NameLists.{readDomains};
 ghost use Rattle.namelists.specs.Found.{answerOf};
-ghost use Rattle.wire.specs.Wire.{answerNumber, bitOf, bitsOf, headOf, keptOf, noKept, HeadOf, TargetOf, DcOf, DcsOf};
+ghost use Rattle.wire.specs.Wire.{answerNumber, bitOf, bitsOf, headOf, keptOf, noKept, HeadOf, TargetOf, DcOf, DcsOf, Good, DomainOf};
+ghost use Rattle.referral.specs.Replies.{referralCount, entries};
+ghost use Rattle.referral.specs.declared.Answer.the-variants.{Says};
 use referral::Answer;
 use referral::Kept;
 use referral::ReferralFound;
@@ -146,4 +148,53 @@ pub extern "C" fn wire_domains(reply: &[u8], size: u32) -> u64
 {
     let a = namelists::read_domains(reply, size);
     answer_number(a)
+}
+
+// Where entry i of a good domain reply starts.
+fn entry_at(r: &[u8], i: usize) -> usize
+    requires { ⌜ Good (now r) i ⌝ }
+    ensures start { λ v. ⌜ v ≡ getD (entries (now (r .entry))) i 0 ⌝ }
+    ensures inside { λ v. ⌜ v + 18 ≤ length (now (r .entry)) ⌝ }
+{
+    let mut e = 8;
+    let mut j = 0;
+    while j < i {
+        e = referral::next_entry(r, e);
+        j += 1;
+    }
+    e
+}
+
+// Number k of domain i of a good domain reply: where the name starts, its units.
+fn domain_number(r: &[u8], i: usize, k: usize) -> u64
+    requires { ⌜ Good (now r) i ⌝ }
+    ensures { λ v. ⌜ DomainOf (now (r .entry)) i k v ⌝ }
+{
+    let e = entry_at(r, i);
+    let s = namelists::domain_at(r, e);
+    if k == 0 {
+        return s.from as u64;
+    }
+    if k == 1 {
+        return s.units as u64;
+    }
+    0
+}
+
+// Number k of domain i of a domain reply that says something.
+#[no_mangle]
+pub extern "C" fn wire_domain(reply: &[u8], size: u32, i: usize, k: usize) -> u64
+    ensures { λ v. ⌜ (Says ≡ answerOf (readDomains size (now (reply .entry))) → i < referralCount (now (reply .entry)) → DomainOf (now (reply .entry)) i k v) ⌝ }
+{
+    if wire_domains(reply, size) != 2 {
+        return 0;
+    }
+    if reply.len() < 8 {
+        return 0;
+    }
+    let n = spans::unit_at(reply, 2) as usize;
+    if n <= i {
+        return 0;
+    }
+    domain_number(reply, i, k)
 }

@@ -10,6 +10,7 @@ extern "C" {
     fn wire_dcs(reply: *const u8, len: usize, size: u32, k: usize) -> u64;
     fn wire_dc(reply: *const u8, len: usize, size: u32, i: usize, k: usize) -> u64;
     fn wire_domains(reply: *const u8, len: usize, size: u32) -> u64;
+    fn wire_domain(reply: *const u8, len: usize, size: u32, i: usize, k: usize) -> u64;
 }
 
 const SIZE: u32 = 57344;
@@ -196,7 +197,11 @@ fn captures(c: &mut Counts, dir: &str) {
         if asked.is_empty() {
             domains += 1;
             let answer = |r: &[u8]| unsafe { wire_domains(r.as_ptr(), r.len(), SIZE) };
-            c.check(answer(&r) == SAYS, &format!("{name}: domain reply"));
+            let got: Vec<String> = (0..entries.len())
+                .map(|i| unsafe { span(&r, wire_domain(r.as_ptr(), r.len(), SIZE, i, 0), wire_domain(r.as_ptr(), r.len(), SIZE, i, 1)) })
+                .collect();
+            let expected: Vec<String> = entries.iter().map(|e| e.get("special_name").text().unwrap()[1..].into()).collect();
+            c.check(answer(&r) == SAYS && got == expected, &format!("{name}: domain reply, {got:?}"));
             let starts: Vec<usize> = entries.iter().map(|e| (e.get("at").number() + e.get("offsets").list()[0].number()) as usize).collect();
             for n in 0..last_end(&r, &starts) {
                 cuts += 1;

@@ -3,9 +3,9 @@ use mathlib.Core.Path.{_≡_, refl, sym, ap, _∙_, subst}
 use mathlib.Core.Bool.{Bool, true, false, _&&_, not}
 use mathlib.Core.List.{List, [], _∷_, _++_, map}
 use mathlib.Core.Logic.{_⊎_, inl, inr}
-use Prim.Native.Nat.{ℕ, zero, suc, _+_, _-_, _*_, _≤_, _<_, min}
+use Prim.Native.Nat.{ℕ, suc, _+_, _-_, _*_, _≤_, _<_, min}
 use native.Mathlib.Omega.{arith}
-use lib.Dec.{leb, eqb}
+use lib.Dec.{eqb}
 use lib.ListN.{length, getD, take, drop, set, length-drop}
 use lib.Seq.{take-all}
 use borrow.Author.Tests.{eq-eqb, ne-eqb}
@@ -13,7 +13,6 @@ use Rattle.laws.specs.Lists.{every}
 use Rattle.laws.proofs.Choices.{choose-yes, choose-no, and-left, and-right, and-both, and-no-left, and-no-right}
 use Rattle.laws.proofs.Orders.{lt-or-le}
 use Rattle.laws.proofs.Filling.{filled-next, filled-whole, every-set}
-use Rattle.laws.specs.Choice.{choose}
 use Rattle.unc.specs.Names.{goodName}
 use Rattle.spans.specs.Bytes.{Text, ended, unended, textAt, u16At, flag}
 use Rattle.spans.specs.Spans.{spanned, Inside, partOf}
@@ -26,7 +25,7 @@ use Rattle.referral.specs.Found.{inside, answered}
 use Rattle.namelists.specs.Found.{answerOf, denotedDcs, noDcs, Within}
 use Rattle.namelists.specs.declared.DcsFound.{DcsFound}
 use Rattle.referral.specs.declared.Answer.{Answer}
-use Rattle.referral.specs.declared.Answer.the-variants.{Malformed, Nothing, Says}
+use Rattle.referral.specs.declared.Answer.the-variants.{Malformed, Nothing}
 use Rattle.referral.proofs.EntryLaws.{unread-spanned, read-spanned, read-test, fits-room}
 use Rattle.referral.proofs.TargetLaws.{inside-test, none-inside}
 

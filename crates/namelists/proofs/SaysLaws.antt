@@ -1,29 +1,27 @@
 -- What is known of DC and domain replies that say something: for the crates above.
 use mathlib.Core.Path.{_≡_, refl, sym, ap, _∙_, subst}
 use mathlib.Core.Bool.{Bool, true, false, _&&_, not, true≢false}
-use mathlib.Core.List.{List, [], _∷_, _++_, map}
-use mathlib.Core.Logic.{_⊎_, inl, inr}
-use Prim.Native.Nat.{ℕ, zero, suc, _+_, _-_, _*_, _≤_, _<_, min}
+use mathlib.Core.List.{List, [], _∷_, map}
+use Prim.Native.Nat.{ℕ, zero, suc, _+_, _-_, _≤_, _<_, min}
 use native.Mathlib.Omega.{arith}
-use lib.Dec.{leb, eqb}
+use lib.Dec.{eqb}
 use lib.ListN.{length, getD, take, drop, length-take}
-use borrow.Author.Tests.{eqb-true, eqb-false}
+use borrow.Author.Tests.{eqb-false}
 use Rattle.laws.specs.Choice.{choose}
 use Rattle.laws.specs.Lists.{every}
-use Rattle.laws.proofs.Choices.{choose-yes, choose-no, and-left, and-right, and-both}
-use Rattle.laws.proofs.Orders.{told}
+use Rattle.laws.proofs.Choices.{and-left, and-right, and-both}
 use Rattle.laws.proofs.Every.{every-take}
 use Rattle.unc.specs.Names.{goodName}
 use Rattle.spans.specs.Bytes.{u16At, Text, ended, unended}
 use Rattle.spans.specs.Spans.{spanned}
-use Rattle.referral.specs.Replies.{referralCount, starts, entries, sizeAt, versionAt, fits, entryFlag, readable, isRead, Reply, malformed, nothing, says, readAs}
+use Rattle.referral.specs.Replies.{referralCount, starts, entries, sizeAt, versionAt, fits, entryFlag, readable, isRead, Reply, malformed, nothing, says}
 use Rattle.referral.specs.Found.{answered}
 use Rattle.referral.specs.declared.Answer.{Answer}
-use Rattle.referral.specs.declared.Answer.the-variants.{Malformed, Nothing, Says}
+use Rattle.referral.specs.declared.Answer.the-variants.{Says}
 use Rattle.referral.proofs.EntryLaws.{starts-cons}
 use Rattle.referral.proofs.SaysLaws.{Read, read-says}
 use Rattle.namelists.specs.NameLists.{bare, dcOf, domainOf, textsAt, dcNames, goodDcs, readDcs, domainAt, goodDomain, readDomains}
-use Rattle.namelists.specs.Found.{denotedDcs, answerOf, Within}
+use Rattle.namelists.specs.Found.{denotedDcs, answerOf}
 use Rattle.namelists.specs.declared.DcsFound.{DcsFound}
 use Rattle.namelists.proofs.ListLaws.{domain-fit}
 

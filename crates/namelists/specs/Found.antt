@@ -6,7 +6,6 @@ use Rattle.laws.specs.Lists.{every}
 use mathlib.Core.List.{List, map}
 use lib.ListN.{take, replicate}
 use Rattle.spans.specs.Spans.{spanned}
-use Rattle.spans.specs.declared.Span.{Span}
 use Rattle.referral.specs.Replies.{Reply, malformed, nothing, says}
 use Rattle.referral.specs.Found.{inside, answered}
 use Rattle.referral.specs.declared.Answer.{Answer}

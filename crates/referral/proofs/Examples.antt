@@ -1,7 +1,7 @@
 -- Document 01's examples marked P, on the definitions.
 use mathlib.Core.Path.{_≡_, refl}
-use mathlib.Core.Bool.{Bool, true, false, _&&_, _||_, not}
-use mathlib.Core.List.{List, [], _∷_, _++_, map}
+use mathlib.Core.Bool.{true, false}
+use mathlib.Core.List.{List, [], _∷_, _++_}
 use Prim.Native.Nat.{ℕ}
 use lib.ListN.{length, take}
 use Rattle.laws.specs.Choice.{choose}
@@ -10,7 +10,7 @@ use Rattle.unc.specs.Names.{folded, sameUnit, sameName, plain, nothingOrDots, g
 use Rattle.unc.specs.Paths.{before, pieces, components, componentCount, leads, withoutTrail, body, goodPath, normalised, begins, matches}
 use Rattle.spans.specs.Bytes.{u16At, u32At, flag, longer, text, textAt}
 use Rattle.referral.specs.Request.{bytesOf, request}
-use Rattle.referral.specs.Replies.{referralCount, headerFlag, versionAt, sizeAt, serverTypeAt, entryFlag, textOf, starts, entries, fits, pathOf, isRead, readable, fixedLength, ttlAt, prefixAt, targetAt, goodFields, goodEntry, laterTarget, keptTargets, referralIn, Reply, malformed, says, readAs, readReferral}
+use Rattle.referral.specs.Replies.{referralCount, headerFlag, versionAt, sizeAt, serverTypeAt, entryFlag, textOf, starts, entries, fits, pathOf, isRead, readable, fixedLength, ttlAt, prefixAt, targetAt, goodFields, goodEntry, laterTarget, keptTargets, referralIn, malformed, says, readAs, readReferral}
 
 -- `\files\s1`
 abbrev pub files : List ℕ

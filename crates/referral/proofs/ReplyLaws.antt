@@ -1,25 +1,22 @@
 -- Laws of replies as a whole.
-use mathlib.Core.Path.{_≡_, refl, sym, ap, _∙_}
+use mathlib.Core.Path.{_≡_, sym, ap, _∙_}
 use mathlib.Core.Bool.{Bool, true, false, _&&_, true≢false}
 use mathlib.Core.Logic.{_⊎_, inl, inr}
-use mathlib.Core.List.{List, [], _∷_, map}
-use Prim.Native.Nat.{ℕ, _+_, _-_, _*_, _≤_, _<_, min}
+use mathlib.Core.List.{List}
+use Prim.Native.Nat.{ℕ, _-_, _≤_, _<_}
 use native.Mathlib.Omega.{arith}
 use lib.Dec.{leb, eqb}
-use lib.ListN.{length, take}
+use lib.ListN.{length}
 use borrow.Author.Tests.{eq-eqb, ne-eqb, le-leb, lt-leb}
 use Rattle.laws.specs.Choice.{choose}
 use Rattle.laws.specs.Lists.{every}
 use Rattle.laws.proofs.Choices.{choose-yes, choose-no, and-both, and-no-left, and-no-right}
-use Rattle.spans.specs.Bytes.{u16At, u32At, flag}
-use Rattle.spans.specs.Spans.{spanned}
-use Rattle.spans.specs.declared.Span.{Span}
-use Rattle.referral.specs.Replies.{goodEntry, Reply, malformed, nothing, says, readAs, referralCount, versionAt, serverTypeAt, headerFlag, ttlAt, prefixAt, keptTargets, entries, Referral, referralIn}
-use Rattle.referral.specs.Found.{answered, denoted, referralShown, targetShown, noReferral, Within, keptInside}
-use Rattle.referral.specs.declared.Kept.{Kept}
+use Rattle.spans.specs.Bytes.{u16At, flag}
+use Rattle.referral.specs.Replies.{goodEntry, malformed, nothing, says, readAs, referralCount, entries}
+use Rattle.referral.specs.Found.{answered, denoted, noReferral, Within}
 use Rattle.referral.specs.declared.ReferralFound.{ReferralFound}
 use Rattle.referral.specs.declared.Answer.{Answer}
-use Rattle.referral.specs.declared.Answer.the-variants.{Malformed, Nothing, Says}
+use Rattle.referral.specs.declared.Answer.the-variants.{Malformed, Nothing}
 use Rattle.laws.proofs.Orders.{lt-or-le}
 use Rattle.referral.proofs.EntryLaws.{entries-short, entry-short}
 use Rattle.referral.proofs.TargetLaws.{none-kept}

@@ -1,21 +1,19 @@
 -- Laws of requests.
 use mathlib.Core.Path.{_≡_, refl, sym, ap, _∙_}
-use mathlib.Core.Bool.{Bool, true, false}
+use mathlib.Core.Bool.{true, false}
 use mathlib.Core.List.{List, [], _∷_, _++_, append-assoc}
-use Prim.Native.Nat.{ℕ, zero, suc, _+_, _-_, _*_, _/_, _%_, _≤_, _<_}
+use Prim.Native.Nat.{ℕ, _+_, _-_, _*_, _/_, _%_, _≤_, _<_}
 use native.Mathlib.Numerals.{add-one}
 use native.Mathlib.Omega.{arith}
 use lib.Dec.{leb}
-use lib.ListN.{length, getD, take, drop, set, length-append, length-take}
+use lib.ListN.{length, getD, take, set, length-append, length-take}
 use lib.Seq.{take-suc, take-all}
 use borrow.Author.Tests.{le-leb, lt-leb}
-use Rattle.laws.specs.Choice.{choose}
 use Rattle.laws.specs.Lists.{pasted}
 use Rattle.laws.proofs.Choices.{choose-yes, choose-no}
 use Rattle.laws.proofs.Pasting.{set-pasted, length-pasted, pasted-join, pasted-nil}
 use Rattle.referral.specs.Request.{bytesOf, request}
 use Rattle.referral.specs.Found.{asked, bufferWith}
-use Rattle.referral.specs.declared.Asked.{Asked}
 use Rattle.referral.specs.declared.Asked.the-variants.{Bytes, TooShort}
 
 pub length-bytes : (s : List ℕ) → length (bytesOf s) ≡ 2 * length s

@@ -1,14 +1,13 @@
 -- What is known of a reply that says something: for the crates above.
 use mathlib.Core.Path.{_≡_, refl, sym, ap, _∙_, subst}
 use mathlib.Core.Bool.{Bool, true, false, _&&_, not, true≢false}
-use mathlib.Core.List.{List, [], _∷_, _++_, map}
+use mathlib.Core.List.{List, [], _∷_, map}
 use mathlib.Core.Logic.{_⊎_, inl, inr}
-use Prim.Native.Nat.{ℕ, zero, suc, _+_, _-_, _*_, _≤_, _<_, zero-le, min}
-use native.Mathlib.Nat.{not-suc-le-zero}
+use Prim.Native.Nat.{ℕ, zero, suc, _+_, _-_, _≤_, _<_, min}
 use native.Mathlib.Omega.{arith}
 use lib.Dec.{leb, eqb}
-use lib.ListN.{length, getD, take, drop, length-take}
-use borrow.Author.Tests.{eqb-true, eqb-false, leb-true, le-leb, eq-eqb}
+use lib.ListN.{length, getD, take, length-take}
+use borrow.Author.Tests.{eqb-false, leb-true, le-leb}
 use Rattle.laws.specs.Choice.{choose}
 use Rattle.laws.specs.Lists.{every}
 use Rattle.laws.proofs.Choices.{choose-yes, choose-no, and-left, and-right, and-both, eqb-refl}
@@ -17,13 +16,11 @@ use Rattle.laws.proofs.Every.{every-take}
 use Rattle.unc.specs.Names.{goodComponent, sameName}
 use Rattle.unc.specs.Paths.{leads, pieces, body, goodPath, normalised, isNormalised, normalisedCount, componentCount, matches}
 use Rattle.spans.specs.Bytes.{u16At, u32At, Text, ended, unended}
-use Rattle.spans.specs.Spans.{spanned}
-use Rattle.referral.specs.Replies.{referralCount, starts, entries, pathOf, isRead, prefixAt, targetAt, goodFields, goodEntry, Target, laterTarget, keptTargets, Referral, referralIn, ttlAt, Reply, malformed, nothing, says, readAs, readReferral}
+use Rattle.referral.specs.Replies.{referralCount, starts, entries, pathOf, isRead, prefixAt, targetAt, goodFields, goodEntry, Target, laterTarget, keptTargets, Referral, referralIn, ttlAt, malformed, nothing, says, readAs, readReferral}
 use Rattle.referral.specs.Found.{answered, denoted, referralShown, targetShown, Within}
-use Rattle.referral.specs.declared.Kept.{Kept}
 use Rattle.referral.specs.declared.ReferralFound.{ReferralFound}
 use Rattle.referral.specs.declared.Answer.{Answer}
-use Rattle.referral.specs.declared.Answer.the-variants.{Malformed, Nothing, Says}
+use Rattle.referral.specs.declared.Answer.the-variants.{Says}
 
 never-says-bad : {A : Type 0} {a : A} → malformed ≡ says a → ⊥
 never-says-bad h = let z : _≡_ {A = ℕ} 0 1 = cc in omega arith

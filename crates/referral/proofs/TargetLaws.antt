@@ -1,15 +1,15 @@
 -- Laws of the kept targets.
-use mathlib.Core.Path.{_≡_, refl, sym, ap, _∙_, subst}
+use mathlib.Core.Path.{_≡_, refl, sym, ap, _∙_}
 use mathlib.Core.Bool.{Bool, true, false, _&&_}
 use mathlib.Core.List.{List, [], _∷_, _++_, map}
 use mathlib.Core.Logic.{_⊎_, inl, inr}
 use Prim.Native.Nat.{ℕ, zero, suc, _+_, _-_, _*_, _≤_, _<_, min}
 use native.Mathlib.Omega.{arith}
-use lib.Dec.{leb, eqb}
+use lib.Dec.{eqb}
 use lib.ListN.{length, take, set, replicate}
 use borrow.Author.Tests.{eq-eqb, ne-eqb, le-leb, leb-true}
 use Rattle.laws.specs.Lists.{every}
-use Rattle.laws.proofs.Choices.{and-left, and-right, and-both, and-no-left}
+use Rattle.laws.proofs.Choices.{and-left, and-right, and-no-left}
 use Rattle.laws.proofs.Orders.{lt-or-le}
 use Rattle.laws.proofs.Filling.{filled-next, filled-whole, every-set, every-copies}
 use Rattle.spans.specs.Bytes.{u16At, flag}

@@ -1,25 +1,21 @@
 -- Laws of paths and names in texts, as spans.
-use mathlib.Core.Path.{_≡_, refl, sym, ap, _∙_, subst}
-use mathlib.Core.Bool.{Bool, true, false, _&&_}
+use mathlib.Core.Path.{_≡_, sym, ap, _∙_, subst}
+use mathlib.Core.Bool.{true, false}
 use mathlib.Core.List.{List, [], _∷_}
 use mathlib.Core.Logic.{_⊎_, inl, inr}
-use Prim.Native.Nat.{ℕ, zero, suc, _+_, _-_, _*_, _≤_, _<_}
+use Prim.Native.Nat.{ℕ, suc, _+_, _-_, _≤_, _<_}
 use native.Mathlib.Omega.{arith}
-use lib.Dec.{leb, eqb}
-use lib.ListN.{length, getD, take, drop, length-drop}
-use lib.Seq.{drop-cons, take-all}
-use borrow.Author.Tests.{eq-eqb, ne-eqb, le-leb, lt-leb}
-use Rattle.laws.specs.Choice.{choose}
+use lib.Dec.{leb}
+use lib.ListN.{length, getD, take, drop}
+use lib.Seq.{drop-cons}
+use borrow.Author.Tests.{le-leb, lt-leb}
 use Rattle.laws.proofs.Choices.{choose-yes, choose-no, and-both, and-no-left, and-no-right}
-use Rattle.laws.proofs.Orders.{told, lt-or-le}
-use Rattle.unc.specs.Names.{goodName}
-use Rattle.unc.specs.Paths.{leads, withoutTrail, body, goodPath, normalised, goodCount, componentCount, pieces}
-use Rattle.unc.proofs.PieceLaws.{parts, length-pieces}
+use Rattle.laws.proofs.Orders.{lt-or-le}
+use Rattle.unc.specs.Paths.{leads, withoutTrail, body, goodPath, normalised, goodCount, componentCount}
+use Rattle.unc.proofs.PieceLaws.{parts}
 use Rattle.unc.proofs.FormLaws.{leads-none, leads-one, leads-two, leads-within, body-found, body-length, body-within, count-found, found-good, path-unled, path-bad, count-none, count-some, count-normalised}
-use Rattle.spans.specs.Bytes.{unitsAt, Text, ended, unended, textAt}
-use Rattle.spans.specs.Spans.{spanned, Inside, partOf}
-use Rattle.spans.specs.declared.Span.{Span}
-use Rattle.spans.proofs.UnitLaws.{length-spanned, part-spanned, EndedAt}
+use Rattle.spans.specs.Bytes.{unitsAt, Text, ended, unended}
+use Rattle.spans.specs.Spans.{spanned}
 use Rattle.referral.specs.Replies.{pathOf}
 
 -- a span of no units

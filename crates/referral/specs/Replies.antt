@@ -1,8 +1,8 @@
 -- Replies: document 01, "Layouts". A reply is a list of bytes; each field and text is what stands at its offset.
-use Prim.Native.Nat.{ℕ, zero, suc, _+_, _*_}
+use Prim.Native.Nat.{ℕ, zero, suc, _+_}
 use mathlib.Core.Bool.{Bool, true, false, _&&_, _||_, not}
 use mathlib.Core.List.{List, [], _∷_, map}
-use lib.ListN.{length, getD, take, drop}
+use lib.ListN.{length, take}
 use lib.Dec.{leb, eqb}
 use Rattle.laws.specs.Choice.{choose}
 use Rattle.laws.specs.Lists.{every}

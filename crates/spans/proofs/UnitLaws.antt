@@ -1,6 +1,6 @@
 -- Laws of units, spans and texts in bytes.
 use mathlib.Core.Path.{_≡_, refl, sym, ap, _∙_, subst}
-use mathlib.Core.Bool.{Bool, true, false}
+use mathlib.Core.Bool.{true, false}
 use mathlib.Core.List.{List, [], _∷_}
 use mathlib.Core.Logic.{_⊎_, inl, inr}
 use Prim.Native.Nat.{ℕ, zero, suc, _+_, _-_, _*_, _≤_, _<_}
@@ -10,16 +10,15 @@ use native.Mathlib.Omega.{arith}
 use lib.Dec.{eqb}
 use lib.ListN.{length, getD, take, drop, drop-of-length-le, length-drop, replicate}
 use lib.Seq.{drop-cons, getD-drop}
-use borrow.Author.Tests.{eqb-true, eqb-false, eq-eqb, ne-eqb}
+use borrow.Author.Tests.{eq-eqb, ne-eqb}
 use Rattle.laws.specs.Choice.{choose}
 use Rattle.laws.proofs.Choices.{choose-yes, choose-no}
 use Rattle.laws.specs.Lists.{pasted, roomed}
 use Rattle.laws.proofs.Orders.{told}
 use Rattle.laws.proofs.Pasting.{pasted-room}
-use Rattle.spans.specs.Bytes.{u16At, u32At, unitsAt, Text, ended, unended, longer, text, textAt}
+use Rattle.spans.specs.Bytes.{u16At, unitsAt, Text, ended, unended, longer, text, textAt}
 use Rattle.spans.specs.Spans.{spanned, Inside, partOf, textEnd}
 use Rattle.spans.specs.declared.Span.{Span}
-use Rattle.spans.specs.declared.Read.{Read}
 use Rattle.spans.specs.declared.Read.the-variants.{Ended, Unended}
 
 -- units by their places

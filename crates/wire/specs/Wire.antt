@@ -13,8 +13,8 @@ use Rattle.referral.specs.declared.Kept.{Kept}
 use Rattle.referral.specs.declared.ReferralFound.{ReferralFound}
 use Rattle.referral.specs.declared.Answer.{Answer}
 use Rattle.referral.specs.declared.Answer.the-variants.{Malformed, Nothing, Says}
-use Rattle.namelists.specs.NameLists.{domainAt, goodDomain, readDcs, readDomains}
-use Rattle.namelists.specs.Found.{denotedDcs, answerOf}
+use Rattle.namelists.specs.NameLists.{domainAt, goodDomain, readDcs}
+use Rattle.namelists.specs.Found.{denotedDcs}
 use Rattle.namelists.specs.declared.DcsFound.{DcsFound}
 
 unfoldable pub answerNumber : Answer → ℕ

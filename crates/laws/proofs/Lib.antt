@@ -2,6 +2,7 @@
 pub mod Choices
 pub mod Orders
 pub mod Pasting
+pub mod Filling
 pub mod Every
 pub mod Chunks
 pub mod Tests

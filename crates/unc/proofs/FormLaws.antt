@@ -87,7 +87,7 @@ trail-begin t = go (eqb (getD t (length t - 1) 0) 92)
     go false = take-length t
 
 -- the test of every component, read off the count
-count-none : (t : List ℕ) → goodCount 0 t ≡ 0 → every goodComponent (pieces t) ≡ false
+pub count-none : (t : List ℕ) → goodCount 0 t ≡ 0 → every goodComponent (pieces t) ≡ false
 unfolding goodCount
 count-none t h = go (told (every goodComponent (pieces t)))
   where
@@ -95,7 +95,7 @@ count-none t h = go (told (every goodComponent (pieces t)))
     go (inl e) = absurd (let z : 0 + length (pieces t) ≡ 0 = sym (choose-yes (0 + length (pieces t)) 0 e) ∙ h in omega (arith, length-pieces t))
     go (inr e) = e
 
-count-some : (t : List ℕ) → (goodCount 0 t ≡ 0 → ⊥) → (every goodComponent (pieces t) ≡ true) × (goodCount 0 t ≡ length (pieces t))
+pub count-some : (t : List ℕ) → (goodCount 0 t ≡ 0 → ⊥) → (every goodComponent (pieces t) ≡ true) × (goodCount 0 t ≡ length (pieces t))
 unfolding goodCount
 count-some t h = go (told (every goodComponent (pieces t)))
   where
@@ -109,15 +109,15 @@ pub count-normalised : (t : List ℕ) → componentCount (92 ∷ t) ≡ length (
 count-normalised t = count-backslash 92 t refl ∙ sym (length-pieces t)
 
 -- the ways of `goodPath`
-path-good : (s : List ℕ) → (leads s ≡ 0 → ⊥) → every goodComponent (pieces (body s)) ≡ true → goodPath s ≡ true
+pub path-good : (s : List ℕ) → (leads s ≡ 0 → ⊥) → every goodComponent (pieces (body s)) ≡ true → goodPath s ≡ true
 unfolding goodPath
 path-good s h k = rw (ne-eqb (leads s) 0 h, k)
 
-path-bad : (s : List ℕ) → every goodComponent (pieces (body s)) ≡ false → goodPath s ≡ false
+pub path-bad : (s : List ℕ) → every goodComponent (pieces (body s)) ≡ false → goodPath s ≡ false
 unfolding goodPath
 path-bad s k = and-no-right (not (eqb (leads s) 0)) k
 
-path-unled : (s : List ℕ) → leads s ≡ 0 → goodPath s ≡ false
+pub path-unled : (s : List ℕ) → leads s ≡ 0 → goodPath s ≡ false
 unfolding goodPath
 path-unled s h = rw (eq-eqb (leads s) 0 h)
 
@@ -173,14 +173,14 @@ module _ (s : List ℕ) (from to k : ℕ) (a : from ≡ leads s) (b : to ≡ fro
   form-lead m h = form-no m s (path-unled s (sym a ∙ h))
 
   module _ (c : k ≡ goodCount 0 (take (to - from) (drop from s))) where
-    count-found : k ≡ goodCount 0 (body s)
+    pub count-found : k ≡ goodCount 0 (body s)
     count-found = c ∙ ap (goodCount 0) body-found
 
     pub form-bad : (m : ℕ) → k ≡ 0 → formWithin m s ≡ Bad
     form-bad m h = form-no m s (path-bad s (count-none (body s) (sym count-found ∙ h)))
 
     module _ (h : from ≡ 0 → ⊥) (g : k ≡ 0 → ⊥) where
-      found-good : goodPath s ≡ true
+      pub found-good : goodPath s ≡ true
       found-good = path-good s (λ e. h (a ∙ e)) (count-some (body s) (λ e. g (count-found ∙ e)) .0)
 
       pub form-long : (m : ℕ) → m < to - from + 1 → formWithin m s ≡ Long

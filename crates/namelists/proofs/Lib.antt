@@ -1,0 +1,3 @@
+-- Laws of DC and domain replies.
+pub mod ListLaws
+pub mod SaysLaws

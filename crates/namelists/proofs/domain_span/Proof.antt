@@ -1,0 +1,46 @@
+-- The domain name in a text.
+use denote.Ref.{now}
+use mathlib.Core.Path.{sym, ap, _∙_}
+use Prim.Native.Nat.{_-_}
+use native.Mathlib.Omega.{arith}
+use Rattle.spans.specs.Spans.{spanned, partOf}
+use Rattle.spans.proofs.UnitLaws.{length-spanned, inside-is}
+use Rattle.namelists.proofs.ListLaws.{rest-spanned, domain-unled, domain-no, domain-yes}
+use Rattle.referral.proofs.TextLaws.{none-spanned}
+use Rattle.unc.proofs.FormLaws.{past-end}
+use borrow.Author.Needs.{needs}
+use Rattle.namelists.proofs.domain_span.Statement.{statement}
+use Rattle.namelists.proofs.domain_span.Tie as tie
+
+returns : tie.Need-returns
+returns c = (none-spanned (now (c .before .before .args .r)) (domain-unled (spanned (now (c .before .before .args .r)) (c .before .before .args .s)) (past-end (spanned (now (c .before .before .args .r)) (c .before .before .args .s)) 0 (omega (arith, length-spanned (now (c .before .before .args .r)) (c .before .before .args .s))))), omega arith)
+
+unit-of-requires : tie.Need-unit-of-requires
+unit-of-requires c κs = search needs
+
+returns-2 : tie.Need-returns-2
+returns-2 c = (none-spanned (now (c .before .before .before .before .args .r)) (domain-unled (spanned (now (c .before .before .before .before .args .r)) (c .before .before .before .before .args .s)) (λ e. c .if2 .taken (c .before .unit-of .ensures ∙ e))), omega arith)
+
+part-requires : tie.Need-part-requires
+part-requires c κs = search needs
+
+good-name-requires : tie.Need-good-name-requires
+good-name-requires c κs = inside-is (now (c .before .before .before .before .before .args .r)) (c .part .result) (partOf (c .before .before .before .before .before .args .s) 1 ((c .before .before .before .before .before .args .s) .units)) (c .part .ensures) (omega arith)
+
+returns-3 : tie.Need-returns-3
+returns-3 c = (domain-yes (spanned (now (c .before .before .before .before .before .before .before .args .r)) (c .before .before .before .before .before .before .before .args .s)) (sym (c .before .before .before .before .unit-of .ensures) ∙ c .before .before .before .if2 .left) (ap (spanned (now (c .before .before .before .before .before .before .before .args .r))) (c .before .before .part .ensures) ∙ rest-spanned (now (c .before .before .before .before .before .before .before .args .r)) (c .before .before .before .before .before .before .before .args .s) (omega arith)) (c .before .good-name .ensures) (c .if3 .taken), inside-is (now (c .before .before .before .before .before .before .before .args .r)) (c .before .before .part .result) (partOf (c .before .before .before .before .before .before .before .args .s) 1 ((c .before .before .before .before .before .before .before .args .s) .units)) (c .before .before .part .ensures) (omega arith))
+
+returns-4 : tie.Need-returns-4
+returns-4 c = (none-spanned (now (c .before .before .before .before .before .before .before .args .r)) (domain-no (spanned (now (c .before .before .before .before .before .before .before .args .r)) (c .before .before .before .before .before .before .before .args .s)) (ap (spanned (now (c .before .before .before .before .before .before .before .args .r))) (c .before .before .part .ensures) ∙ rest-spanned (now (c .before .before .before .before .before .before .before .args .r)) (c .before .before .before .before .before .before .before .args .s) (omega arith)) (c .before .good-name .ensures) (c .if3 .left)), omega arith)
+
+pub domain-span-spec : {M : Type 1} → statement M
+domain-span-spec =
+    tie.close
+    (tie.spec
+    returns
+    unit-of-requires
+    returns-2
+    part-requires
+    good-name-requires
+    returns-3
+    returns-4)

@@ -1,0 +1,14 @@
+-- Nothing is handed on.
+use mathlib.Core.Path.{refl}
+use Prim.Native.Nat.{_-_}
+use Rattle.namelists.specs.Found.{noDcs}
+use Rattle.referral.specs.declared.Answer.the-variants.{Nothing}
+use Rattle.namelists.proofs.no_dcs.Statement.{statement}
+use Rattle.namelists.proofs.no_dcs.Tie as tie
+
+returns : tie.Need-returns
+unfolding noDcs
+returns c = refl
+
+pub no-dcs-spec : {M : Type 1} → statement M
+no-dcs-spec = tie.close (tie.spec returns)

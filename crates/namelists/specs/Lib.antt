@@ -1,0 +1,3 @@
+-- Document 01, "Layouts": DC and domain replies.
+pub mod NameLists
+pub mod Found

@@ -1,0 +1,258 @@
+// DC and domain replies on lent bytes: document 01, "Layouts".
+ghost use mathlib.Core.Path.{_≡_};
+ghost use mathlib.Core.Bool.{true};
+ghost use mathlib.Core.List.{List, map};
+ghost use Prim.Native.Nat.{_+_, _*_, _≤_, _<_, min};
+ghost use lib.ListN.{length, take};
+ghost use Rattle.laws.specs.Lists.{every};
+ghost use Rattle.spans.specs.Bytes.{ended, textAt};
+ghost use Rattle.spans.specs.Spans.{spanned, Inside};
+ghost use Rattle.referral.specs.Replies.{isRead, entries, says};
+ghost use Rattle.referral.specs.Found.{inside};
+ghost use Rattle.namelists.specs.NameLists.{bare, dcOf, domainOf, bytesPast, textsAt, dcNames, goodDcs, readDcs, domainAt, goodDomain, readDomains};
+ghost use Rattle.namelists.specs.Found.{denotedDcs, Within, noDcs, answerOf};
+use referral::Answer;
+use spans::Read;
+use spans::Span;
+
+const BACKSLASH: u16 = 92;
+
+pub struct DcsFound {
+    pub answer: Answer,
+    pub kept: [Span; 8],
+    pub count: usize,
+}
+
+fn bare(r: &[u8], s: Span) -> Span
+    requires { ⌜ Inside (now r) s ⌝ }
+    ensures name { λ v. ⌜ spanned (now (r .entry)) v ≡ bare (spanned (now (r .entry)) s) ⌝ }
+    ensures inside { λ v. ⌜ Inside (now (r .entry)) v ⌝ }
+{
+    let n = s.units;
+    if n == 0 {
+        return s;
+    }
+    if spans::unit_of(r, s, 0) != BACKSLASH {
+        return s;
+    }
+    spans::part(s, 1, n)
+}
+
+fn dc_span(r: &[u8], s: Span) -> Span
+    requires { ⌜ Inside (now r) s ⌝ }
+    ensures name { λ v. ⌜ spanned (now (r .entry)) v ≡ dcOf (ended (spanned (now (r .entry)) s)) ⌝ }
+    ensures inside { λ v. ⌜ Inside (now (r .entry)) v ⌝ }
+{
+    let b = bare(r, s);
+    if spans::good_name(r, b) {
+        return b;
+    }
+    Span { from: 0, units: 0 }
+}
+
+fn domain_span(r: &[u8], s: Span) -> Span
+    requires { ⌜ Inside (now r) s ⌝ }
+    ensures name { λ v. ⌜ spanned (now (r .entry)) v ≡ domainOf (ended (spanned (now (r .entry)) s)) ⌝ }
+    ensures inside { λ v. ⌜ Inside (now (r .entry)) v ⌝ }
+{
+    let n = s.units;
+    if n == 0 {
+        return Span { from: 0, units: 0 };
+    }
+    if spans::unit_of(r, s, 0) != BACKSLASH {
+        return Span { from: 0, units: 0 };
+    }
+    let b = spans::part(s, 1, n);
+    if spans::good_name(r, b) {
+        return b;
+    }
+    Span { from: 0, units: 0 }
+}
+
+pub fn domain_at(r: &[u8], e: usize) -> Span
+    requires { ⌜ (e + 13 < length (now r)) × (length (now r) < 4294967296) ⌝ }
+    ensures name { λ v. ⌜ spanned (now (r .entry)) v ≡ domainAt (now (r .entry)) e ⌝ }
+    ensures inside { λ v. ⌜ Inside (now (r .entry)) v ⌝ }
+{
+    let o = spans::unit_at(r, e + 12) as usize;
+    let at = e + o;
+    let Read::Ended { units } = spans::read_text(r, at) else {
+        return Span { from: 0, units: 0 };
+    };
+    domain_span(r, Span { from: at, units })
+}
+
+struct Dc {
+    name: Span,
+    next: usize,
+}
+
+fn dc_at(r: &[u8], at: usize) -> Dc
+    ensures name { λ v. ⌜ spanned (now (r .entry)) (v .name) ≡ dcOf (textAt (now (r .entry)) at) ⌝ }
+    ensures next { λ v. ⌜ v .next ≡ at + bytesPast (textAt (now (r .entry)) at) ⌝ }
+    ensures inside { λ v. ⌜ Inside (now (r .entry)) (v .name) ⌝ }
+{
+    let Read::Ended { units } = spans::read_text(r, at) else {
+        return Dc {
+            name: Span { from: 0, units: 0 },
+            next: at,
+        };
+    };
+    let name = dc_span(r, Span { from: at, units });
+    Dc {
+        name,
+        next: at + 2 * (units + 1),
+    }
+}
+
+fn good_names(r: &[u8], n: usize, from: usize) -> bool
+    ensures { λ v. ⌜ v ≡ every isRead (map dcOf (textsAt n from (now (r .entry)))) ⌝ }
+{
+    let mut at = from;
+    let mut i = 0;
+    while i < n {
+        let d = dc_at(r, at);
+        let s = d.name;
+        if s.units == 0 {
+            return false;
+        }
+        at = d.next;
+        i += 1;
+    }
+    true
+}
+
+fn names(r: &[u8], n: usize, from: usize) -> [Span; 8]
+    ensures names { λ v. ⌜ map (spanned (now (r .entry))) (take (min n 8) v) ≡ take 8 (map dcOf (textsAt n from (now (r .entry)))) ⌝ }
+    ensures inside { λ v. ⌜ every (inside (now (r .entry))) v ≡ true ⌝ }
+{
+    let m = referral::kept_of(n);
+    let mut kept = [Span { from: 0, units: 0 }; 8];
+    let mut at = from;
+    let mut i = 0;
+    while i < m {
+        let d = dc_at(r, at);
+        let s = d.name;
+        kept[i] = s;
+        at = d.next;
+        i += 1;
+    }
+    kept
+}
+
+fn good_dcs(r: &[u8]) -> bool
+    requires { ⌜ 8 ≤ length (now r) ⌝ }
+    ensures { λ v. ⌜ v ≡ goodDcs (now (r .entry)) ⌝ }
+{
+    if !referral::entry_fits(r, 8, 18) {
+        return false;
+    }
+    if !referral::is_readable(spans::unit_at(r, 8)) {
+        return false;
+    }
+    if !referral::has_flag(2, spans::unit_at(r, 14) as u32) {
+        return false;
+    }
+    let n = spans::unit_at(r, 22) as usize;
+    if n == 0 {
+        return false;
+    }
+    let o = spans::unit_at(r, 24) as usize;
+    good_names(r, n, 8 + o)
+}
+
+fn dcs_in(r: &[u8]) -> DcsFound
+    requires { ⌜ 26 ≤ length (now r) ⌝ }
+    ensures found { λ v. ⌜ denotedDcs (now (r .entry)) v ≡ says (take 8 (dcNames (now (r .entry)))) ⌝ }
+    ensures within { λ v. ⌜ Within (now (r .entry)) v ⌝ }
+{
+    let n = spans::unit_at(r, 22) as usize;
+    let o = spans::unit_at(r, 24) as usize;
+    let kept = names(r, n, 8 + o);
+    DcsFound {
+        answer: Answer::Says,
+        kept,
+        count: referral::kept_of(n),
+    }
+}
+
+fn no_dcs(answer: Answer) -> DcsFound
+    ensures { λ v. ⌜ v ≡ noDcs answer ⌝ }
+{
+    DcsFound {
+        answer,
+        kept: [Span { from: 0, units: 0 }; 8],
+        count: 0,
+    }
+}
+
+pub fn read_dcs(r: &[u8], size: u32) -> DcsFound
+    ensures found { λ v. ⌜ denotedDcs (now (r .entry)) v ≡ readDcs size (now (r .entry)) ⌝ }
+    ensures within { λ v. ⌜ Within (now (r .entry)) v ⌝ }
+{
+    if r.len() < 8 {
+        return no_dcs(Answer::Malformed);
+    }
+    if (size as usize) < r.len() {
+        return no_dcs(Answer::Malformed);
+    }
+    if spans::unit_at(r, 2) == 0 {
+        return no_dcs(Answer::Nothing);
+    }
+    if !good_dcs(r) {
+        return no_dcs(Answer::Malformed);
+    }
+    dcs_in(r)
+}
+
+fn good_domain(r: &[u8], e: usize) -> bool
+    requires { ⌜ (e ≤ length (now r)) × (length (now r) < 4294967296) ⌝ }
+    ensures { λ v. ⌜ v ≡ goodDomain (now (r .entry)) e ⌝ }
+{
+    if !referral::entry_fits(r, e, 18) {
+        return false;
+    }
+    if spans::unit_at(r, e) != 3 {
+        return false;
+    }
+    if !referral::has_flag(2, spans::unit_at(r, e + 6) as u32) {
+        return false;
+    }
+    let d = domain_at(r, e);
+    d.units != 0
+}
+
+fn good_domains(r: &[u8]) -> bool
+    requires { ⌜ (8 ≤ length (now r)) × (length (now r) < 4294967296) ⌝ }
+    ensures { λ v. ⌜ v ≡ every (goodDomain (now (r .entry))) (entries (now (r .entry))) ⌝ }
+{
+    let n = spans::unit_at(r, 2) as usize;
+    let mut e = 8;
+    let mut i = 0;
+    while i < n {
+        if !good_domain(r, e) {
+            return false;
+        }
+        e = referral::next_entry(r, e);
+        i += 1;
+    }
+    true
+}
+
+pub fn read_domains(r: &[u8], size: u32) -> Answer
+    ensures { λ v. ⌜ v ≡ answerOf (readDomains size (now (r .entry))) ⌝ }
+{
+    if r.len() < 8 {
+        return Answer::Malformed;
+    }
+    if (size as usize) < r.len() {
+        return Answer::Malformed;
+    }
+    if spans::unit_at(r, 2) == 0 {
+        return Answer::Nothing;
+    }
+    if !good_domains(r) {
+        return Answer::Malformed;
+    }
+    Answer::Says
+}

@@ -1,0 +1,18 @@
+-- TargetFailback by version and header.
+use Prim.Native.Nat.{_-_}
+use Rattle.referral.proofs.ReplyLaws.{failback-other, failback-flag}
+use borrow.Author.Needs.{needs}
+use Rattle.referral.proofs.failback_in.Statement.{statement}
+use Rattle.referral.proofs.failback_in.Tie as tie
+
+returns : tie.Need-returns
+returns c = failback-other (c .before .args .version) (c .before .args .flags) (c .if1 .taken)
+
+has-flag-requires : tie.Need-has-flag-requires
+has-flag-requires c κs = search needs
+
+returns-2 : tie.Need-returns-2
+returns-2 c = failback-flag (c .before .before .args .version) (c .before .before .args .flags) (c .before .if1 .left) (c .has-flag .ensures)
+
+pub failback-in-spec : {M : Type 1} → statement M
+failback-in-spec = tie.close (tie.spec returns has-flag-requires returns-2)

@@ -1,0 +1,86 @@
+-- What a reply says, field by field.
+use denote.Ref.{now}
+use mathlib.Core.Path.{ap, _∙_}
+use Prim.Native.Nat.{ℕ, _-_}
+use lib.ListN.{take}
+use native.Mathlib.Omega.{arith}
+use Rattle.spans.specs.Bytes.{flag}
+use Rattle.referral.specs.Replies.{versionAt, serverTypeAt}
+use Rattle.referral.specs.Replies.{versionAt, serverTypeAt, referralCount}
+use mathlib.Core.List.{map}
+use Prim.Native.Nat.{min}
+use Rattle.referral.specs.Found.{targetShown}
+use mathlib.Core.Bool.{_&&_}
+use Rattle.referral.specs.Replies.{says, referralIn, headerFlag, ttlAt}
+use Rattle.referral.specs.Found.{denoted, answered, referralShown}
+use lib.Dec.{eqb}
+use borrow.Author.Needs.{needs}
+use Rattle.referral.proofs.referral_in.Statement.{statement}
+use Rattle.referral.proofs.referral_in.Tie as tie
+
+unit-at-requires : tie.Need-unit-at-requires
+unit-at-requires c κs = search needs
+
+unit-at-requires-2 : tie.Need-unit-at-requires-2
+unit-at-requires-2 c κs = search needs
+
+word-at-requires : tie.Need-word-at-requires
+word-at-requires c κs = search needs
+
+unit-at-requires-3 : tie.Need-unit-at-requires-3
+unit-at-requires-3 c κs = search needs
+
+word-at-requires-2 : tie.Need-word-at-requires-2
+word-at-requires-2 c κs = search needs
+
+targets-requires : tie.Need-targets-requires
+targets-requires c κs = (omega (arith, c .before .before .before .before .before .before .pre .long), (c .before .before .before .before .before .before .pre .short, c .before .before .before .before .before .before .pre .good))
+
+has-flag-requires : tie.Need-has-flag-requires
+has-flag-requires c κs = search needs
+
+has-flag-requires-2 : tie.Need-has-flag-requires-2
+has-flag-requires-2 c κs = search needs
+
+failback-in-requires : tie.Need-failback-in-requires
+failback-in-requires c κs = search needs
+
+cast-kept-of : tie.Need-cast-kept-of
+cast-kept-of c = search needs
+
+kept-of-requires : tie.Need-kept-of-requires
+kept-of-requires c κs = search needs
+
+returns : tie.Need-returns
+unfolding denoted answered referralShown referralIn versionAt serverTypeAt headerFlag ttlAt referralCount
+returns c = (
+  λ x. says (record {
+    version = c .before .before .before .before .before .before .before .before .before .unit-at .ensures x;
+    root = eqb (c .before .before .before .before .before .before .before .before .unit-at2 .ensures x) 1;
+    referralServers = (c .before .before .before .has-flag .ensures ∙ ap (flag 1) (c .before .before .before .before .before .before .before .word-at .ensures)) x;
+    storageServers = (c .before .before .has-flag2 .ensures ∙ ap (flag 2) (c .before .before .before .before .before .before .before .word-at .ensures)) x;
+    failback = (c .before .failback-in .ensures ∙ (λ y. eqb (c .before .before .before .before .before .before .before .before .before .unit-at .ensures y) 4 && flag 4 (c .before .before .before .before .before .before .before .word-at .ensures y))) x;
+    count = c .before .before .before .before .before .before .unit-at3 .ensures x;
+    ttl = c .before .before .before .before .before .word-at2 .ensures x;
+    prefix = c .before .before .before .before .before .before .before .before .before .before .before .pre .prefix-is x;
+    targets = (ap (λ (k : ℕ). map (targetShown (now (c .before .before .before .before .before .before .before .before .before .before .before .args .r))) (take k (c .before .before .before .before .targets .result))) (c .kept-of .ensures ∙ ap (λ (k : ℕ). min k 8) (c .before .before .before .before .before .before .unit-at3 .ensures)) ∙ c .before .before .before .before .targets .ensures .0) x;
+  }),
+  record { prefix-within = c .before .before .before .before .before .before .before .before .before .before .before .pre .prefix-inside; kept-within = c .before .before .before .before .targets .ensures .1; few = omega (arith, c .kept-of .ensures) },
+)
+
+pub referral-in-spec : {M : Type 1} → statement M
+referral-in-spec =
+    tie.close
+    (tie.spec
+    unit-at-requires
+    unit-at-requires-2
+    word-at-requires
+    unit-at-requires-3
+    word-at-requires-2
+    targets-requires
+    has-flag-requires
+    has-flag-requires-2
+    failback-in-requires
+    cast-kept-of
+    kept-of-requires
+    returns)

@@ -1,0 +1,393 @@
+// Referral requests and replies on lent bytes: document 01, "Layouts".
+ghost use mathlib.Core.Path.{_≡_};
+ghost use mathlib.Core.Bool.{true, _&&_};
+ghost use lib.Dec.{eqb};
+ghost use mathlib.Core.List.{List, [], _∷_, map};
+ghost use Prim.Native.Nat.{_+_, _-_, _*_, _≤_, _<_, min};
+ghost use lib.ListN.{length, take};
+ghost use Rattle.laws.specs.Lists.{every, pasted};
+ghost use Rattle.spans.specs.Bytes.{u16At, flag, ended, textAt};
+ghost use Rattle.spans.specs.Spans.{spanned, Inside};
+ghost use Rattle.referral.specs.Request.{bytesOf, request};
+ghost use Rattle.referral.specs.Replies.{pathOf, textOf};
+ghost use Rattle.referral.specs.Replies.{referralCount, versionAt, sizeAt, serverTypeAt, starts, entries, fits, readable};
+ghost use Rattle.referral.specs.Replies.{goodFields, goodEntry, keptTargets, prefixAt, referralIn, readReferral};
+ghost use Rattle.referral.specs.Replies.{says};
+ghost use Rattle.referral.specs.Found.{inside, Held, Told, Within, noReferral, opensAt, keptInside, targetShown, denoted, asked, bufferWith};
+use spans::Read;
+use spans::Span;
+
+// The most units of a normalised path.
+const PATH_UNITS: usize = 256;
+
+// What a reply is read as.
+pub enum Answer {
+    Malformed,
+    Nothing,
+    Says,
+}
+
+// A kept target, and whether a target set opens before it.
+pub struct Kept {
+    pub path: Span,
+    pub opens: bool,
+}
+
+// A reply to a root, link or SYSVOL request: its texts are spans of the reply. The first `targets` places of `kept` are the targets.
+pub struct ReferralFound {
+    pub answer: Answer,
+    pub version: u16,
+    pub root: bool,
+    pub servers: bool,
+    pub storage: bool,
+    pub failback: bool,
+    pub count: u16,
+    pub ttl: u32,
+    pub prefix: Span,
+    pub kept: [Kept; 8],
+    pub targets: usize,
+}
+
+// A DC reply: the first `count` places of `kept` are the DC names.
+// What writing a request answers.
+pub enum Asked {
+    Bytes(usize),
+    TooShort,
+}
+
+// Whether the flag m, a power of two, is set.
+pub fn has_flag(m: u32, f: u32) -> bool
+    requires { ⌜ 0 < m ⌝ }
+    ensures { λ v. ⌜ v ≡ flag m f ⌝ }
+{
+    f / m % 2 == 1
+}
+
+// The path in a text, normalised; no units where it is bad, too long or has less than 2 components.
+fn path_span(r: &[u8], s: Span) -> Span
+    requires { ⌜ Inside (now r) s ⌝ }
+    ensures path { λ v. ⌜ spanned (now (r .entry)) v ≡ pathOf (ended (spanned (now (r .entry)) s)) ⌝ }
+    ensures inside { λ v. ⌜ Inside (now (r .entry)) v ⌝ }
+{
+    let from = spans::lead(r, s);
+    if from == 0 {
+        return Span { from: 0, units: 0 };
+    }
+    let to = spans::trail(r, s, from);
+    let n = spans::good_count(r, spans::part(s, from, to));
+    if n < 2 {
+        return Span { from: 0, units: 0 };
+    }
+    if PATH_UNITS < to - from + 1 {
+        return Span { from: 0, units: 0 };
+    }
+    spans::part(s, from - 1, to)
+}
+
+// The path at a byte; no units where there is none.
+fn path_at(r: &[u8], at: usize) -> Span
+    ensures path { λ v. ⌜ spanned (now (r .entry)) v ≡ pathOf (textAt (now (r .entry)) at) ⌝ }
+    ensures inside { λ v. ⌜ Inside (now (r .entry)) v ⌝ }
+{
+    let Read::Ended { units } = spans::read_text(r, at) else {
+        return Span { from: 0, units: 0 };
+    };
+    path_span(r, Span { from: at, units })
+}
+
+// The path whose offset from the entry at e stands f bytes into it.
+fn path_of(r: &[u8], e: usize, f: usize) -> Span
+    requires { ⌜ (e + f + 1 < length (now r)) × (length (now r) < 4294967296) ⌝ }
+    ensures path { λ v. ⌜ spanned (now (r .entry)) v ≡ pathOf (textOf f (now (r .entry)) e) ⌝ }
+    ensures inside { λ v. ⌜ Inside (now (r .entry)) v ⌝ }
+{
+    let o = spans::unit_at(r, e + f) as usize;
+    path_at(r, e + o)
+}
+
+// A name without a leading backslash.
+// The DC name in a text; no units where it is not one.
+// The domain name in a text "\domain"; no units where it is not one.
+// The domain name of the entry at e.
+// Where the entry after the one at e starts.
+pub fn next_entry(r: &[u8], e: usize) -> usize
+    requires { ⌜ (e + 3 < length (now r)) × (length (now r) < 4294967296) ⌝ }
+    ensures { λ v. ⌜ v ≡ e + sizeAt (now (r .entry)) e ⌝ }
+{
+    e + spans::unit_at(r, e + 2) as usize
+}
+
+// Size is at least the fixed length and the entry lies inside the reply.
+pub fn entry_fits(r: &[u8], e: usize, fixed: usize) -> bool
+    requires { ⌜ (4 ≤ fixed) × (e ≤ length (now r)) ⌝ }
+    ensures { λ v. ⌜ v ≡ fits fixed (now (r .entry)) e ⌝ }
+{
+    if r.len() - e < fixed {
+        return false;
+    }
+    let size = spans::unit_at(r, e + 2) as usize;
+    if size < fixed {
+        return false;
+    }
+    size <= r.len() - e
+}
+
+pub fn is_readable(v: u16) -> bool
+    ensures { λ r. ⌜ r ≡ readable v ⌝ }
+{
+    if v == 3 {
+        return true;
+    }
+    v == 4
+}
+
+// The numbers of the entry at e, held to those of the first one.
+fn good_fields(r: &[u8], e: usize, version: u16, kind: u16) -> bool
+    requires { ⌜ (e ≤ length (now r)) × ((version ≡ versionAt (now r) 8) × (kind ≡ serverTypeAt (now r) 8)) ⌝ }
+    ensures { λ v. ⌜ v ≡ goodFields (now (r .entry)) e ⌝ }
+{
+    if !entry_fits(r, e, 34) {
+        return false;
+    }
+    let v = spans::unit_at(r, e);
+    if v != version {
+        return false;
+    }
+    if !is_readable(v) {
+        return false;
+    }
+    let flags = spans::unit_at(r, e + 6);
+    if has_flag(2, flags as u32) {
+        return false;
+    }
+    let t = spans::unit_at(r, e + 4);
+    if 1 < t {
+        return false;
+    }
+    t == kind
+}
+
+// The entry at e, held to the first one: its version, ServerType and DFSPath.
+fn good_entry(r: &[u8], e: usize, version: u16, kind: u16, first: Span) -> bool
+    requires { ⌜ Held (now r) version kind first × ((e ≤ length (now r)) × (length (now r) < 4294967296)) ⌝ }
+    ensures { λ v. ⌜ v ≡ goodEntry (now (r .entry)) e ⌝ }
+{
+    if !good_fields(r, e, version, kind) {
+        return false;
+    }
+    let p = path_of(r, e, 12);
+    if p.units == 0 {
+        return false;
+    }
+    if !spans::same_spans(r, p, first) {
+        return false;
+    }
+    let t = path_of(r, e, 16);
+    t.units != 0
+}
+
+// All entries of a reply that has some.
+fn good_entries(r: &[u8]) -> bool
+    requires { ⌜ (8 ≤ length (now r)) × ((length (now r) < 4294967296) × (0 < referralCount (now r))) ⌝ }
+    ensures { λ v. ⌜ v ≡ every (goodEntry (now (r .entry))) (entries (now (r .entry))) ⌝ }
+{
+    let n = spans::unit_at(r, 2) as usize;
+    if r.len() < 42 {
+        return false;
+    }
+    let version = spans::unit_at(r, 8);
+    let kind = spans::unit_at(r, 12);
+    let first = path_of(r, 8, 12);
+    let mut e = 8;
+    let mut i = 0;
+    while i < n {
+        if !good_entry(r, e, version, kind, first) {
+            return false;
+        }
+        e = next_entry(r, e);
+        i += 1;
+    }
+    true
+}
+
+// Whether a target set opens before the target of the entry at e, i entries being before it.
+fn opens_at(r: &[u8], e: usize, i: usize) -> bool
+    requires { ⌜ e + 7 < length (now r) ⌝ }
+    ensures { λ v. ⌜ v ≡ opensAt i (now (r .entry)) e ⌝ }
+{
+    if i == 0 {
+        return false;
+    }
+    if spans::unit_at(r, e) != 4 {
+        return false;
+    }
+    has_flag(4, spans::unit_at(r, e + 6) as u32)
+}
+
+// How many of n are kept.
+pub fn kept_of(n: usize) -> usize
+    ensures { λ v. ⌜ v ≡ min n 8 ⌝ }
+{
+    if n < 8 { n } else { 8 }
+}
+
+// The first 8 targets of a reply whose entries are good.
+fn targets(r: &[u8]) -> [Kept; 8]
+    requires { ⌜ (8 ≤ length (now r)) × ((length (now r) < 4294967296) × (every (goodEntry (now r)) (entries (now r)) ≡ true)) ⌝ }
+    ensures targets { λ v. ⌜ map (targetShown (now (r .entry))) (take (min (referralCount (now (r .entry))) 8) v) ≡ keptTargets (now (r .entry)) (take 8 (entries (now (r .entry)))) ⌝ }
+    ensures inside { λ v. ⌜ every (keptInside (now (r .entry))) v ≡ true ⌝ }
+{
+    let n = spans::unit_at(r, 2) as usize;
+    let m = kept_of(n);
+    let mut kept = [Kept {
+        path: Span { from: 0, units: 0 },
+        opens: false,
+    }; 8];
+    let mut e = 8;
+    let mut i = 0;
+    while i < m {
+        let path = path_of(r, e, 16);
+        let opens = opens_at(r, e, i);
+        kept[i] = Kept { path, opens };
+        e = next_entry(r, e);
+        i += 1;
+    }
+    kept
+}
+
+// TargetFailback: the header's flag 4 in version 4, else 0.
+fn failback_in(version: u16, flags: u32) -> bool
+    ensures { λ v. ⌜ v ≡ (eqb version 4 && flag 4 flags) ⌝ }
+{
+    if version != 4 {
+        return false;
+    }
+    has_flag(4, flags)
+}
+
+// What a reply says whose entries are good.
+fn referral_in(r: &[u8], prefix: Span) -> ReferralFound
+    requires { ⌜ Told (now r) prefix ⌝ }
+    ensures found { λ v. ⌜ denoted (now (r .entry)) v ≡ says (referralIn (now (r .entry))) ⌝ }
+    ensures within { λ v. ⌜ Within (now (r .entry)) v ⌝ }
+{
+    let version = spans::unit_at(r, 8);
+    let kind = spans::unit_at(r, 12);
+    let flags = spans::word_at(r, 4);
+    let count = spans::unit_at(r, 2);
+    let ttl = spans::word_at(r, 16);
+    let kept = targets(r);
+    ReferralFound {
+        answer: Answer::Says,
+        version,
+        root: kind == 1,
+        servers: has_flag(1, flags),
+        storage: has_flag(2, flags),
+        failback: failback_in(version, flags),
+        count,
+        ttl,
+        prefix,
+        kept,
+        targets: kept_of(count as usize),
+    }
+}
+
+fn no_referral(answer: Answer) -> ReferralFound
+    ensures { λ v. ⌜ v ≡ noReferral answer ⌝ }
+{
+    ReferralFound {
+        answer,
+        version: 0,
+        root: false,
+        servers: false,
+        storage: false,
+        failback: false,
+        count: 0,
+        ttl: 0,
+        prefix: Span { from: 0, units: 0 },
+        kept: [Kept {
+            path: Span { from: 0, units: 0 },
+            opens: false,
+        }; 8],
+        targets: 0,
+    }
+}
+
+// A reply to a root, link or SYSVOL request for the name asked, with the size asked for.
+pub fn read_referral(r: &[u8], size: u32, asked: &[u16]) -> ReferralFound
+    ensures found { λ v. ⌜ denoted (now (r .entry)) v ≡ readReferral size (now (asked .entry)) (now (r .entry)) ⌝ }
+    ensures within { λ v. ⌜ Within (now (r .entry)) v ⌝ }
+{
+    if r.len() < 8 {
+        return no_referral(Answer::Malformed);
+    }
+    if (size as usize) < r.len() {
+        return no_referral(Answer::Malformed);
+    }
+    if spans::unit_at(r, 2) == 0 {
+        return no_referral(Answer::Nothing);
+    }
+    if !good_entries(r) {
+        return no_referral(Answer::Malformed);
+    }
+    let prefix = path_of(r, 8, 12);
+    if !spans::span_matches(r, prefix, asked) {
+        return no_referral(Answer::Malformed);
+    }
+    referral_in(r, prefix)
+}
+
+// A DC name, and where the text after it starts.
+// The DC name at a byte; no units where there is none.
+// Whether the n texts from a byte on are DC names.
+// The first 8 of the n DC names from a byte on.
+// The first entry of a DC reply.
+// What a good DC reply says.
+// A DC reply, with the size asked for.
+// The entry at e of a domain reply.
+// All entries of a domain reply.
+// A domain reply, with the size asked for. Of one that says something the names are read one by one: `domain_at` of the entry at 8, then
+// of each that `next_entry` gives.
+
+// The number of bytes of a request for a name.
+pub fn request_length(name: &[u16]) -> usize
+    ensures { λ v. ⌜ v ≡ length (request (now (name .entry))) ⌝ }
+{
+    4 + 2 * name.len()
+}
+
+// A unit as two bytes.
+fn put_pair(out: &mut [u8], at: usize, u: u16)
+    requires { ⌜ at + 1 < length (now out) ⌝ }
+    ensures { λ v. ⌜ now (out .exit) ≡ pasted (now (out .entry)) at (bytesOf (u ∷ [])) ⌝ }
+{
+    out[at] = (u % 256) as u8;
+    out[at + 1] = (u / 256) as u8;
+}
+
+// Units as bytes, one after another.
+fn put_units(out: &mut [u8], at: usize, name: &[u16])
+    requires { ⌜ at + 2 * length (now name) ≤ length (now out) ⌝ }
+    ensures { λ v. ⌜ now (out .exit) ≡ pasted (now (out .entry)) at (bytesOf (now (name .entry))) ⌝ }
+{
+    let mut i = 0;
+    while i < name.len() {
+        put_pair(out, at + 2 * i, name[i]);
+        i += 1;
+    }
+}
+
+// The request for a name, the empty one for domains, into a lent buffer. A buffer that is too short is told before anything is written.
+pub fn request(name: &[u16], out: &mut [u8]) -> Asked
+    ensures answer { λ v. ⌜ v ≡ asked (length (now (out .entry))) (now (name .entry)) ⌝ }
+    ensures buffer { λ v. ⌜ now (out .exit) ≡ bufferWith (now (name .entry)) (now (out .entry)) ⌝ }
+{
+    let n = request_length(name);
+    if out.len() < n {
+        return Asked::TooShort;
+    }
+    put_pair(out, 0, 4);
+    put_units(out, 2, name);
+    put_pair(out, n - 2, 0);
+    Asked::Bytes(n)
+}

@@ -1,0 +1,2 @@
+-- Laws of units and texts in bytes.
+pub mod UnitLaws

@@ -1,0 +1,40 @@
+-- Numbers, flags and texts in a list of bytes, little-endian, at any offset.
+use Prim.Native.Nat.{ℕ, zero, suc, _+_, _*_, _/_, _%_}
+use mathlib.Core.Bool.{Bool}
+use mathlib.Core.List.{List, [], _∷_}
+use lib.ListN.{getD, drop}
+use lib.Dec.{eqb}
+use Rattle.laws.specs.Choice.{choose}
+
+unfoldable pub u16At : List ℕ → ℕ → ℕ
+u16At r i = getD r i 0 + 256 * getD r (i + 1) 0
+
+unfoldable pub u32At : List ℕ → ℕ → ℕ
+u32At r i = u16At r i + 65536 * u16At r (i + 2)
+
+-- the flag m, a power of two, is set in f
+unfoldable pub flag : ℕ → ℕ → Bool
+flag m f = eqb (f / m % 2) 1
+
+-- n units from place i on
+unfoldable pub unitsAt : ℕ → ℕ → List ℕ → List ℕ
+unitsAt zero i r = []
+unitsAt (suc n) i r = u16At r i ∷ unitsAt n (i + 2) r
+
+-- "A string ends with a unit 0 inside the reply": the text before that unit, or none.
+pub data Text : Type 0 where
+  ended : List ℕ → Text
+  unended : Text
+
+unfoldable pub longer : ℕ → Text → Text
+longer u (ended s) = ended (u ∷ s)
+longer u unended = unended
+
+-- the text that a list of bytes begins with
+unfoldable pub text : List ℕ → Text
+text [] = unended
+text (a ∷ []) = unended
+text (a ∷ (b ∷ s)) = choose (eqb (a + 256 * b) 0) (ended []) (longer (a + 256 * b) (text s))
+
+unfoldable pub textAt : List ℕ → ℕ → Text
+textAt r i = text (drop i r)

@@ -1,0 +1,25 @@
+-- Spans: units that stand in bytes, named by where they start and how many they are.
+use Prim.Native.Nat.{ℕ, _+_, _-_, _*_, _≤_}
+use mathlib.Core.List.{List}
+use lib.ListN.{length}
+use Rattle.spans.specs.Bytes.{Text, ended, unended, unitsAt}
+use Rattle.spans.specs.declared.Span.{Span}
+use Rattle.spans.specs.declared.Read.{Read}
+use Rattle.spans.specs.declared.Read.the-variants.{Ended, Unended}
+
+-- the units of a span
+unfoldable pub spanned : List ℕ → Span → List ℕ
+spanned r s = unitsAt (s .units) (s .from) r
+
+-- the span lies inside the bytes
+abbrev pub Inside : List ℕ → Span → Type 0
+Inside r s = s .from + 2 * s .units ≤ length r
+
+-- the units of a span from place a up to place e
+abbrev pub partOf : Span → ℕ → ℕ → Span
+partOf s a e = record { from = s .from + 2 * a; units = e - a }
+
+-- what reading a text answers, n units of it read already
+unfoldable pub textEnd : ℕ → Text → Read
+textEnd n (ended s) = Ended (n + length s)
+textEnd n unended = Unended

@@ -1,0 +1,2 @@
+-- Laws of the numbers handed out.
+pub mod WireLaws

@@ -26,6 +26,9 @@ and-right false b h = absurd (true≢false (sym h))
 pub and-both : {a b : Bool} → a ≡ true → b ≡ true → (a && b) ≡ true
 and-both p q = rw (p, q)
 
+pub and-yes-left : {a : Bool} (b : Bool) → a ≡ true → (a && b) ≡ b
+and-yes-left b h = rw h
+
 pub and-no-left : {a : Bool} (b : Bool) → a ≡ false → (a && b) ≡ false
 and-no-left b p = rw p
 

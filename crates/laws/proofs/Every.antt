@@ -5,6 +5,7 @@ use mathlib.Core.List.{List, [], _∷_, _++_}
 use Prim.Native.Nat.{ℕ, zero, suc, _<_, _≤_}
 use native.Mathlib.Nat.{not-suc-le-zero, le-of-suc-le-suc}
 use lib.ListN.{length, getD, take, drop}
+use lib.Seq.{take-take}
 use Rattle.laws.specs.Lists.{every}
 use Rattle.laws.proofs.Choices.{and-left, and-right, and-both}
 
@@ -31,3 +32,7 @@ module _ {ℓ} {A : Type ℓ} (f : A → Bool) where
   every-take zero xs h = refl
   every-take (suc n) [] h = h
   every-take (suc n) (x ∷ xs) h = and-both (and-left (f x) _ h) (every-take n xs (and-right (f x) _ h))
+
+  -- fewer of the first elements pass too
+  pub every-fewer : (m n : ℕ) (xs : List A) → m ≤ n → every f (take n xs) ≡ true → every f (take m xs) ≡ true
+  every-fewer m n xs l h = rw (← take-take m n xs l) (every-take m (take n xs) h)

@@ -8,3 +8,4 @@ pub mod Chunks
 pub mod Tests
 pub mod Listed
 pub mod Parts
+pub mod Maps

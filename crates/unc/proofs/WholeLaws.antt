@@ -136,9 +136,9 @@ module _ (target p s : List ℕ) (ht : isNormalised target ≡ true) (hs : isNor
           let v : u ≡ 92 = eqb-true u 92 h in
           let n : 1 + (length p - 1) ≡ length p = omega arith in
           let f : drop 1 s ≡ take (length p - 1) (drop 1 s) ++ (92 ∷ b) =
-              sym (take-append-drop (length p - 1) (drop 1 s))
-              ∙ ap (λ (x : List ℕ). take (length p - 1) (drop 1 s) ++ x)
-              (drop-drop (length p - 1) 1 s ∙ (ap (λ (k : ℕ). drop k s) n ∙ (e ∙ ap (λ (x : ℕ). x ∷ b) v))) in
+          sym (take-append-drop (length p - 1) (drop 1 s))
+          ∙ ap (λ (x : List ℕ). take (length p - 1) (drop 1 s) ++ x)
+          (drop-drop (length p - 1) 1 s ∙ (ap (λ (k : ℕ). drop k s) n ∙ (e ∙ ap (λ (x : ℕ). x ∷ b) v))) in
           rw v (extended target b ht (rest-good s hs (take (length p - 1) (drop 1 s)) b f))
 
 -- components add up

@@ -1,0 +1,29 @@
+-- Sets of different size differ; sets of one size are matched, with no target marked at first.
+use mathlib.Core.Path.{refl}
+use native.Mathlib.Omega.{arith}
+use Rattle.laws.specs.Lists.{every}
+use Rattle.equivalence.proofs.ComparisonLaws.{set-unlike, set-matched}
+use borrow.Author.Needs.{needs}
+use Rattle.equivalence.proofs.same_set.Statement.{statement}
+use Rattle.equivalence.proofs.same_set.Tie as tie
+
+sub-if1 : tie.Need-sub-if1
+sub-if1 c = search needs
+
+sub-if1-2 : tie.Need-sub-if1-2
+sub-if1-2 c = search needs
+
+returns : tie.Need-returns
+returns c =
+    set-unlike _ _ _ _ _ (c .before .before .before .args .kept) _ _ (omega arith) (omega arith) (omega arith) (omega arith) (c .if1 .taken)
+
+matched-from-requires : tie.Need-matched-from-requires
+matched-from-requires c κs = search needs
+
+returns-2 : tie.Need-returns-2
+unfolding every
+returns-2 c =
+    set-matched _ _ _ _ _ (c .before .before .before .before .args .kept) _ _ (omega arith) (omega arith) (omega arith) (omega arith) (c .before .if1 .left) _ refl (c .matched-from .ensures)
+
+pub same-set-spec : {M : Type 1} → statement M
+same-set-spec = tie.close (tie.spec sub-if1 sub-if1-2 returns matched-from-requires returns-2)

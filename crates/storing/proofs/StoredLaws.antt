@@ -1,0 +1,137 @@
+-- Laws of the cache after a store: the place, the entry, and that the cache stays in order.
+use mathlib.Core.Path.{_≡_, refl, sym, ap, _∙_, subst}
+use mathlib.Core.Bool.{Bool, true, false}
+use mathlib.Core.List.{List, [], _∷_, map}
+use mathlib.Core.Logic.{_⊎_, inl, inr}
+use mathlib.Core.Option.{Option, none, some}
+use Prim.Native.Nat.{ℕ, _+_, _*_, _/_, _≤_, _<_}
+use native.Mathlib.Omega.{arith}
+use lib.ListN.{length, getD, take, set}
+use lib.Dec.{leb}
+use Rattle.laws.specs.Lists.{every}
+use Rattle.laws.proofs.Choices.{and-left, and-right, and-both}
+use Rattle.laws.proofs.Orders.{told}
+use Rattle.places.specs.Layout.{placeAt, changed, placeCount}
+use Rattle.spans.specs.Spans.{spanned}
+use Rattle.caches.specs.Entries.{Target, Referral, Place, free, used}
+use Rattle.caches.specs.Order.{goodReferral}
+use Rattle.caches.specs.Memory.{referrals, referralUnits, decode, encode, inOrder, pieceOf, goodPlace}
+use Rattle.caches.proofs.MemoryLaws.{Lawful, RightSize, GoodCache, cache-told, order-good, length-decode, changed-encode}
+use Rattle.caches.proofs.KindLaws.{GoodReferral, referral-told, referrals-lawful}
+use Rattle.lookup.specs.Lookup.{entryAt, withKey, newPlace, foundOr}
+use Rattle.lookup.specs.declared.Found.{Found}
+use Rattle.lookup.specs.declared.Found.the-variants.{At, Nothing}
+use Rattle.lookup.proofs.LookupLaws.{KeyAt, key-found, used-inside, new-inside}
+use Rattle.lookup.proofs.StoreLaws.{entry-good, entry-units, entry-is}
+use Rattle.equivalence.specs.Equivalence.{equivalent}
+use Rattle.equivalence.specs.Compared.{heldTargets, givenTargets}
+use Rattle.equivalence.proofs.SetLaws.{given-shown}
+use Rattle.referral.specs.Replies as replies
+use Rattle.referral.specs.Found.{referralShown, keptInside, inside}
+use Rattle.referral.specs.declared.Kept.{Kept}
+use Rattle.referral.specs.declared.ReferralFound.{ReferralFound}
+use Rattle.storing.specs.Stored.{targetsIn, targetsAfter, firstEqual, hinted, failedBack, refreshed, fresh, stored, storedEntry, storePlace, prefixed, held, heldAt}
+use Rattle.storing.specs.Writing.{keptFits, Storable, Held}
+use Rattle.storing.proofs.StoreLaws.{fresh-good}
+use Rattle.storing.proofs.EntryLaws.{withHint}
+use Rattle.storing.proofs.RefreshLaws.{based, hint-good, back-within, first-within, held-good, given-good, refreshed-held, refreshed-given}
+
+-- kept targets that fit lie inside the reply
+kept-in : (r : List ℕ) (k : Kept) → keptFits r k ≡ true → keptInside r k ≡ true
+unfolding keptFits keptInside inside
+kept-in r k h = and-left (leb (k .path .from + 2 * k .path .units) (length r)) _ h
+
+pub all-inside : (r : List ℕ) (ks : List Kept) → every (keptFits r) ks ≡ true → every (keptInside r) ks ≡ true
+unfolding every
+all-inside r [] h = refl
+all-inside r (k ∷ ks) h = and-both (kept-in r k (and-left (keptFits r k) _ h)) (all-inside r ks (and-right (keptFits r k) _ h))
+
+-- the check that the code made is that of the definition
+pub equivalent-told : (raw : List ℕ) (i : ℕ) (r : List ℕ) (f : ReferralFound) {t b : Bool}
+    → t ≡ equivalent (f .version) (heldTargets i raw) (givenTargets r (take (f .targets) (f .kept))) → t ≡ b
+    → equivalent (f .version) (entryAt referrals i raw .targets) (targetsIn (referralShown r f)) ≡ b
+unfolding heldTargets targetsIn referralShown
+equivalent-told raw i r f e h =
+    ap (equivalent (f .version) (entryAt referrals i raw .targets)) (sym (given-shown r (take (f .targets) (f .kept)))) ∙ (sym e ∙ h)
+
+-- a refreshed entry is good
+pub refreshed-good : (e : Referral) (q : replies.Referral) (interlink : Bool) (clock : ℕ) → goodReferral e ≡ true → goodReferral (fresh q false 0) ≡ true
+    → goodReferral (refreshed e q interlink clock) ≡ true
+unfolding fresh
+refreshed-good e q interlink clock h k = go (told (equivalent (q .version) (e .targets) (targetsIn q)))
+  where
+    go : (equivalent (q .version) (e .targets) (targetsIn q) ≡ true) ⊎ (equivalent (q .version) (e .targets) (targetsIn q) ≡ false)
+        → goodReferral (refreshed e q interlink clock) ≡ true
+    go (inl t) =
+        ap goodReferral (sym (refreshed-held e q interlink clock refl t (e .hint)))
+        ∙ hint-good (based e q interlink clock (e .targets) (e .hint)) (held-good e q interlink clock h) _
+        (back-within (q .failback) (e .targets) _ (first-within (hinted e) (e .targets) (referral-told e h .some)))
+    go (inr t) =
+        ap goodReferral (sym (refreshed-given e q interlink clock refl t 0))
+        ∙ hint-good (based e q interlink clock (targetsIn q) 0) (given-good e q interlink clock h k) _
+        (back-within (q .failback) (targetsIn q) _ (first-within (hinted e) (targetsIn q) (referral-told (fresh q false 0) k .some)))
+
+-- the place of a store
+module _ (clock : ℕ) (prefix : List ℕ) (ps : List (Place Referral)) where
+  pub place-found : {f : Found} {i : ℕ} → f ≡ withKey referrals prefix ps → f ≡ At i → i ≡ storePlace clock prefix ps
+  unfolding storePlace foundOr
+  place-found e h = sym (ap (foundOr (newPlace clock ps)) (sym e ∙ h))
+
+  pub place-new : {f : Found} {n : ℕ} → f ≡ withKey referrals prefix ps → f ≡ Nothing → n ≡ newPlace clock ps → n ≡ storePlace clock prefix ps
+  unfolding storePlace foundOr
+  place-new e h k = k ∙ sym (ap (foundOr (newPlace clock ps)) (sym e ∙ h))
+
+-- an entry that was found stands in its place
+module _ (raw : List ℕ) (order : inOrder referrals raw ≡ true) where
+  pub places-some : 0 < length (decode referrals raw)
+  places-some = cache-told referrals (decode referrals raw) (order-good referrals raw order) .least
+
+  pub new-fits : {n : ℕ} (clock : ℕ) → n ≡ newPlace clock (decode referrals raw) → n < length raw / 2336
+  new-fits clock e = rw (e, ← length-decode referrals raw) (new-inside clock (decode referrals raw) places-some)
+
+  module _ (prefix : List ℕ) (i : ℕ) (h : withKey referrals prefix (decode referrals raw) ≡ At i) where
+    at : KeyAt referrals prefix (decode referrals raw) i
+    at = key-found referrals prefix (decode referrals raw) i h
+
+    fits : i < length raw / 2336
+    fits = rw (← length-decode referrals raw) (used-inside (decode referrals raw) i (at .entry) (at .here))
+
+    entry-here : entryAt referrals i raw ≡ at .entry
+    entry-here = entry-is referrals referrals-lawful raw i order fits (at .entry) (at .here)
+
+    pub held-there : Held i raw
+    held-there = record {
+      fits = fits;
+      good = ap goodReferral entry-here ∙ entry-good referrals referrals-lawful raw i order fits (at .entry) (at .here);
+      units = entry-units referrals referrals-lawful raw i order fits (at .entry) (at .here) ∙ ap referralUnits (sym entry-here);
+    }
+
+    prefixed-there : prefixed prefix (decode referrals raw) ≡ some (entryAt referrals i raw)
+    unfolding prefixed held heldAt
+    prefixed-there = rw (h, at .here, entry-here)
+
+    -- the entry refreshed is what the store leaves
+    pub stored-refreshed : (r : List ℕ) (f : ReferralFound) (interlink : Bool) (clock : ℕ) {o : List ℕ} → Storable r f → prefix ≡ spanned r (f .prefix)
+        → o ≡ changed i (λ q. referralUnits (refreshed (entryAt referrals i raw) (referralShown r f) interlink clock)) raw
+        → o ≡ encode referrals (stored (referralShown r f) interlink clock (decode referrals raw))
+    unfolding stored referralShown storedEntry pieceOf goodPlace
+    stored-refreshed r f interlink clock s p e =
+        let w : withKey referrals (spanned r (f .prefix)) (decode referrals raw) ≡ At i = ap (λ (x : List ℕ). withKey referrals x (decode referrals raw)) (sym p) ∙ h in
+        e
+        ∙ (changed-encode referrals referrals-lawful raw i (used (refreshed (entryAt referrals i raw) (referralShown r f) interlink clock)) order
+        (refreshed-good (entryAt referrals i raw) (referralShown r f) interlink clock (held-there .good) (s .good)) fits
+        ∙ (λ j. encode referrals (set (decode referrals raw) (place-found clock (spanned r (f .prefix)) (decode referrals raw) refl w j)
+        (used (storedEntry (sym (ap (λ (x : List ℕ). prefixed x (decode referrals raw)) (sym p) ∙ prefixed-there) j) (referralShown r f) interlink clock)))))
+
+  -- a new entry is what the store leaves where none was found
+  pub stored-inserted : (r : List ℕ) (f : ReferralFound) (interlink : Bool) (clock n : ℕ) {g : Found} {o : List ℕ} → Storable r f
+      → g ≡ withKey referrals (spanned r (f .prefix)) (decode referrals raw) → g ≡ Nothing → n ≡ newPlace clock (decode referrals raw)
+      → o ≡ changed n (λ q. referralUnits (fresh (referralShown r f) interlink clock)) raw
+      → o ≡ encode referrals (stored (referralShown r f) interlink clock (decode referrals raw))
+  unfolding stored referralShown storedEntry pieceOf goodPlace prefixed held
+  stored-inserted r f interlink clock n s a b k e =
+      e
+      ∙ (changed-encode referrals referrals-lawful raw n (used (fresh (referralShown r f) interlink clock)) order
+      (fresh-good (referralShown r f) false interlink 0 clock (s .good)) (new-fits clock k)
+      ∙ (λ j. encode referrals (set (decode referrals raw) (place-new clock (spanned r (f .prefix)) (decode referrals raw) a b k j)
+      (used (storedEntry (held (sym (sym a ∙ b) j) (decode referrals raw)) (referralShown r f) interlink clock)))))

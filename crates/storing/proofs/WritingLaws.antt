@@ -1,0 +1,178 @@
+-- Laws of writing an entry into its place.
+use mathlib.Core.Path.{_≡_, refl, sym, ap, _∙_, subst}
+use mathlib.Core.Bool.{Bool, true, false}
+use mathlib.Core.List.{List, [], _∷_, _++_, map}
+use Prim.Native.Nat.{ℕ, _+_, _-_, _*_, _/_, _≤_, _<_}
+use native.Mathlib.Omega.{arith}
+use lib.ListN.{length, length-map, getD, take, drop, replicate, length-replicate, length-drop, drop-of-length-le}
+use lib.Seq.{drop-cons, getD-take, length-take-le}
+use lib.Dec.{leb}
+use borrow.Author.Tests.{leb-true, le-leb}
+use native.Mathlib.Numerals.{add-one}
+use Rattle.laws.specs.Lists.{pasted, roomed, every}
+use Rattle.laws.proofs.Choices.{choose-yes, choose-no, and-left, and-right, and-both}
+use Rattle.laws.proofs.Every.{every-drop, every-at}
+use Rattle.laws.proofs.Listed.{getD-map}
+use Rattle.laws.proofs.Pasting.{length-pasted, pasted-join, length-roomed}
+use Rattle.spans.specs.Spans.{spanned, Inside}
+use Rattle.spans.proofs.UnitLaws.{length-spanned}
+use Rattle.caches.specs.Entries.{Target}
+use Rattle.caches.proofs.MemoryLaws.{length-blank}
+use Rattle.referral.specs.declared.Kept.{Kept}
+use Rattle.places.specs.Layout.{placeAt, changed, putUnit, putText, putSettings, flagUnit, wideUnits, blank}
+use Rattle.places.proofs.LayoutLaws.{length-place, length-changed, place-changed, changed-again, changed-pasted, changed-none}
+use Rattle.places.proofs.WriterLaws.{length-putUnit, text-put}
+use Rattle.storing.specs.Writing.{addText, addTarget, addTargets, begun, heldTarget, keptFits, settings}
+
+pub flag-one : (b : Bool) → b ≡ true → 1 ≡ flagUnit b
+unfolding flagUnit
+flag-one b h = sym (choose-yes 1 0 h)
+
+pub flag-none : (b : Bool) → b ≡ false → 0 ≡ flagUnit b
+unfolding flagUnit
+flag-none b h = sym (choose-no 1 0 h)
+
+-- a change that leaves a place as long as it was
+abbrev pub Keeps : (List ℕ → List ℕ) → Type 0
+Keeps f = (q : List ℕ) → length q ≡ 2336 → length (f q) ≡ 2336
+
+pub keeps-pasted : (j : ℕ) (p : List ℕ) → j + length p ≤ 2336 → Keeps (λ q. pasted q j p)
+keeps-pasted j p h q e = length-pasted q j p (omega arith) ∙ e
+
+pub keeps-unit : (j v : ℕ) → j < 2336 → Keeps (putUnit j v)
+keeps-unit j v h q e = length-putUnit j v q e h
+
+pub keeps-text : (n : ℕ) (t : List ℕ) → n < 9 → length t ≤ 256 → Keeps (putText n t)
+unfolding putText
+keeps-text n t h k q e =
+    let l : length (roomed 256 t) ≡ 256 = length-roomed 256 t k in
+    keeps-pasted (32 + n * 256) (roomed 256 t) (omega arith) (putUnit n (length t) q) (keeps-unit n (length t) (omega arith) q e)
+
+pub keeps-both : (f g : List ℕ → List ℕ) → Keeps f → Keeps g → Keeps (λ q. g (f q))
+keeps-both f g a b q e = b (f q) (a q e)
+
+pub keeps-blank : Keeps (λ q. blank)
+keeps-blank q e = length-blank
+
+pub keeps-added : (n : ℕ) (t : List ℕ) → n < 9 → length t ≤ 256 → Keeps (addText n t)
+unfolding addText
+keeps-added n t h k = keeps-both (putText n t) (putUnit 9 n) (keeps-text n t h k) (keeps-unit 9 n (omega arith))
+
+pub keeps-target : (n : ℕ) (t : Target) → n < 8 → length (t .path) ≤ 256 → Keeps (addTarget n t)
+unfolding addTarget
+keeps-target n t h k =
+    keeps-both (addText (1 + n) (t .path)) (putUnit (11 + n) (flagUnit (t .opens))) (keeps-added (1 + n) (t .path) (omega arith) k) (keeps-unit (11 + n) _ (omega arith))
+
+-- a path that fits its room
+abbrev pub short : Target → Bool
+short t = leb (length (t .path)) 256
+
+pub keeps-targets : (n : ℕ) (ts : List Target) → n + length ts ≤ 8 → every short ts ≡ true → Keeps (addTargets n ts)
+unfolding addTargets every
+keeps-targets n [] h k q e = e
+keeps-targets n (t ∷ ts) h k q e =
+    keeps-targets (n + 1) ts (omega arith) (and-right (short t) _ k) (addTarget n t q)
+    (keeps-target n t (omega arith) (leb-true _ _ (and-left (short t) _ k)) q e)
+
+-- kept targets
+pub kept-inside : (r : List ℕ) (k : Kept) → keptFits r k ≡ true → Inside r (k .path)
+unfolding keptFits
+kept-inside r k h = leb-true _ _ (and-left (leb (k .path .from + 2 * k .path .units) (length r)) _ h)
+
+pub kept-short : (r : List ℕ) (k : Kept) → keptFits r k ≡ true → k .path .units ≤ 256
+unfolding keptFits
+kept-short r k h = leb-true _ _ (and-right (leb (k .path .from + 2 * k .path .units) (length r)) _ h)
+
+held-short : (r : List ℕ) (k : Kept) → keptFits r k ≡ true → short (heldTarget r k) ≡ true
+unfolding heldTarget
+held-short r k h = le-leb (length (spanned r (k .path))) 256 (rw (length-spanned r (k .path)) (kept-short r k h))
+
+pub all-short : (r : List ℕ) (ks : List Kept) → every (keptFits r) ks ≡ true → every short (map (heldTarget r) ks) ≡ true
+unfolding every
+all-short r [] h = refl
+all-short r (k ∷ ks) h = and-both (held-short r k (and-left (keptFits r k) _ h)) (all-short r ks (and-right (keptFits r k) _ h))
+
+-- the kept targets up to a count, one at a time
+module _ (r : List ℕ) (kept : List Kept) (count : ℕ) (n : ℕ) (d : Kept) (long : length kept ≡ 8) (few : count ≤ 8) (more : n < count) where
+  taken-length : length (take count kept) ≡ count
+  taken-length = length-take-le count kept (omega arith)
+
+  pub kept-at : every (keptFits r) (take count kept) ≡ true → keptFits r (getD kept n d) ≡ true
+  kept-at h = ap (keptFits r) (sym (getD-take count kept n d more)) ∙ every-at (keptFits r) (take count kept) h n d (omega (arith, taken-length))
+
+  pub target-at : getD (map (heldTarget r) (take count kept)) n (heldTarget r (getD kept n d)) ≡ heldTarget r (getD kept n d)
+  target-at = getD-map (heldTarget r) (take count kept) n d _ (omega (arith, taken-length)) ∙ ap (heldTarget r) (getD-take count kept n d more)
+
+  pub path-at : (z : Target) → spanned r (getD kept n d .path) ≡ getD (map (heldTarget r) (take count kept)) n z .path
+  unfolding heldTarget
+  path-at z = ap (λ (t : Target). t .path) (sym (getD-map (heldTarget r) (take count kept) n d z (omega (arith, taken-length)) ∙ ap (heldTarget r) (getD-take count kept n d more)))
+
+pub length-targets : (r : List ℕ) (kept : List Kept) (count : ℕ) → length kept ≡ 8 → count ≤ 8 → length (map (heldTarget r) (take count kept)) ≡ count
+length-targets r kept count l h = length-map (take count kept) (heldTarget r) ∙ length-take-le count kept (omega arith)
+
+module _ (raw : List ℕ) (i : ℕ) (fits : i < length raw / 2336) where
+  pub whole : (f : List ℕ → List ℕ) → Keeps f → length (f (placeAt i raw)) ≡ 2336
+  whole f a = a (placeAt i raw) (length-place raw i fits)
+
+  -- one change after another
+  pub then-changed : (f g : List ℕ → List ℕ) → Keeps f → Keeps g → {m o : List ℕ} → m ≡ changed i f raw → o ≡ changed i g m → o ≡ changed i (λ q. g (f q)) raw
+  then-changed f g a b e h =
+      h ∙ (ap (changed i g) e ∙ changed-again raw i fits f (whole f a) g (whole (λ q. g (f q)) (keeps-both f g a b)))
+
+  -- only what the change makes of the place counts
+  pub changed-same : (f g : List ℕ → List ℕ) → f (placeAt i raw) ≡ g (placeAt i raw) → changed i f raw ≡ changed i g raw
+  unfolding changed
+  changed-same f g e = ap (pasted raw (i * 2336)) e
+
+  -- the change leaves as many places
+  pub still-fits : (f : List ℕ → List ℕ) → Keeps f → {m : List ℕ} → m ≡ changed i f raw → i < length m / 2336
+  still-fits f a e = let l : length (changed i f raw) ≡ length raw = length-changed raw i fits f (whole f a) in rw (e, l) fits
+
+  pub text-added : (n units : ℕ) (t : List ℕ) {l m o : List ℕ} → units ≡ length t → l ≡ pasted raw (i * 2336 + n) (units ∷ [])
+      → m ≡ pasted l (i * 2336 + 32 + n * 256) (roomed 256 t) → o ≡ changed i (putUnit 9 n) m → n < 9 → length t ≤ 256 → o ≡ changed i (addText n t) raw
+  unfolding addText
+  text-added n units t u a b c h k =
+      then-changed (putText n t) (putUnit 9 n) (keeps-text n t h k) (keeps-unit 9 n (omega arith))
+      (text-put raw i fits n t (a ∙ ap (λ (x : ℕ). pasted raw (i * 2336 + n) (x ∷ [])) u) b k h) c
+
+  pub settings-written : (root interlink failback : Bool) (a b c x y : ℕ) {o : List ℕ} → a ≡ flagUnit root → b ≡ flagUnit interlink → c ≡ flagUnit failback
+      → o ≡ changed i (putSettings (a ∷ b ∷ c ∷ (wideUnits x ++ wideUnits y))) raw → o ≡ changed i (putSettings (settings root interlink failback x y)) raw
+  unfolding settings
+  settings-written root interlink failback a b c x y u v w h = h ∙ (λ j. changed i (putSettings (u j ∷ v j ∷ w j ∷ (wideUnits x ++ wideUnits y))) raw)
+
+  pub target-added : (n v : ℕ) (r : List ℕ) (k : Kept) {m o : List ℕ} → keptFits r k ≡ true → n < 8 → v ≡ flagUnit (k .opens)
+      → m ≡ changed i (addText (1 + n) (spanned r (k .path))) raw → o ≡ changed i (putUnit (11 + n) v) m → o ≡ changed i (addTarget n (heldTarget r k)) raw
+  unfolding addTarget heldTarget
+  target-added n v r k {m} f h e a c =
+      then-changed (addText (1 + n) (spanned r (k .path))) (putUnit (11 + n) (flagUnit (k .opens)))
+      (keeps-added (1 + n) (spanned r (k .path)) (omega arith) (rw (length-spanned r (k .path)) (kept-short r k f)))
+      (keeps-unit (11 + n) (flagUnit (k .opens)) (omega arith)) a (c ∙ ap (λ (x : ℕ). changed i (putUnit (11 + n) x) m) e)
+
+  pub entry-begun : (t : List ℕ) {m o : List ℕ} → m ≡ changed i (λ q. blank) raw → o ≡ changed i (addText 0 t) m → length t ≤ 256 → o ≡ changed i (begun t) raw
+  unfolding begun
+  entry-begun t a c h = then-changed (λ q. blank) (addText 0 t) keeps-blank (keeps-added 0 t (omega arith) h) a c
+
+  -- a loop that adds targets: one more, and at its end
+  pub targets-more : (all : List Target) (n : ℕ) (t : Target) {o : List ℕ} → n < length all → length all ≤ 8 → every short all ≡ true
+      → getD all n t ≡ t → o ≡ changed i (addTarget n t) raw
+      → changed i (addTargets n (drop n all)) raw ≡ changed i (addTargets (n + 1) (drop (n + 1) all)) o
+  unfolding addTargets
+  targets-more all n t {o} h u k e a =
+      let d : drop n all ≡ t ∷ drop (n + 1) all = drop-cons all n t h ∙ rw (e, add-one n) in
+      let l : length (drop (n + 1) all) ≡ length all - (n + 1) = length-drop (n + 1) all in
+      let s : every short (t ∷ drop (n + 1) all) ≡ true = subst (λ (x : List Target). every short x ≡ true) d (every-drop short n all k) in
+      rw d
+      (sym (changed-again raw i fits (addTarget n t) (whole (addTarget n t) (kt s)) (addTargets (n + 1) (drop (n + 1) all))
+      (keeps-targets (n + 1) (drop (n + 1) all) (omega arith) (every-drop short (n + 1) all k) (addTarget n t (placeAt i raw)) (whole (addTarget n t) (kt s))))
+      ∙ ap (changed i (addTargets (n + 1) (drop (n + 1) all))) (sym a))
+    where
+      cons-short : every short (t ∷ drop (n + 1) all) ≡ true → short t ≡ true
+      cons-short s = every-at short (t ∷ drop (n + 1) all) s 0 t (omega arith)
+
+      kt : every short (t ∷ drop (n + 1) all) ≡ true → Keeps (addTarget n t)
+      kt s = keeps-target n t (omega arith) (leb-true _ _ (cons-short s))
+
+  pub targets-all : (n : ℕ) (all : List Target) {m : List ℕ} → m ≡ changed i (addTargets n (drop n all)) raw → length all ≤ n → raw ≡ m
+  unfolding addTargets
+  targets-all n all e h =
+      sym (e ∙ (ap (λ (x : List Target). changed i (addTargets n x) raw) (drop-of-length-le all h) ∙ (changed-same (λ q. q) (λ q. placeAt i raw) refl ∙ changed-none raw i fits)))

@@ -1,0 +1,321 @@
+// A reply into the caches: document 01, "Storing", and source document 001.
+ghost use mathlib.Core.Path.{_≡_};
+ghost use mathlib.Core.Bool.{true, false};
+ghost use mathlib.Core.List.{List, map};
+ghost use Prim.Native.Nat.{ℕ, _+_, _-_, _*_, _/_, _≤_, _<_};
+ghost use lib.ListN.{length, take, getD};
+ghost use Rattle.laws.specs.Lists.{every};
+ghost use Rattle.spans.specs.Spans.{spanned, Inside};
+ghost use Rattle.places.specs.Layout.{changed, placeAt, flagUnit};
+ghost use Rattle.caches.specs.Memory.{referrals, decode};
+ghost use Rattle.lookup.specs.Keys.{keyIs};
+ghost use Rattle.lookup.specs.Lookup.{entryAt, withKey};
+ghost use Rattle.storing.specs.Stored.{firstEqual, hinted, inFirstSet, failedBack, fresh, refreshed, targetsIn};
+ghost use Rattle.equivalence.specs.Equivalence.{equivalent};
+ghost use Rattle.caches.specs.Memory.{encode, inOrder};
+ghost use Rattle.storing.specs.Stored.{stored, storePlace};
+ghost use Rattle.caches.specs.Memory.{referralUnits};
+ghost use Rattle.referral.specs.Found.{referralShown};
+ghost use Rattle.places.specs.Layout.{putUnit, putSettings};
+ghost use Rattle.storing.specs.Writing.{addText, addTarget, addTargets, begun, settings, heldTarget, keptFits, Storable, Held};
+use lookup::Found;
+use places::PLACE;
+use referral::Kept;
+use referral::ReferralFound;
+use spans::Span;
+
+const HEAD: usize = 32;
+
+const ROOM: usize = 256;
+
+fn flag_unit(b: bool) -> u16
+    ensures { λ r. ⌜ r ≡ flagUnit b ⌝ }
+{
+    if b { 1 } else { 0 }
+}
+
+// Text n of place i from the reply, as the last text of the place.
+fn add_text(cache: &mut [u16], i: usize, n: usize, reply: &[u8], s: Span)
+    requires { ⌜ (i < length (now cache) / 2336) × ((n < 9) × (Inside (now reply) s × (s .units ≤ 256))) ⌝ }
+    ensures { λ r. ⌜ now (cache .exit) ≡ changed i (addText n (spanned (now (reply .entry)) s)) (now (cache .entry)) ⌝ }
+{
+    let at = i * PLACE;
+    let units = s.units;
+    rooms::put_unit(cache, at + n, units as u16);
+    spans::put_span(reply, s, cache, at + HEAD + n * ROOM, ROOM);
+    places::put_unit(cache, i, 9, n as u16);
+}
+
+// Target n of place i from the reply.
+fn add_target(cache: &mut [u16], i: usize, n: usize, reply: &[u8], k: Kept)
+    requires { ⌜ (i < length (now cache) / 2336) × ((n < 8) × (keptFits (now reply) k ≡ true)) ⌝ }
+    ensures { λ r. ⌜ now (cache .exit) ≡ changed i (addTarget n (heldTarget (now (reply .entry)) k)) (now (cache .entry)) ⌝ }
+{
+    let s = k.path;
+    add_text(cache, i, 1 + n, reply, s);
+    places::put_unit(cache, i, 11 + n, flag_unit(k.opens));
+}
+
+// The targets of the reply into place i, which has none.
+fn add_targets(cache: &mut [u16], i: usize, reply: &[u8], kept: [Kept; 8], count: usize)
+    requires { ⌜ (i < length (now cache) / 2336) × ((count ≤ 8) × (every (keptFits (now reply)) (take count kept) ≡ true)) ⌝ }
+    ensures { λ r. ⌜ now (cache .exit) ≡ changed i (addTargets 0 (map (heldTarget (now (reply .entry))) (take count kept))) (now (cache .entry)) ⌝ }
+{
+    let mut n = 0;
+    while n < count {
+        let k = kept[n];
+        add_target(cache, i, n, reply, k);
+        n += 1;
+    }
+}
+
+// Place i with a prefix from the reply and nothing else.
+fn begin_entry(cache: &mut [u16], i: usize, reply: &[u8], s: Span)
+    requires { ⌜ (i < length (now cache) / 2336) × (Inside (now reply) s × (s .units ≤ 256)) ⌝ }
+    ensures { λ r. ⌜ now (cache .exit) ≡ changed i (begun (spanned (now (reply .entry)) s)) (now (cache .entry)) ⌝ }
+{
+    places::clear_place(cache, i);
+    add_text(cache, i, 0, reply, s);
+}
+
+// Root, Interlink, TargetFailback, TTL and the time taken of place i.
+fn put_settings(
+    cache: &mut [u16],
+    i: usize,
+    root: bool,
+    interlink: bool,
+    failback: bool,
+    ttl: u32,
+    taken: u32,
+)
+    requires { ⌜ i < length (now cache) / 2336 ⌝ }
+    ensures { λ r. ⌜ now (cache .exit) ≡ changed i (putSettings (settings root interlink failback ttl taken)) (now (cache .entry)) ⌝ }
+{
+    let a = flag_unit(root);
+    let b = flag_unit(interlink);
+    let c = flag_unit(failback);
+    places::put_settings(cache, i, a, b, c, ttl, taken);
+}
+
+// Whether place i is used and its prefix is an equal name.
+fn prefix_is(cache: &[u16], i: usize, reply: &[u8], s: Span) -> bool
+    requires { ⌜ (i < length (now cache) / 2336) × Inside (now reply) s ⌝ }
+    ensures { λ r. ⌜ r ≡ keyIs (spanned (now (reply .entry)) s) (placeAt i (now (cache .entry))) ⌝ }
+{
+    if places::unit(cache, i, 0) == 0 {
+        return false;
+    }
+    spans::same_span(reply, s, places::text(cache, i, 0))
+}
+
+// The place of the entry whose prefix is equal to one in the reply.
+fn find_prefix(cache: &[u16], reply: &[u8], s: Span) -> Found
+    requires { ⌜ Inside (now reply) s ⌝ }
+    ensures { λ r. ⌜ r ≡ withKey referrals (spanned (now (reply .entry)) s) (decode referrals (now (cache .entry))) ⌝ }
+{
+    let count = cache.len() / PLACE;
+    let mut i = 0;
+    while i < count {
+        if prefix_is(cache, i, reply, s) {
+            return Found::At(i);
+        }
+        i += 1;
+    }
+    Found::Nothing
+}
+
+// The first target of the entry at place i that is equal to the one hinted at.
+fn held_place(cache: &[u16], i: usize) -> usize
+    requires { ⌜ (i < length (now cache) / 2336) × (entryAt referrals i (now cache) .hint < length (entryAt referrals i (now cache) .targets)) ⌝ }
+    ensures { λ r. ⌜ r ≡ firstEqual 0 (hinted (entryAt referrals i (now (cache .entry)))) (entryAt referrals i (now (cache .entry)) .targets) ⌝ }
+{
+    let count = lookup::target_count(cache, i);
+    let hint = lookup::target_hint(cache, i) as usize;
+    let path = lookup::target(cache, i, hint);
+    let mut j = 0;
+    while j < count {
+        if unc::same_name(lookup::target(cache, i, j), path) {
+            return j;
+        }
+        j += 1;
+    }
+    0
+}
+
+// The first target of the reply that is equal to the one that the entry at place i hints at; 0 where there is none.
+fn given_place(cache: &[u16], i: usize, reply: &[u8], kept: [Kept; 8], count: usize) -> usize
+    requires { ⌜ (i < length (now cache) / 2336) × ((entryAt referrals i (now cache) .hint < length (entryAt referrals i (now cache) .targets)) × ((count ≤ 8) × (every (keptFits (now reply)) (take count kept) ≡ true))) ⌝ }
+    ensures { λ r. ⌜ r ≡ firstEqual 0 (hinted (entryAt referrals i (now (cache .entry)))) (map (heldTarget (now (reply .entry))) (take count kept)) ⌝ }
+{
+    let hint = lookup::target_hint(cache, i) as usize;
+    let path = lookup::target(cache, i, hint);
+    let mut j = 0;
+    while j < count {
+        let k = kept[j];
+        if spans::same_span(reply, k.path, path) {
+            return j;
+        }
+        j += 1;
+    }
+    0
+}
+
+// Whether target `hint` of the entry at place i is in its first target set.
+fn in_first_set(cache: &[u16], i: usize, hint: usize) -> bool
+    requires { ⌜ (i < length (now cache) / 2336) × (hint < length (entryAt referrals i (now cache) .targets)) ⌝ }
+    ensures { λ r. ⌜ r ≡ inFirstSet hint (entryAt referrals i (now (cache .entry)) .targets) ⌝ }
+{
+    let mut k = 0;
+    while k < hint {
+        if lookup::target_opens(cache, i, 1 + k) {
+            return false;
+        }
+        k += 1;
+    }
+    true
+}
+
+// The hint of place i: target `hint`, or by failback the first where that is not in the first set.
+fn put_hint(cache: &mut [u16], i: usize, hint: usize, failback: bool)
+    requires { ⌜ (i < length (now cache) / 2336) × (hint < length (entryAt referrals i (now cache) .targets)) ⌝ }
+    ensures { λ r. ⌜ now (cache .exit) ≡ changed i (putUnit 10 (failedBack failback (entryAt referrals i (now (cache .entry)) .targets) hint)) (now (cache .entry)) ⌝ }
+{
+    if !failback {
+        places::put_unit(cache, i, 10, hint as u16);
+        return;
+    }
+    if in_first_set(cache, i, hint) {
+        places::put_unit(cache, i, 10, hint as u16);
+        return;
+    }
+    places::put_unit(cache, i, 10, 0);
+}
+
+// A new entry into place i.
+fn insert(
+    cache: &mut [u16],
+    i: usize,
+    reply: &[u8],
+    found: ReferralFound,
+    interlink: bool,
+    clock: u32,
+)
+    requires { ⌜ (i < length (now cache) / 2336) × Storable (now reply) found ⌝ }
+    ensures { λ r. ⌜ now (cache .exit) ≡ changed i (λ q. referralUnits (fresh (referralShown (now (reply .entry)) found) interlink clock)) (now (cache .entry)) ⌝ }
+{
+    let prefix = found.prefix;
+    let kept = found.kept;
+    let count = found.targets;
+    begin_entry(cache, i, reply, prefix);
+    add_targets(cache, i, reply, kept, count);
+    put_settings(
+        cache,
+        i,
+        found.root,
+        interlink,
+        found.failback,
+        found.ttl,
+        clock,
+    );
+}
+
+// The entry at place i refreshed by a reply with an equivalent list: its targets stay.
+fn refresh_held(
+    cache: &mut [u16],
+    i: usize,
+    reply: &[u8],
+    found: ReferralFound,
+    interlink: bool,
+    clock: u32,
+)
+    requires { ⌜ Held i (now cache) × (equivalent (found .version) (entryAt referrals i (now cache) .targets) (targetsIn (referralShown (now reply) found)) ≡ true) ⌝ }
+    ensures { λ r. ⌜ now (cache .exit) ≡ changed i (λ q. referralUnits (refreshed (entryAt referrals i (now (cache .entry))) (referralShown (now (reply .entry)) found) interlink clock)) (now (cache .entry)) ⌝ }
+{
+    let hint = held_place(cache, i);
+    put_settings(
+        cache,
+        i,
+        found.root,
+        interlink,
+        found.failback,
+        found.ttl,
+        clock,
+    );
+    put_hint(cache, i, hint, found.failback);
+}
+
+// The same by a reply with another list: it takes the place of the old one.
+fn refresh_given(
+    cache: &mut [u16],
+    i: usize,
+    reply: &[u8],
+    found: ReferralFound,
+    interlink: bool,
+    clock: u32,
+)
+    requires { ⌜ Held i (now cache) × (Storable (now reply) found × (equivalent (found .version) (entryAt referrals i (now cache) .targets) (targetsIn (referralShown (now reply) found)) ≡ false)) ⌝ }
+    ensures { λ r. ⌜ now (cache .exit) ≡ changed i (λ q. referralUnits (refreshed (entryAt referrals i (now (cache .entry))) (referralShown (now (reply .entry)) found) interlink clock)) (now (cache .entry)) ⌝ }
+{
+    let kept = found.kept;
+    let count = found.targets;
+    let hint = given_place(cache, i, reply, kept, count);
+    places::keep_key(cache, i);
+    add_targets(cache, i, reply, kept, count);
+    put_settings(
+        cache,
+        i,
+        found.root,
+        interlink,
+        found.failback,
+        found.ttl,
+        clock,
+    );
+    put_hint(cache, i, hint, found.failback);
+}
+
+// The entry at place i refreshed.
+fn refresh(
+    cache: &mut [u16],
+    i: usize,
+    reply: &[u8],
+    found: ReferralFound,
+    interlink: bool,
+    clock: u32,
+)
+    requires { ⌜ Held i (now cache) × Storable (now reply) found ⌝ }
+    ensures { λ r. ⌜ now (cache .exit) ≡ changed i (λ q. referralUnits (refreshed (entryAt referrals i (now (cache .entry))) (referralShown (now (reply .entry)) found) interlink clock)) (now (cache .entry)) ⌝ }
+{
+    let kept = found.kept;
+    let count = found.targets;
+    let version = found.version;
+    if equivalence::equivalent(cache, i, reply, kept, count, version) {
+        refresh_held(cache, i, reply, found, interlink, clock);
+        return;
+    }
+    refresh_given(cache, i, reply, found, interlink, clock);
+}
+
+// The place that a store will write: that of the entry with an equal prefix, else the one that a new entry takes.
+pub fn store_place(cache: &[u16], reply: &[u8], prefix: Span, clock: u32) -> usize
+    requires { ⌜ Inside (now reply) prefix ⌝ }
+    ensures { λ r. ⌜ r ≡ storePlace clock (spanned (now (reply .entry)) prefix) (decode referrals (now (cache .entry))) ⌝ }
+{
+    let Found::At(i) = find_prefix(cache, reply, prefix) else {
+        return lookup::new_place(cache, clock);
+    };
+    i
+}
+
+// A reply into a referral cache in order: the entry with an equal prefix is refreshed, else there is a new one.
+pub fn store(cache: &mut [u16], reply: &[u8], found: ReferralFound, interlink: bool, clock: u32)
+    requires { ⌜ (inOrder referrals (now cache) ≡ true) × Storable (now reply) found ⌝ }
+    ensures { λ r. ⌜ now (cache .exit) ≡ encode referrals (stored (referralShown (now (reply .entry)) found) interlink clock (decode referrals (now (cache .entry)))) ⌝ }
+{
+    let prefix = found.prefix;
+    let Found::At(i) = find_prefix(cache, reply, prefix) else {
+        let place = lookup::new_place(cache, clock);
+        insert(cache, place, reply, found, interlink, clock);
+        return;
+    };
+    refresh(cache, i, reply, found, interlink, clock);
+}

@@ -1,0 +1,2 @@
+-- The walk.
+pub mod Steps

@@ -1,0 +1,434 @@
+-- The client steps: source document 000, with document 01's choices. Nothing outside this file decides a transition.
+--
+-- A walk has a path. It is at rest at a question that waits for its answer, or at an end. An event (a start, a referral's answer, an
+-- I/O answer) changes the caches at most by what it stores and by one hint, and then the steps go on from there: they call for an
+-- end, for a question, or for a replacement of the path (step 11), after which they go on from step 2. The steps themselves change no
+-- cache. A question put and a replacement are moves (document 01's word).
+use Prim.Native.Nat.{ℕ, zero, suc, _+_, _*_, _/_, min}
+use mathlib.Core.Bool.{Bool, true, false, _&&_, _||_, not}
+use mathlib.Core.List.{List, [], _∷_}
+use mathlib.Core.Option.{Option, none, some}
+use lib.ListN.{length, getD, take, drop}
+use lib.Dec.{leb, ltb, eqb}
+use Rattle.laws.specs.Choice.{choose}
+use Rattle.unc.specs.Paths.{components, componentCount, firstOf, isSysvol, replaced, pathUnits}
+use Rattle.caches.specs.Entries.{Target, Referral, Domain, Place, free, used}
+use Rattle.caches.specs.Memory.{referrals, domains}
+use Rattle.lookup.specs.Lookup.{longestMatch, withKey, expired, targetPath, targetHinted, dcHinted}
+use Rattle.lookup.specs.declared.Found.{Found}
+use Rattle.lookup.specs.declared.Found.the-variants.{At, Nothing}
+use Rattle.referral.specs.Replies as replies
+use Rattle.referral.specs.Replies.{malformed, nothing, says, readReferral}
+use Rattle.namelists.specs.NameLists.{readDcs}
+use Rattle.storing.specs.Stored.{held, prefixed, storedEntry, stored, isInterlink, dcsStored}
+
+-- Both caches.
+pub record Caches : Type 0 where
+  pub referrals : List (Place Referral)
+  pub domains : List (Place Domain)
+
+-- What the steps use of a walk: the path (that after the last step 11 replacement), the bootstrap DC, the size given, and whether the
+-- walk had a cache hit or a successful referral.
+pub record Core : Type 0 where
+  pub path : List ℕ
+  pub boot : List ℕ
+  pub size : ℕ
+  pub hit : Bool
+
+-- The kinds of question: `ask=` of the program `walk`.
+pub data Kind : Type 0 where
+  dc root link sysvol io : Kind
+
+-- A question. `entry` is how many units of the path name the entry in use: a domain (dc, root, sysvol) or a prefix (link, io); 0 for a
+-- root request to a host. `party` is the place of the DC or target asked, `began` the place where its round began, `size` the size asked,
+-- `tried` the path of an I/O try; `covered` says that a link request came of PATH_NOT_COVERED.
+pub record Question : Type 0 where
+  pub kind : Kind
+  pub entry : ℕ
+  pub party : ℕ
+  pub began : ℕ
+  pub size : ℕ
+  pub tried : List ℕ
+  pub covered : Bool
+
+-- What the steps call for: an end with its number and status, a question, or step 11's new path.
+pub data Called : Type 0 where
+  ends : ℕ → ℕ → Called
+  asks : Question → Called
+  replaces : List ℕ → Called
+
+-- the entry of the longest match; the domain of an equal name
+unfoldable pub longest : List ℕ → List (Place Referral) → Option Referral
+longest path ps = held (longestMatch path ps) ps
+
+unfoldable pub domainNamed : List ℕ → List (Place Domain) → Option Domain
+domainNamed name ps = held (withKey domains name ps) ps
+
+-- statuses that are named
+abbrev pub bufferOverflow : ℕ
+bufferOverflow = 0x80000005
+
+abbrev pub pathNotFound : ℕ
+pathNotFound = 0xC000003A
+
+abbrev pub pathNotCovered : ℕ
+pathNotCovered = 0xC0000257
+
+-- Sev, the top two bits of a status
+unfoldable pub severity : ℕ → ℕ
+severity status = status / 1073741824
+
+-- Step 3, then step 8: the I/O try at a target of the entry, in a round that began at `began`. The prefix is replaced by the target's path.
+unfoldable pub step8 : Core → Referral → ℕ → ℕ → Called
+step8 w e place began =
+    asks (record {
+      kind = io;
+      entry = length (e .prefix);
+      party = place;
+      began = began;
+      size = 0;
+      tried = replaced (targetPath place e) (length (e .prefix)) (w .path);
+      covered = false;
+    })
+
+unfoldable pub step3 : Core → Referral → Called
+step3 w e = step8 w e (e .hint) (e .hint)
+
+-- Step 11: the prefix is replaced by the target hinted at; the steps go on from step 2.
+unfoldable pub step11 : Core → Referral → Called
+step11 w e = replaces (replaced (targetPath (e .hint) e) (length (e .prefix)) (w .path))
+
+-- Step 4: a link. SYSVOL and NETLOGON go to step 3, an Interlink to step 11, any other to step 3.
+unfoldable pub step4 : Core → Referral → Called
+step4 w e = choose (not (isSysvol (w .path)) && e .interlink) (step11 w e) (step3 w e)
+
+-- Steps 2.3, 7, 8.1.3, 9.1 and 9.2: root targets go to step 3, link targets to step 4.
+unfoldable pub step7 : Core → Referral → Called
+step7 w e = choose (e .root) (step3 w e) (step4 w e)
+
+-- Step 6, through a domain: a root request to one of its DCs, in a round that began at `began`. The name of the domain is the path's first component.
+unfoldable pub step6 : Core → ℕ → ℕ → Called
+step6 w place began =
+    asks (record { kind = root; entry = length (firstOf 1 (w .path)); party = place; began = began; size = w .size; tried = []; covered = false })
+
+-- Step 6, with the first component as the host's name.
+unfoldable pub step6Host : Core → Called
+step6Host w = asks (record { kind = root; entry = 0; party = 0; began = 0; size = w .size; tried = []; covered = false })
+
+-- Step 10: a SYSVOL request to the DC hinted at.
+unfoldable pub step10 : Core → Domain → Called
+step10 w d =
+    asks (record { kind = sysvol; entry = length (firstOf 1 (w .path)); party = d .hint; began = d .hint; size = w .size; tried = []; covered = false })
+
+-- Step 5.2: a domain. Without a DC a DC request to the bootstrap DC; then SYSVOL and NETLOGON go to step 10, any other path to step 6.
+unfoldable pub step5Domain : Core → Domain → Called
+step5Domain w d =
+    choose (eqb (length (d .dcs)) 0)
+    (asks (record { kind = dc; entry = length (firstOf 1 (w .path)); party = 0; began = 0; size = w .size; tried = []; covered = false }))
+    (choose (isSysvol (w .path)) (step10 w d) (step6 w (d .hint) (d .hint)))
+
+-- Step 5: the first component is looked up in the domain cache.
+unfoldable pub step5With : Core → Option Domain → Called
+step5With w none = step6Host w
+step5With w (some d) = step5Domain w d
+
+unfoldable pub step5 : Caches → Core → Called
+step5 c w = step5With w (domainNamed (getD (components (w .path)) 0 []) (c .domains))
+
+-- Step 9: an expired link is asked for at the targets of the root entry of exactly the first two components; without one, step 5.
+unfoldable pub linkRequest : Core → ℕ → ℕ → ℕ → Bool → Called
+linkRequest w entry place began covered =
+    asks (record { kind = link; entry = entry; party = place; began = began; size = w .size; tried = []; covered = covered })
+
+unfoldable pub step9With : Caches → Core → Option Referral → Called
+step9With c w none = step5 c w
+step9With c w (some e) =
+    choose (e .root) (linkRequest w (length (e .prefix)) (e .hint) (e .hint) false) (step5 c w)
+
+unfoldable pub step9 : Caches → Core → Called
+step9 c w = step9With c w (prefixed (firstOf 2 (w .path)) (c .referrals))
+
+-- Step 2: the longest match in the referral cache. An expired root goes to step 5, an expired link to step 9, a fresh entry to step 3 or 4.
+unfoldable pub step2With : Caches → Core → ℕ → Option Referral → Called
+step2With c w clock none = step5 c w
+step2With c w clock (some e) = choose (expired clock e) (choose (e .root) (step5 c w) (step9 c w)) (step7 w e)
+
+unfoldable pub step2 : Caches → Core → ℕ → Called
+step2 c w clock = step2With c w clock (longest (w .path) (c .referrals))
+
+unfoldable pub isThere : {E : Type 0} → Option E → Bool
+isThere none = false
+isThere (some e) = true
+
+-- "ReferralCache hit": a match at step 2, expired or not
+unfoldable pub hitAt : Caches → Core → Bool
+hitAt c w = w .hit || isThere (longest (w .path) (c .referrals))
+
+-- The steps from step 2 on, with the hit that it may bring.
+pub record Turn : Type 0 where
+  pub caches : Caches
+  pub core : Core
+  pub called : Called
+
+unfoldable pub withHit : Bool → Core → Core
+withHit hit w = record { path = w .path; boot = w .boot; size = w .size; hit = hit }
+
+unfoldable pub withPath : List ℕ → Core → Core
+withPath path w = record { path = path; boot = w .boot; size = w .size; hit = w .hit }
+
+unfoldable pub fromStep2 : Caches → Core → ℕ → Turn
+fromStep2 c w clock = record { caches = c; core = withHit (hitAt c w) w; called = step2 c w clock }
+
+-- Step 1: a path of one component is no DFS path (step 12).
+unfoldable pub started : Caches → Core → ℕ → Turn
+started c w clock =
+    choose (eqb (componentCount (w .path)) 1) (record { caches = c; core = w; called = ends 21 0 }) (fromStep2 c w clock)
+
+-- The name asked: "\domain" for a DC request, the first two components for root and SYSVOL, the whole path for a link; the path of an I/O try.
+unfoldable pub nameAsked : Core → Question → List ℕ
+nameAsked w q = named (q .kind)
+  where
+    named : Kind → List ℕ
+    named dc = firstOf 1 (w .path)
+    named root = firstOf 2 (w .path)
+    named link = w .path
+    named sysvol = firstOf 2 (w .path)
+    named io = q .tried
+
+-- The entry in use: the domain of the first component, or the referral entry of an equal prefix.
+unfoldable pub domainInUse : Caches → Core → Option Domain
+domainInUse c w = domainNamed (getD (components (w .path)) 0 []) (c .domains)
+
+unfoldable pub referralInUse : Caches → Core → Question → Option Referral
+referralInUse c w q = prefixed (take (q .entry) (w .path)) (c .referrals)
+
+-- how many parties the entry in use has; 0 where it is gone
+unfoldable pub dcCount : Option Domain → ℕ
+dcCount none = 0
+dcCount (some d) = length (d .dcs)
+
+unfoldable pub targetCount : Option Referral → ℕ
+targetCount none = 0
+targetCount (some e) = length (e .targets)
+
+unfoldable pub partyCount : Caches → Core → Question → ℕ
+partyCount c w q = counted (q .kind)
+  where
+    counted : Kind → ℕ
+    counted dc = dcCount (domainInUse c w)
+    counted root = dcCount (domainInUse c w)
+    counted link = targetCount (referralInUse c w q)
+    counted sysvol = dcCount (domainInUse c w)
+    counted io = targetCount (referralInUse c w q)
+
+-- "27 the entry in use is gone or has too few targets (or DCs)": the party asked and the one with which the round began are still there.
+-- A DC request needs its domain only, a root request to a host needs nothing.
+unfoldable pub inUse : Caches → Core → Question → Bool
+inUse c w q = usable (q .kind)
+  where
+    round : Bool
+    round = ltb (q .party) (partyCount c w q) && ltb (q .began) (partyCount c w q)
+
+    usable : Kind → Bool
+    usable dc = isThere (domainInUse c w)
+    usable root = eqb (q .entry) 0 || round
+    usable link = round
+    usable sysvol = round
+    usable io = round
+
+-- Rounds: "from the hint onward, round past the last, each once": the next party of n, or what comes when the round is exhausted.
+unfoldable pub nextPlace : ℕ → ℕ → ℕ
+nextPlace n place = choose (leb n (place + 1)) 0 (place + 1)
+
+unfoldable pub onward : ℕ → Question → (ℕ → Called) → Called → Called
+onward n q ask exhausted = choose (eqb (nextPlace n (q .party)) (q .began)) exhausted (ask (nextPlace n (q .party)))
+
+-- A referral that fails (severity 2 or 3). 0x80000005 first asks the same party again with the size doubled, at most 57,344.
+abbrev pub mostSize : ℕ
+mostSize = 57344
+
+unfoldable pub doubled : Question → Question
+doubled q = record {
+  kind = q .kind;
+  entry = q .entry;
+  party = q .party;
+  began = q .began;
+  size = min (2 * q .size) mostSize;
+  tried = q .tried;
+  covered = q .covered;
+}
+
+-- "SYSVOL and DC requests try one party; its failure ends 22 with its status. DCs exhausted: end 22 with 0xC000003A. Targets exhausted: end 23 with
+-- the last status. A root request to a host that fails: end 21 if the walk has had no cache hit and no successful referral, else end 23."
+unfoldable pub failedHost : Core → ℕ → Called
+failedHost w status = choose (w .hit) (ends 23 status) (ends 21 0)
+
+unfoldable pub failed : Caches → Core → Question → ℕ → Called
+failed c w q status = failing (q .kind)
+  where
+    failing : Kind → Called
+    failing dc = ends 22 status
+    failing sysvol = ends 22 status
+    failing root =
+        choose (eqb (q .entry) 0) (failedHost w status)
+        (onward (partyCount c w q) q (λ place. step6 w place (q .began)) (ends 22 pathNotFound))
+    failing link =
+        onward (partyCount c w q) q (λ place. linkRequest w (q .entry) place (q .began) (q .covered)) (ends 23 status)
+    failing io = ends 23 status
+
+unfoldable pub referralFails : Caches → Core → Question → ℕ → Called
+referralFails c w q status =
+    choose (eqb status bufferOverflow && ltb (q .size) mostSize) (asks (doubled q)) (failed c w q status)
+
+-- "Success sets the hint to the party that answered": of the entry in use, where there is one.
+unfoldable pub withReferrals : List (Place Referral) → Caches → Caches
+withReferrals ps c = record { referrals = ps; domains = c .domains }
+
+unfoldable pub withDomains : List (Place Domain) → Caches → Caches
+withDomains ps c = record { referrals = c .referrals; domains = ps }
+
+unfoldable pub dcHintSet : Caches → Core → ℕ → Caches
+dcHintSet c w place = at (withKey domains (getD (components (w .path)) 0 []) (c .domains))
+  where
+    at : Found → Caches
+    at Nothing = c
+    at (At i) = withDomains (dcHinted i place (c .domains)) c
+
+unfoldable pub targetHintSet : Caches → Core → Question → Caches
+targetHintSet c w q = at (withKey referrals (take (q .entry) (w .path)) (c .referrals))
+  where
+    at : Found → Caches
+    at Nothing = c
+    at (At i) = withReferrals (targetHinted i (q .party) (c .referrals)) c
+
+unfoldable pub hintSet : Caches → Core → Question → Caches
+hintSet c w q = by (q .kind)
+  where
+    by : Kind → Caches
+    by dc = c
+    by root = choose (eqb (q .entry) 0) c (dcHintSet c w (q .party))
+    by link = targetHintSet c w q
+    by sysvol = dcHintSet c w (q .party)
+    by io = targetHintSet c w q
+
+-- A reply without an entry: "end 23 with 0xC000003A (22 for DC and SYSVOL)".
+unfoldable pub emptyEnd : Kind → ℕ
+emptyEnd dc = 22
+emptyEnd root = 23
+emptyEnd link = 23
+emptyEnd sysvol = 22
+emptyEnd io = 23
+
+-- A DC reply: the DCs are stored, and step 5.2 goes on.
+unfoldable pub dcsIn : Caches → Core → List (List ℕ) → Caches
+dcsIn c w names = at (withKey domains (getD (components (w .path)) 0 []) (c .domains))
+  where
+    at : Found → Caches
+    at Nothing = c
+    at (At i) = withDomains (dcsStored i names (c .domains)) c
+
+unfoldable pub dcAnswer : Caches → Core → replies.Reply (List (List ℕ)) → Turn
+dcAnswer c w malformed = record { caches = c; core = w; called = ends 25 0 }
+dcAnswer c w nothing = record { caches = c; core = w; called = ends (emptyEnd dc) pathNotFound }
+dcAnswer c w (says names) =
+    record { caches = dcsIn c w names; core = withHit true w; called = step5 (dcsIn c w names) (withHit true w) }
+
+-- Step 8.1.2, after PATH_NOT_COVERED: "a reply of kind root, or a prefix no longer than that in use, ends 23 with 0xC0000257 and stores nothing".
+unfoldable pub coversNothing : Question → replies.Referral → Bool
+coversNothing q r = q .covered && (r .root || leb (length (r .prefix)) (q .entry))
+
+-- A root, link or SYSVOL reply that is stored: the hint of the party that answered, then the entry. The entry just stored is the one in use:
+-- SYSVOL goes to step 3, root and link replies to step 3 or 4 by their kind.
+unfoldable pub afterStore : Kind → Core → Referral → Called
+afterStore dc w e = step7 w e
+afterStore root w e = step7 w e
+afterStore link w e = step7 w e
+afterStore sysvol w e = step3 w e
+afterStore io w e = step7 w e
+
+unfoldable pub storedTurn : Caches → Core → Question → replies.Referral → ℕ → Turn
+storedTurn c w q r clock =
+    record {
+      caches = withReferrals (stored r (isInterlink r (c .domains)) clock (c .referrals)) c;
+      core = withHit true w;
+      called = afterStore (q .kind) w (storedEntry (prefixed (r .prefix) (c .referrals)) r (isInterlink r (c .domains)) clock);
+    }
+
+unfoldable pub referralAnswer : Caches → Core → Question → ℕ → replies.Reply replies.Referral → Turn
+referralAnswer c w q clock malformed = record { caches = c; core = w; called = ends 25 0 }
+referralAnswer c w q clock nothing = record { caches = c; core = w; called = ends (emptyEnd (q .kind)) pathNotFound }
+referralAnswer c w q clock (says r) =
+    choose (coversNothing q r)
+    (record { caches = c; core = w; called = ends 23 pathNotCovered })
+    (storedTurn (hintSet c w q) w q r clock)
+
+unfoldable pub referralSucceeds : Caches → Core → Question → List ℕ → ℕ → Turn
+referralSucceeds c w q reply clock = by (q .kind)
+  where
+    by : Kind → Turn
+    by dc = dcAnswer c w (readDcs (q .size) reply)
+    by root = referralAnswer c w q clock (readReferral (q .size) (nameAsked w q) reply)
+    by link = referralAnswer c w q clock (readReferral (q .size) (nameAsked w q) reply)
+    by sysvol = referralAnswer c w q clock (readReferral (q .size) (nameAsked w q) reply)
+    by io = record { caches = c; core = w; called = ends 25 0 }
+
+-- The answer to a referral request. The entry in use is looked up before the answer is read.
+unfoldable pub referralAnswered : Caches → Core → Question → ℕ → List ℕ → ℕ → Turn
+referralAnswered c w q status reply clock =
+    choose (inUse c w q)
+    (choose (leb 2 (severity status))
+    (record { caches = c; core = w; called = referralFails c w q status })
+    (referralSucceeds c w q reply clock))
+    (record { caches = c; core = w; called = ends 27 0 })
+
+-- Step 8's outcome. "I/O fails only at severity 3. Next target on 0xC00000B5 ..; any other ends 23, PATH_NOT_COVERED apart."
+abbrev pub nextTargetStatuses : List ℕ
+nextTargetStatuses = 0xC00000B5 ∷ 0xC00000BE ∷ 0xC00000C9 ∷ 0xC00000CC ∷ 0xC0000236 ∷ 0xC000023D ∷ []
+
+unfoldable pub isOneOf : ℕ → List ℕ → Bool
+isOneOf n [] = false
+isOneOf n (m ∷ ms) = eqb n m || isOneOf n ms
+
+unfoldable pub ioFails : Core → Question → ℕ → Referral → Called
+ioFails w q status e =
+    choose (eqb status pathNotCovered)
+    (choose (e .root) (linkRequest w (q .entry) (q .party) (q .party) true) (ends 23 status))
+    (choose (isOneOf status nextTargetStatuses)
+    (onward (length (e .targets)) q (λ place. step8 w e place (q .began)) (ends 23 status))
+    (ends 23 status))
+
+unfoldable pub ioWith : Caches → Core → Question → ℕ → Option Referral → Turn
+ioWith c w q status none = record { caches = c; core = w; called = ends 27 0 }
+ioWith c w q status (some e) =
+    choose (eqb (severity status) 3)
+    (record { caches = c; core = w; called = ioFails w q status e })
+    (record { caches = hintSet c w q; core = w; called = ends 20 status })
+
+unfoldable pub ioAnswered : Caches → Core → Question → ℕ → Turn
+ioAnswered c w q status =
+    choose (inUse c w q) (ioWith c w q status (referralInUse c w q)) (record { caches = c; core = w; called = ends 27 0 })
+
+-- Where the steps come to rest: at a question or at an end, with so many moves left.
+pub data Rest : Type 0 where
+  waits : Question → Rest
+  ended : ℕ → ℕ → Rest
+
+pub record Resting : Type 0 where
+  pub core : Core
+  pub left : ℕ
+  pub rest : Rest
+
+-- "Before a move the limit is tested, then the length of the new path; neither end counts as a move." The moves left are the limit.
+unfoldable pub goes : ℕ → Caches → ℕ → Core → Called → Resting
+goes zero c clock w (ends number status) = record { core = w; left = zero; rest = ended number status }
+goes zero c clock w (asks q) = record { core = w; left = zero; rest = ended 24 0 }
+goes zero c clock w (replaces p) = record { core = w; left = zero; rest = ended 24 0 }
+goes (suc n) c clock w (ends number status) = record { core = w; left = suc n; rest = ended number status }
+goes (suc n) c clock w (asks q) =
+    choose (leb (length (q .tried)) pathUnits)
+    (record { core = w; left = n; rest = waits q })
+    (record { core = w; left = suc n; rest = ended 26 0 })
+goes (suc n) c clock w (replaces p) =
+    choose (leb (length p) pathUnits)
+    (goes n c clock (withHit (hitAt c (withPath p w)) (withPath p w)) (step2 c (withPath p w) clock))
+    (record { core = w; left = suc n; rest = ended 26 0 })

@@ -1,0 +1,10 @@
+#!/usr/bin/env bash
+# The proved code, compiled: replies against vectors/captures (host/layouts), order test and look-up against plain Rust (host/caches).
+set -eu
+cd "$(dirname "$0")/.."
+for c in wire probe; do
+    rt staticlib "$c" >/dev/null
+done
+for t in layouts caches; do
+    cargo run --quiet --release --offline --manifest-path "host/$t/Cargo.toml"
+done

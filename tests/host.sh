@@ -2,8 +2,10 @@
 # The proved code, compiled: replies against vectors/captures (host/layouts), order test and look-up against plain Rust (host/caches).
 set -eu
 cd "$(dirname "$0")/.."
+log=$(mktemp)
+trap 'rm -f "$log"' EXIT
 for c in wire probe; do
-    rt staticlib "$c" >/dev/null
+    rt staticlib "$c" >"$log" 2>&1 || { cat "$log"; exit 1; }
 done
 for t in layouts caches; do
     cargo run --quiet --release --offline --manifest-path "host/$t/Cargo.toml"

@@ -4,7 +4,6 @@ pub mod Orders
 pub mod Pasting
 pub mod Filling
 pub mod Every
-pub mod Chunks
 pub mod Tests
 pub mod Listed
 pub mod Parts

@@ -1,5 +1,5 @@
--- Words about lists: a test of every element, a piece written over a list, a text in a room, a list cut into pieces.
-use Prim.Native.Nat.{ℕ, zero, suc, _+_, _-_}
+-- Words about lists: a test of every element, a piece written over a list, a text in a room.
+use Prim.Native.Nat.{ℕ, _+_, _-_}
 use mathlib.Core.Bool.{Bool, true, false, _&&_}
 use mathlib.Core.List.{List, [], _∷_, _++_}
 use lib.ListN.{length, take, drop, replicate}
@@ -17,11 +17,6 @@ module _ {ℓ} {A : Type ℓ} where
   -- the elements of d from place n on, k of them
   unfoldable pub part : ℕ → ℕ → List A → List A
   part n k d = take k (drop n d)
-
-  -- the first n pieces of d, k elements each
-  unfoldable pub chunks : ℕ → ℕ → List A → List (List A)
-  chunks k zero d = []
-  chunks k (suc n) d = take k d ∷ chunks k n (drop k d)
 
 -- a text in a room of n units: zeros stand after it
 unfoldable pub roomed : ℕ → List ℕ → List ℕ

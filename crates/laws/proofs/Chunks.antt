@@ -1,1 +1,0 @@
--- Laws of a list cut into pieces of equal size.

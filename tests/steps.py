@@ -2,7 +2,7 @@
 
 steps.py ROOT: writes into ROOT, a copy of the repository, two files of crates/resolve/proofs: a run over the definitions, and for each scenario the
 statement that its calls give what the file says, caches after each call included. A check of `resolve` there then computes them all.
-Calls that are refused with 1 to 4 or 10 change nothing and are left out, as are listings; a domain reply's outcome is taken as given.
+Calls that are refused with 1 to 4 or 10 change nothing and are left out, as are listings.
 """
 import re, sys
 root = sys.argv[1]
@@ -79,18 +79,23 @@ def build(n,head,calls):
         if w=='set': 
             c=parse_caches(l); ev.append(f"puts {caches(c)}"); continue
         if w in('list',): continue
-        if w in('read-domains','read-listing'):
+        if w=='read-listing':
             if after: c=parse_caches(after); ev.append(f"puts {caches(c)}")
             continue
         d=kv(l)
         if res is None: continue
         r=kv(res)
-        if 'refused' in r and r['refused'] in('1','2','3','4','10'): continue
+        if 'refused' in r and r['refused'] in('1','2','3','4','10') and not (w=='read-domains' and r['refused']=='3'): continue
         if after: c=parse_caches(after)
         if w=='start': ev.append(f"launch {lst(units(d['path']))} {d['limit']} {d['size']} {lst(units(d['boot']))} {d['now']}")
         elif w=='referral':
             b=bytes.fromhex(d['reply']) if d['reply'] else b''
             ev.append(f"answers {int(d['status'],16)} {lst(list(b))} {d['now']}")
+        elif w=='read-domains':
+            b=bytes.fromhex(d['reply']) if d['reply'] else b''
+            ev.append(f"learns {lst(list(b))} {d['size']}")
+            out.append(f"learnt {caches(c)}" if res=='ok' else f"refused {r['refused']}")
+            continue
         elif w=='io': ev.append(f"tries {int(d['status'],16)} {d['now']}")
         else: print("??",w)
         if 'ask' in r:
@@ -116,11 +121,12 @@ for m,f in MODS:
         seen.add(al)
         uses+=f"use {m}.{{{x}}}\n" if al==x else f"use {m}.{{{x} as {al}}}\n"; names.append(al)
 hdr="""use mathlib.Core.Path.{_≡_, refl}
-use mathlib.Core.Bool.{Bool, true, false}
+use mathlib.Core.Bool.{Bool, true, false, _&&_}
 use mathlib.Core.Option.{Option, none, some}
 use mathlib.Core.List.{List, [], _∷_}
 use Prim.Native.Nat.{ℕ, _-_}
 use lib.ListN.{getD}
+use Rattle.referral.specs.Replies as replies
 use Rattle.caches.specs.Entries.{Target, Referral, Domain, Place, free, used}
 use Rattle.resolve.specs.Steps.{Caches, Core, Question, Kind, dc, root, link, sysvol, io, Turn, Resting, Rest, waits, ended}
 """
@@ -136,12 +142,14 @@ pub data Event : Type 0 where
   launch : List ℕ → ℕ → ℕ → List ℕ → ℕ → Event
   answers : ℕ → List ℕ → ℕ → Event
   tries : ℕ → ℕ → Event
+  learns : List ℕ → ℕ → Event
   puts : Caches → Event
 
 pub data Out : Type 0 where
   asked : Kind → List ℕ → List ℕ → ℕ → ℕ → Caches → Out
   done : ℕ → ℕ → List ℕ → ℕ → Caches → Out
   refused : ℕ → Out
+  learnt : Caches → Out
   silent : Out
 
 abbrev pub nowhere : Core
@@ -218,7 +226,25 @@ abbrev pub triesAt : State → ℕ → ℕ → Rest → Stepped
 triesAt s status clock (waits q) = trying s status clock q (q .kind)
 triesAt s status clock (ended n e) = refusing s
 
+abbrev pub withCaches : Caches → State → State
+withCaches c s = record { caches = c; core = s .core; limit = s .limit; left = s .left; rest = s .rest }
+
+abbrev pub domainsIn : State → List (List ℕ) → Stepped
+domainsIn s names =
+    choose (lib.Dec.leb (lib.ListN.length (once names)) (lib.ListN.length (s .caches .domains)))
+    (record {
+      state = withCaches (withDomains (domainPlaces (lib.ListN.length (s .caches .domains)) (once names)) (s .caches)) s;
+      out = learnt (withDomains (domainPlaces (lib.ListN.length (s .caches .domains)) (once names)) (s .caches)) })
+    (record { state = s; out = refused 6 })
+
+abbrev pub learning : State → replies.Reply (List (List ℕ)) → Stepped
+learning s replies.malformed = record { state = s; out = refused 7 }
+learning s replies.nothing = record { state = s; out = refused 7 }
+learning s (replies.says names) = domainsIn s names
+
 abbrev pub step : State → Event → Stepped
+step s (learns reply size) =
+    choose (lib.Dec.leb 1024 size && lib.Dec.leb size 57344) (learning s (readDomains size reply)) (record { state = s; out = refused 3 })
 step s (launch path limit size boot clock) = shown [] (turned limit limit (started (s .caches) (startCore path size boot) clock) clock)
 step s (answers status reply clock) = answersAt s status reply clock (s .rest)
 step s (tries status clock) = triesAt s status clock (s .rest)
@@ -228,6 +254,7 @@ abbrev pub emit : Out → List Out → List Out
 emit (asked k p n z m c) os = asked k p n z m c ∷ os
 emit (done a b p m c) os = done a b p m c ∷ os
 emit (refused n) os = refused n ∷ os
+emit (learnt c) os = learnt c ∷ os
 emit silent os = os
 
 abbrev pub runs : State → List Event → List Out
@@ -240,7 +267,7 @@ body=[];k=0
 for n,h,c in scen():
     t=build(n,h,c)
     if t: body.append(t.replace('UNFOLD',' '.join(names))); k+=1
-open(d+'/Scen.antt','w').write(hdr+uses+"use Rattle.resolve.proofs.Run.{State, Event, launch, answers, tries, puts, Out, asked, done, refused, nowhere, runs}\n\n"+"\n".join(body))
+open(d+'/Scen.antt','w').write(hdr+uses+"use Rattle.resolve.proofs.Run.{State, Event, launch, answers, tries, learns, puts, Out, asked, done, refused, learnt, nowhere, runs}\n\n"+"\n".join(body))
 lib=open(d+'/Lib.antt').read()
 for m in('Run','Scen'):
     if 'mod '+m not in lib: lib+=f"pub mod {m}\n"

@@ -13,7 +13,7 @@ for d in target/*; do
     esac
 done
 n=$(python3 tests/steps.py "$copy")
-[ "$n" -ge 245 ]
+[ "$n" -ge 250 ]
 if (cd "$copy" && rt check resolve) >"$copy/log" 2>&1; then
     echo "steps: $n passed, 0 failed"
 else

@@ -22,7 +22,7 @@ use Rattle.lookup.specs.Lookup.{entryAt, withKey, newPlace, foundOr}
 use Rattle.lookup.specs.declared.Found.{Found}
 use Rattle.lookup.specs.declared.Found.the-variants.{At, Nothing}
 use Rattle.lookup.proofs.LookupLaws.{KeyAt, key-found, used-inside, new-inside}
-use Rattle.lookup.proofs.StoreLaws.{entry-good, entry-units, entry-is}
+use Rattle.lookup.proofs.StoreLaws.{entry-good, entry-units, entry-is, kept-in-order, new-in-order}
 use Rattle.equivalence.specs.Equivalence.{equivalent}
 use Rattle.equivalence.specs.Compared.{heldTargets, givenTargets}
 use Rattle.equivalence.proofs.SetLaws.{given-shown}
@@ -135,3 +135,48 @@ module _ (raw : List ℕ) (order : inOrder referrals raw ≡ true) where
       (fresh-good (referralShown r f) false interlink 0 clock (s .good)) (new-fits clock k)
       ∙ (λ j. encode referrals (set (decode referrals raw) (place-new clock (spanned r (f .prefix)) (decode referrals raw) a b k j)
       (used (storedEntry (held (sym (sym a ∙ b) j) (decode referrals raw)) (referralShown r f) interlink clock)))))
+
+-- an entry written into a place of a cache in order
+place-holds : (raw : List ℕ) → inOrder referrals raw ≡ true → (i : ℕ) → i < length raw / 2336 → (e : Referral) → goodReferral e ≡ true
+    → changed i (λ q. referralUnits e) raw ≡ encode referrals (set (decode referrals raw) i (used e))
+unfolding pieceOf goodPlace
+place-holds raw order i u e g = changed-encode referrals referrals-lawful raw i (used e) order g u
+
+fresh-prefix : (r : List ℕ) (f : ReferralFound) (interlink : Bool) (clock : ℕ) (raw : List ℕ) → withKey referrals (spanned r (f .prefix)) (decode referrals raw) ≡ Nothing
+    → withKey referrals (fresh (referralShown r f) interlink clock .prefix) (decode referrals raw) ≡ Nothing
+unfolding fresh referralShown
+fresh-prefix r f interlink clock raw h = h
+
+-- a store keeps a cache in order
+module _ (raw : List ℕ) (order : inOrder referrals raw ≡ true) (r : List ℕ) (f : ReferralFound) (s : Storable r f) (interlink : Bool) (clock : ℕ) where
+  order-refreshed : (i : ℕ) → withKey referrals (spanned r (f .prefix)) (decode referrals raw) ≡ At i
+      → inOrder referrals (encode referrals (stored (referralShown r f) interlink clock (decode referrals raw))) ≡ true
+  unfolding refreshed
+  order-refreshed i h =
+      let k = key-found referrals (spanned r (f .prefix)) (decode referrals raw) i h in
+      let p = held-there raw order (spanned r (f .prefix)) i h in
+      let u : getD (decode referrals raw) i free ≡ used (entryAt referrals i raw) =
+      k .here ∙ ap used (sym (entry-is referrals referrals-lawful raw i order (p .fits) (k .entry) (k .here))) in
+      let e = refreshed (entryAt referrals i raw) (referralShown r f) interlink clock in
+      let g = refreshed-good (entryAt referrals i raw) (referralShown r f) interlink clock (p .good) (s .good) in
+      ap (inOrder referrals) (sym (stored-refreshed raw order (spanned r (f .prefix)) i h r f interlink clock s refl refl))
+      ∙ (ap (inOrder referrals) (place-holds raw order i (p .fits) e g)
+      ∙ kept-in-order referrals referrals-lawful raw i order (p .fits) (entryAt referrals i raw) u e g refl)
+
+  order-inserted : withKey referrals (spanned r (f .prefix)) (decode referrals raw) ≡ Nothing
+      → inOrder referrals (encode referrals (stored (referralShown r f) interlink clock (decode referrals raw))) ≡ true
+  order-inserted h =
+      let n = newPlace clock (decode referrals raw) in
+      let e = fresh (referralShown r f) interlink clock in
+      let g = fresh-good (referralShown r f) false interlink 0 clock (s .good) in
+      ap (inOrder referrals) (sym (stored-inserted raw order r f interlink clock n s refl h refl refl))
+      ∙ (ap (inOrder referrals) (place-holds raw order n (new-fits raw order clock refl) e g)
+      ∙ new-in-order referrals referrals-lawful raw n order (new-fits raw order clock refl) e g (fresh-prefix r f interlink clock raw h))
+
+  pub store-in-order : inOrder referrals (encode referrals (stored (referralShown r f) interlink clock (decode referrals raw))) ≡ true
+  store-in-order = go (withKey referrals (spanned r (f .prefix)) (decode referrals raw)) refl
+    where
+      go : (g : Found) → withKey referrals (spanned r (f .prefix)) (decode referrals raw) ≡ g
+          → inOrder referrals (encode referrals (stored (referralShown r f) interlink clock (decode referrals raw))) ≡ true
+      go (At i) e = order-refreshed i e
+      go Nothing e = order-inserted e

@@ -1,7 +1,7 @@
-"""Computes the scenarios of vectors/scenarios.txt on the definitions of the steps (crates/resolve/specs/Steps.antt).
+"""Computes the scenarios of vectors/scenarios.txt on the definitions of the steps (crates/steps/specs/Steps.antt).
 
-steps.py ROOT: writes into ROOT, a copy of the repository, two files of crates/resolve/proofs: a run over the definitions, and for each scenario the
-statement that its calls give what the file says, caches after each call included. A check of `resolve` there then computes them all.
+steps.py ROOT: writes into ROOT, a copy of the repository, two files of crates/steps/proofs: a run over the definitions, and for each scenario the
+statement that its calls give what the file says, caches after each call included. A check of `steps` there then computes them all.
 Calls that are refused with 1 to 4 or 10 change nothing and are left out, as are listings.
 """
 import re, sys
@@ -48,7 +48,7 @@ def caches(c):
             ds.append(f"used (record {{ name = {lst(e['name'])}; dcs = {''.join(lst(x)+' ∷ ' for x in e['dcs'])}[]; hint = {e['hint']} }})")
         else: ds.append("free")
     return "(record { referrals = "+"".join(r+" ∷ " for r in rs)+"[]; domains = "+"".join(r+" ∷ " for r in ds)+"[] })"
-KIND={'dc':'dc','root':'root','link':'link','sysvol':'sysvol','io':'io'}
+KIND={'dc':'Dc','root':'Root','link':'Link','sysvol':'Sysvol','io':'Io'}
 def scen():
     i=0
     while i<len(src):
@@ -105,11 +105,11 @@ def build(n,head,calls):
         elif 'refused' in r: out.append(f"refused {r['refused']}")
         else: print('?',res)
     if not out: return None
-    return f"""scenario{n} : runs (record {{ caches = {caches(c0)}; core = nowhere; limit = 0; left = 0; rest = ended 0 0 }}) ({''.join('('+e+') ∷ ' for e in ev)}[]) ≡ {''.join('('+o+') ∷ ' for o in out)}[]
+    return f"""scenario{n} : runs (record {{ caches = {caches(c0)}; core = nowhere; boot = []; limit = 0; left = 0; rest = ended Gone 0 [] }}) ({''.join('('+e+') ∷ ' for e in ev)}[]) ≡ {''.join('('+o+') ∷ ' for o in out)}[]
 unfolding UNFOLD
 scenario{n} = refl
 """
-MODS=[('Rattle.laws.specs.Choice','laws/specs/Choice.antt'),('Rattle.laws.specs.Lists','laws/specs/Lists.antt'),('Rattle.unc.specs.Names','unc/specs/Names.antt'),('Rattle.unc.specs.Paths','unc/specs/Paths.antt'),('Rattle.lookup.specs.Lookup','lookup/specs/Lookup.antt'),('Rattle.spans.specs.Bytes','spans/specs/Bytes.antt'),('Rattle.referral.specs.Replies','referral/specs/Replies.antt'),('Rattle.namelists.specs.NameLists','namelists/specs/NameLists.antt'),('Rattle.equivalence.specs.Equivalence','equivalence/specs/Equivalence.antt'),('Rattle.storing.specs.Stored','storing/specs/Stored.antt'),('Rattle.resolve.specs.Steps','resolve/specs/Steps.antt')]
+MODS=[('Rattle.laws.specs.Choice','laws/specs/Choice.antt'),('Rattle.laws.specs.Lists','laws/specs/Lists.antt'),('Rattle.unc.specs.Names','unc/specs/Names.antt'),('Rattle.unc.specs.Paths','unc/specs/Paths.antt'),('Rattle.lookup.specs.Lookup','lookup/specs/Lookup.antt'),('Rattle.spans.specs.Bytes','spans/specs/Bytes.antt'),('Rattle.referral.specs.Replies','referral/specs/Replies.antt'),('Rattle.namelists.specs.NameLists','namelists/specs/NameLists.antt'),('Rattle.equivalence.specs.Equivalence','equivalence/specs/Equivalence.antt'),('Rattle.storing.specs.Stored','storing/specs/Stored.antt'),('Rattle.steps.specs.Steps','steps/specs/Steps.antt')]
 uses=""; names=[]
 seen=set()
 for m,f in MODS:
@@ -128,12 +128,17 @@ use Prim.Native.Nat.{ℕ, _-_}
 use lib.ListN.{getD}
 use Rattle.referral.specs.Replies as replies
 use Rattle.caches.specs.Entries.{Target, Referral, Domain, Place, free, used}
-use Rattle.resolve.specs.Steps.{Caches, Core, Question, Kind, dc, root, link, sysvol, io, Turn, Resting, Rest, waits, ended}
+use Rattle.steps.specs.Steps.{Caches, Core, Question, Turn, Resting, Rest, waits, ended}
+use Rattle.steps.specs.declared.Kind.{Kind}
+use Rattle.steps.specs.declared.Kind.the-variants.{Dc, Root, Link, Sysvol, Io}
+use Rattle.steps.specs.declared.End.{End}
+use Rattle.steps.specs.declared.End.the-variants.{Done, NotDfs, NoDc, Failed, LimitReached, Malformed, TooLong, Gone}
 """
 run="""
 pub record State : Type 0 where
   pub caches : Caches
   pub core : Core
+  pub boot : List ℕ
   pub limit : ℕ
   pub left : ℕ
   pub rest : Rest
@@ -153,7 +158,7 @@ pub data Out : Type 0 where
   silent : Out
 
 abbrev pub nowhere : Core
-nowhere = record { path = []; boot = []; size = 0; hit = false }
+nowhere = record { path = []; size = 0; hit = false }
 
 abbrev pub targetTo : ℕ → Option Referral → List ℕ
 targetTo j none = []
@@ -167,67 +172,63 @@ abbrev pub pick : Bool → List ℕ → List ℕ → List ℕ
 pick true a b = a
 pick false a b = b
 
-abbrev pub party : Caches → Core → Question → Kind → List ℕ
-party c w q dc = w .boot
-party c w q root = pick (lib.Dec.eqb (q .entry) 0) (getD (components (w .path)) 0 []) (dcTo (q .party) (domainInUse c w))
-party c w q link = targetTo (q .party) (referralInUse c w q)
-party c w q sysvol = dcTo (q .party) (domainInUse c w)
-party c w q io = targetTo (q .party) (referralInUse c w q)
+abbrev pub party : List ℕ → Caches → Core → Question → Kind → List ℕ
+party b c w q Dc = b
+party b c w q Root = pick (lib.Dec.eqb (q .entry) 0) (getD (components (w .path)) 0 []) (dcTo (q .party) (domainInUse c w))
+party b c w q Link = targetTo (q .party) (referralInUse c w q)
+party b c w q Sysvol = dcTo (q .party) (domainInUse c w)
+party b c w q Io = targetTo (q .party) (referralInUse c w q)
 
 abbrev pub endPath : ℕ → Core → List ℕ → List ℕ
 endPath n w tried = pick (lib.Dec.eqb n 20) tried (w .path)
 
-abbrev pub triedOf : Rest → List ℕ
-triedOf (waits q) = q .tried
-triedOf (ended n s) = []
+abbrev pub shows : State → Rest → Out
+shows s (waits q) = asked (q .kind) (party (s .boot) (s .caches) (s .core) q (q .kind)) (nameAsked (s .core) q) (q .size) (s .limit - s .left) (s .caches)
+shows s (ended e status tried) = done (endNumber e) status (endPath (endNumber e) (s .core) tried) (s .limit - s .left) (s .caches)
 
-abbrev pub shows : List ℕ → State → Rest → Out
-shows tried s (waits q) = asked (q .kind) (party (s .caches) (s .core) q (q .kind)) (nameAsked (s .core) q) (q .size) (s .limit - s .left) (s .caches)
-shows tried s (ended n status) = done n status (endPath n (s .core) tried) (s .limit - s .left) (s .caches)
+abbrev pub rested : List ℕ → ℕ → Caches → Resting → State
+rested boot limit c r = record { caches = c; core = r .core; boot = boot; limit = limit; left = r .left; rest = r .rest }
 
-abbrev pub rested : ℕ → Caches → Resting → State
-rested limit c r = record { caches = c; core = r .core; limit = limit; left = r .left; rest = r .rest }
+abbrev pub turned : List ℕ → ℕ → ℕ → Turn → ℕ → State
+turned boot limit left t clock = rested boot limit (t .caches) (goes left (t .caches) clock (t .core) (t .called))
 
-abbrev pub turned : ℕ → ℕ → Turn → ℕ → State
-turned limit left t clock = rested limit (t .caches) (goes left (t .caches) clock (t .core) (t .called))
-
-abbrev pub startCore : List ℕ → ℕ → List ℕ → Core
-startCore path size boot = record { path = normalised path; boot = boot; size = size; hit = false }
+abbrev pub startCore : List ℕ → ℕ → Core
+startCore path size = record { path = normalised path; size = size; hit = false }
 
 pub record Stepped : Type 0 where
   pub state : State
   pub out : Out
 
-abbrev pub shown : List ℕ → State → Stepped
-shown tried s = record { state = s; out = shows tried s (s .rest) }
+abbrev pub shown : State → Stepped
+shown s = record { state = s; out = shows s (s .rest) }
 
 abbrev pub refusing : State → Stepped
 refusing s = record { state = s; out = refused 5 }
 
 abbrev pub answering : State → ℕ → List ℕ → ℕ → Question → Kind → Stepped
-answering s status reply clock q dc = shown [] (turned (s .limit) (s .left) (referralAnswered (s .caches) (s .core) q status reply clock) clock)
-answering s status reply clock q root = shown [] (turned (s .limit) (s .left) (referralAnswered (s .caches) (s .core) q status reply clock) clock)
-answering s status reply clock q link = shown [] (turned (s .limit) (s .left) (referralAnswered (s .caches) (s .core) q status reply clock) clock)
-answering s status reply clock q sysvol = shown [] (turned (s .limit) (s .left) (referralAnswered (s .caches) (s .core) q status reply clock) clock)
-answering s status reply clock q io = refusing s
+answering s status reply clock q Dc = shown (turned (s .boot) (s .limit) (s .left) (referralAnswered (s .caches) (s .core) q status reply clock) clock)
+answering s status reply clock q Root = shown (turned (s .boot) (s .limit) (s .left) (referralAnswered (s .caches) (s .core) q status reply clock) clock)
+answering s status reply clock q Link = shown (turned (s .boot) (s .limit) (s .left) (referralAnswered (s .caches) (s .core) q status reply clock) clock)
+answering s status reply clock q Sysvol = shown (turned (s .boot) (s .limit) (s .left) (referralAnswered (s .caches) (s .core) q status reply clock) clock)
+answering s status reply clock q Io = refusing s
 
 abbrev pub trying : State → ℕ → ℕ → Question → Kind → Stepped
-trying s status clock q dc = refusing s
-trying s status clock q root = refusing s
-trying s status clock q link = refusing s
-trying s status clock q sysvol = refusing s
-trying s status clock q io = shown (q .tried) (turned (s .limit) (s .left) (ioAnswered (s .caches) (s .core) q status) clock)
+trying s status clock q Dc = refusing s
+trying s status clock q Root = refusing s
+trying s status clock q Link = refusing s
+trying s status clock q Sysvol = refusing s
+trying s status clock q Io = shown (turned (s .boot) (s .limit) (s .left) (ioAnswered (s .caches) (s .core) q status) clock)
 
 abbrev pub answersAt : State → ℕ → List ℕ → ℕ → Rest → Stepped
 answersAt s status reply clock (waits q) = answering s status reply clock q (q .kind)
-answersAt s status reply clock (ended n e) = refusing s
+answersAt s status reply clock (ended n e x) = refusing s
 
 abbrev pub triesAt : State → ℕ → ℕ → Rest → Stepped
 triesAt s status clock (waits q) = trying s status clock q (q .kind)
-triesAt s status clock (ended n e) = refusing s
+triesAt s status clock (ended n e x) = refusing s
 
 abbrev pub withCaches : Caches → State → State
-withCaches c s = record { caches = c; core = s .core; limit = s .limit; left = s .left; rest = s .rest }
+withCaches c s = record { caches = c; core = s .core; boot = s .boot; limit = s .limit; left = s .left; rest = s .rest }
 
 abbrev pub domainsIn : State → List (List ℕ) → Stepped
 domainsIn s names =
@@ -245,10 +246,10 @@ learning s (replies.says names) = domainsIn s names
 abbrev pub step : State → Event → Stepped
 step s (learns reply size) =
     choose (lib.Dec.leb 1024 size && lib.Dec.leb size 57344) (learning s (readDomains size reply)) (record { state = s; out = refused 3 })
-step s (launch path limit size boot clock) = shown [] (turned limit limit (started (s .caches) (startCore path size boot) clock) clock)
+step s (launch path limit size boot clock) = shown (turned boot limit limit (started (s .caches) (startCore path size) clock) clock)
 step s (answers status reply clock) = answersAt s status reply clock (s .rest)
 step s (tries status clock) = triesAt s status clock (s .rest)
-step s (puts c) = record { state = record { caches = c; core = s .core; limit = s .limit; left = s .left; rest = s .rest }; out = silent }
+step s (puts c) = record { state = record { caches = c; core = s .core; boot = s .boot; limit = s .limit; left = s .left; rest = s .rest }; out = silent }
 
 abbrev pub emit : Out → List Out → List Out
 emit (asked k p n z m c) os = asked k p n z m c ∷ os
@@ -261,13 +262,13 @@ abbrev pub runs : State → List Event → List Out
 runs s [] = []
 runs s (e ∷ es) = emit (step s e .out) (runs (step s e .state) es)
 """
-d=root+'/crates/resolve/proofs'
+d=root+'/crates/steps/proofs'
 open(d+'/Run.antt','w').write(hdr+uses+run)
 body=[];k=0
 for n,h,c in scen():
     t=build(n,h,c)
     if t: body.append(t.replace('UNFOLD',' '.join(names))); k+=1
-open(d+'/Scen.antt','w').write(hdr+uses+"use Rattle.resolve.proofs.Run.{State, Event, launch, answers, tries, learns, puts, Out, asked, done, refused, learnt, nowhere, runs}\n\n"+"\n".join(body))
+open(d+'/Scen.antt','w').write(hdr+uses+"use Rattle.steps.proofs.Run.{State, Event, launch, answers, tries, learns, puts, Out, asked, done, refused, learnt, nowhere, runs}\n\n"+"\n".join(body))
 lib=open(d+'/Lib.antt').read()
 for m in('Run','Scen'):
     if 'mod '+m not in lib: lib+=f"pub mod {m}\n"

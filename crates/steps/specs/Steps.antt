@@ -20,6 +20,10 @@ use Rattle.lookup.specs.declared.Found.the-variants.{At, Nothing}
 use Rattle.referral.specs.Replies as replies
 use Rattle.referral.specs.Replies.{malformed, nothing, says, readReferral}
 use Rattle.namelists.specs.NameLists.{readDcs}
+use Rattle.steps.specs.declared.Kind.{Kind}
+use Rattle.steps.specs.declared.Kind.the-variants.{Dc, Root, Link, Sysvol, Io}
+use Rattle.steps.specs.declared.End.{End}
+use Rattle.steps.specs.declared.End.the-variants.{Done, NotDfs, NoDc, Failed, LimitReached, Malformed, TooLong, Gone}
 use Rattle.storing.specs.Stored.{held, prefixed, storedEntry, stored, isInterlink, dcsStored}
 
 -- Both caches.
@@ -27,19 +31,25 @@ pub record Caches : Type 0 where
   pub referrals : List (Place Referral)
   pub domains : List (Place Domain)
 
--- What the steps use of a walk: the path (that after the last step 11 replacement), the bootstrap DC, the size given, and whether the
--- walk had a cache hit or a successful referral.
+-- What the steps use of a walk: the path (that after the last step 11 replacement), the size given, and whether the walk had a cache
+-- hit or a successful referral. The bootstrap DC is only a party's name, and no step looks at it.
 pub record Core : Type 0 where
   pub path : List ℕ
-  pub boot : List ℕ
   pub size : ℕ
   pub hit : Bool
 
--- The kinds of question: `ask=` of the program `walk`.
-pub data Kind : Type 0 where
-  dc root link sysvol io : Kind
+-- "Ends: 20 done, 21 not DFS, 22 no DC, 23 failed in DFS, 24 limit reached, 25 reply malformed, 26 new path too long, 27 the entry in use is gone"
+unfoldable pub endNumber : End → ℕ
+endNumber Done = 20
+endNumber NotDfs = 21
+endNumber NoDc = 22
+endNumber Failed = 23
+endNumber LimitReached = 24
+endNumber Malformed = 25
+endNumber TooLong = 26
+endNumber Gone = 27
 
--- A question. `entry` is how many units of the path name the entry in use: a domain (dc, root, sysvol) or a prefix (link, io); 0 for a
+-- A question of a kind (`ask=` of the program `walk`: dc, root, link, sysvol, io). `entry` is how many units of the path name the entry in use: a domain (dc, root, sysvol) or a prefix (link, io); 0 for a
 -- root request to a host. `party` is the place of the DC or target asked, `began` the place where its round began, `size` the size asked,
 -- `tried` the path of an I/O try; `covered` says that a link request came of PATH_NOT_COVERED.
 pub record Question : Type 0 where
@@ -51,11 +61,14 @@ pub record Question : Type 0 where
   pub tried : List ℕ
   pub covered : Bool
 
--- What the steps call for: an end with its number and status, a question, or step 11's new path.
+-- What the steps call for: an end with its status and the path tried (end 20 has one), a question, or step 11's new path.
 pub data Called : Type 0 where
-  ends : ℕ → ℕ → Called
+  stops : End → ℕ → List ℕ → Called
   asks : Question → Called
   replaces : List ℕ → Called
+
+abbrev pub ends : End → ℕ → Called
+ends e status = stops e status []
 
 -- the entry of the longest match; the domain of an equal name
 unfoldable pub longest : List ℕ → List (Place Referral) → Option Referral
@@ -82,7 +95,7 @@ severity status = status / 1073741824
 unfoldable pub step8 : Core → Referral → ℕ → ℕ → Called
 step8 w e place began =
     asks (record {
-      kind = io;
+      kind = Io;
       entry = length (e .prefix);
       party = place;
       began = began;
@@ -109,22 +122,22 @@ step7 w e = choose (e .root) (step3 w e) (step4 w e)
 -- Step 6, through a domain: a root request to one of its DCs, in a round that began at `began`. The name of the domain is the path's first component.
 unfoldable pub step6 : Core → ℕ → ℕ → Called
 step6 w place began =
-    asks (record { kind = root; entry = length (firstOf 1 (w .path)); party = place; began = began; size = w .size; tried = []; covered = false })
+    asks (record { kind = Root; entry = length (firstOf 1 (w .path)); party = place; began = began; size = w .size; tried = []; covered = false })
 
 -- Step 6, with the first component as the host's name.
 unfoldable pub step6Host : Core → Called
-step6Host w = asks (record { kind = root; entry = 0; party = 0; began = 0; size = w .size; tried = []; covered = false })
+step6Host w = asks (record { kind = Root; entry = 0; party = 0; began = 0; size = w .size; tried = []; covered = false })
 
 -- Step 10: a SYSVOL request to the DC hinted at.
 unfoldable pub step10 : Core → Domain → Called
 step10 w d =
-    asks (record { kind = sysvol; entry = length (firstOf 1 (w .path)); party = d .hint; began = d .hint; size = w .size; tried = []; covered = false })
+    asks (record { kind = Sysvol; entry = length (firstOf 1 (w .path)); party = d .hint; began = d .hint; size = w .size; tried = []; covered = false })
 
 -- Step 5.2: a domain. Without a DC a DC request to the bootstrap DC; then SYSVOL and NETLOGON go to step 10, any other path to step 6.
 unfoldable pub step5Domain : Core → Domain → Called
 step5Domain w d =
     choose (eqb (length (d .dcs)) 0)
-    (asks (record { kind = dc; entry = length (firstOf 1 (w .path)); party = 0; began = 0; size = w .size; tried = []; covered = false }))
+    (asks (record { kind = Dc; entry = length (firstOf 1 (w .path)); party = 0; began = 0; size = w .size; tried = []; covered = false }))
     (choose (isSysvol (w .path)) (step10 w d) (step6 w (d .hint) (d .hint)))
 
 -- Step 5: the first component is looked up in the domain cache.
@@ -138,7 +151,7 @@ step5 c w = step5With w (domainNamed (getD (components (w .path)) 0 []) (c .doma
 -- Step 9: an expired link is asked for at the targets of the root entry of exactly the first two components; without one, step 5.
 unfoldable pub linkRequest : Core → ℕ → ℕ → ℕ → Bool → Called
 linkRequest w entry place began covered =
-    asks (record { kind = link; entry = entry; party = place; began = began; size = w .size; tried = []; covered = covered })
+    asks (record { kind = Link; entry = entry; party = place; began = began; size = w .size; tried = []; covered = covered })
 
 unfoldable pub step9With : Caches → Core → Option Referral → Called
 step9With c w none = step5 c w
@@ -171,10 +184,10 @@ pub record Turn : Type 0 where
   pub called : Called
 
 unfoldable pub withHit : Bool → Core → Core
-withHit hit w = record { path = w .path; boot = w .boot; size = w .size; hit = hit }
+withHit hit w = record { path = w .path; size = w .size; hit = hit }
 
 unfoldable pub withPath : List ℕ → Core → Core
-withPath path w = record { path = path; boot = w .boot; size = w .size; hit = w .hit }
+withPath path w = record { path = path; size = w .size; hit = w .hit }
 
 unfoldable pub fromStep2 : Caches → Core → ℕ → Turn
 fromStep2 c w clock = record { caches = c; core = withHit (hitAt c w) w; called = step2 c w clock }
@@ -182,18 +195,18 @@ fromStep2 c w clock = record { caches = c; core = withHit (hitAt c w) w; called 
 -- Step 1: a path of one component is no DFS path (step 12).
 unfoldable pub started : Caches → Core → ℕ → Turn
 started c w clock =
-    choose (eqb (componentCount (w .path)) 1) (record { caches = c; core = w; called = ends 21 0 }) (fromStep2 c w clock)
+    choose (eqb (componentCount (w .path)) 1) (record { caches = c; core = w; called = ends NotDfs 0 }) (fromStep2 c w clock)
 
 -- The name asked: "\domain" for a DC request, the first two components for root and SYSVOL, the whole path for a link; the path of an I/O try.
 unfoldable pub nameAsked : Core → Question → List ℕ
 nameAsked w q = named (q .kind)
   where
     named : Kind → List ℕ
-    named dc = firstOf 1 (w .path)
-    named root = firstOf 2 (w .path)
-    named link = w .path
-    named sysvol = firstOf 2 (w .path)
-    named io = q .tried
+    named Dc = firstOf 1 (w .path)
+    named Root = firstOf 2 (w .path)
+    named Link = w .path
+    named Sysvol = firstOf 2 (w .path)
+    named Io = q .tried
 
 -- The entry in use: the domain of the first component, or the referral entry of an equal prefix.
 unfoldable pub domainInUse : Caches → Core → Option Domain
@@ -215,11 +228,11 @@ unfoldable pub partyCount : Caches → Core → Question → ℕ
 partyCount c w q = counted (q .kind)
   where
     counted : Kind → ℕ
-    counted dc = dcCount (domainInUse c w)
-    counted root = dcCount (domainInUse c w)
-    counted link = targetCount (referralInUse c w q)
-    counted sysvol = dcCount (domainInUse c w)
-    counted io = targetCount (referralInUse c w q)
+    counted Dc = dcCount (domainInUse c w)
+    counted Root = dcCount (domainInUse c w)
+    counted Link = targetCount (referralInUse c w q)
+    counted Sysvol = dcCount (domainInUse c w)
+    counted Io = targetCount (referralInUse c w q)
 
 -- "27 the entry in use is gone or has too few targets (or DCs)": the party asked and the one with which the round began are still there.
 -- A DC request needs its domain only, a root request to a host needs nothing.
@@ -230,11 +243,11 @@ inUse c w q = usable (q .kind)
     round = ltb (q .party) (partyCount c w q) && ltb (q .began) (partyCount c w q)
 
     usable : Kind → Bool
-    usable dc = isThere (domainInUse c w)
-    usable root = eqb (q .entry) 0 || round
-    usable link = round
-    usable sysvol = round
-    usable io = round
+    usable Dc = isThere (domainInUse c w)
+    usable Root = eqb (q .entry) 0 || round
+    usable Link = round
+    usable Sysvol = round
+    usable Io = round
 
 -- Rounds: "from the hint onward, round past the last, each once": the next party of n, or what comes when the round is exhausted.
 unfoldable pub nextPlace : ℕ → ℕ → ℕ
@@ -261,20 +274,20 @@ doubled q = record {
 -- "SYSVOL and DC requests try one party; its failure ends 22 with its status. DCs exhausted: end 22 with 0xC000003A. Targets exhausted: end 23 with
 -- the last status. A root request to a host that fails: end 21 if the walk has had no cache hit and no successful referral, else end 23."
 unfoldable pub failedHost : Core → ℕ → Called
-failedHost w status = choose (w .hit) (ends 23 status) (ends 21 0)
+failedHost w status = choose (w .hit) (ends Failed status) (ends NotDfs 0)
 
 unfoldable pub failed : Caches → Core → Question → ℕ → Called
 failed c w q status = failing (q .kind)
   where
     failing : Kind → Called
-    failing dc = ends 22 status
-    failing sysvol = ends 22 status
-    failing root =
+    failing Dc = ends NoDc status
+    failing Sysvol = ends NoDc status
+    failing Root =
         choose (eqb (q .entry) 0) (failedHost w status)
-        (onward (partyCount c w q) q (λ place. step6 w place (q .began)) (ends 22 pathNotFound))
-    failing link =
-        onward (partyCount c w q) q (λ place. linkRequest w (q .entry) place (q .began) (q .covered)) (ends 23 status)
-    failing io = ends 23 status
+        (onward (partyCount c w q) q (λ place. step6 w place (q .began)) (ends NoDc pathNotFound))
+    failing Link =
+        onward (partyCount c w q) q (λ place. linkRequest w (q .entry) place (q .began) (q .covered)) (ends Failed status)
+    failing Io = ends Failed status
 
 unfoldable pub referralFails : Caches → Core → Question → ℕ → Called
 referralFails c w q status =
@@ -305,19 +318,19 @@ unfoldable pub hintSet : Caches → Core → Question → Caches
 hintSet c w q = by (q .kind)
   where
     by : Kind → Caches
-    by dc = c
-    by root = choose (eqb (q .entry) 0) c (dcHintSet c w (q .party))
-    by link = targetHintSet c w q
-    by sysvol = dcHintSet c w (q .party)
-    by io = targetHintSet c w q
+    by Dc = c
+    by Root = choose (eqb (q .entry) 0) c (dcHintSet c w (q .party))
+    by Link = targetHintSet c w q
+    by Sysvol = dcHintSet c w (q .party)
+    by Io = targetHintSet c w q
 
 -- A reply without an entry: "end 23 with 0xC000003A (22 for DC and SYSVOL)".
-unfoldable pub emptyEnd : Kind → ℕ
-emptyEnd dc = 22
-emptyEnd root = 23
-emptyEnd link = 23
-emptyEnd sysvol = 22
-emptyEnd io = 23
+unfoldable pub emptyEnd : Kind → End
+emptyEnd Dc = NoDc
+emptyEnd Root = Failed
+emptyEnd Link = Failed
+emptyEnd Sysvol = NoDc
+emptyEnd Io = Failed
 
 -- A DC reply: the DCs are stored, and step 5.2 goes on.
 unfoldable pub dcsIn : Caches → Core → List (List ℕ) → Caches
@@ -328,8 +341,8 @@ dcsIn c w names = at (withKey domains (getD (components (w .path)) 0 []) (c .dom
     at (At i) = withDomains (dcsStored i names (c .domains)) c
 
 unfoldable pub dcAnswer : Caches → Core → replies.Reply (List (List ℕ)) → Turn
-dcAnswer c w malformed = record { caches = c; core = w; called = ends 25 0 }
-dcAnswer c w nothing = record { caches = c; core = w; called = ends (emptyEnd dc) pathNotFound }
+dcAnswer c w malformed = record { caches = c; core = w; called = ends Malformed 0 }
+dcAnswer c w nothing = record { caches = c; core = w; called = ends (emptyEnd Dc) pathNotFound }
 dcAnswer c w (says names) =
     record { caches = dcsIn c w names; core = withHit true w; called = step5 (dcsIn c w names) (withHit true w) }
 
@@ -340,11 +353,11 @@ coversNothing q r = q .covered && (r .root || leb (length (r .prefix)) (q .entry
 -- A root, link or SYSVOL reply that is stored: the hint of the party that answered, then the entry. The entry just stored is the one in use:
 -- SYSVOL goes to step 3, root and link replies to step 3 or 4 by their kind.
 unfoldable pub afterStore : Kind → Core → Referral → Called
-afterStore dc w e = step7 w e
-afterStore root w e = step7 w e
-afterStore link w e = step7 w e
-afterStore sysvol w e = step3 w e
-afterStore io w e = step7 w e
+afterStore Dc w e = step7 w e
+afterStore Root w e = step7 w e
+afterStore Link w e = step7 w e
+afterStore Sysvol w e = step3 w e
+afterStore Io w e = step7 w e
 
 unfoldable pub storedTurn : Caches → Core → Question → replies.Referral → ℕ → Turn
 storedTurn c w q r clock =
@@ -355,22 +368,22 @@ storedTurn c w q r clock =
     }
 
 unfoldable pub referralAnswer : Caches → Core → Question → ℕ → replies.Reply replies.Referral → Turn
-referralAnswer c w q clock malformed = record { caches = c; core = w; called = ends 25 0 }
+referralAnswer c w q clock malformed = record { caches = c; core = w; called = ends Malformed 0 }
 referralAnswer c w q clock nothing = record { caches = c; core = w; called = ends (emptyEnd (q .kind)) pathNotFound }
 referralAnswer c w q clock (says r) =
     choose (coversNothing q r)
-    (record { caches = c; core = w; called = ends 23 pathNotCovered })
+    (record { caches = c; core = w; called = ends Failed pathNotCovered })
     (storedTurn (hintSet c w q) w q r clock)
 
 unfoldable pub referralSucceeds : Caches → Core → Question → List ℕ → ℕ → Turn
 referralSucceeds c w q reply clock = by (q .kind)
   where
     by : Kind → Turn
-    by dc = dcAnswer c w (readDcs (q .size) reply)
-    by root = referralAnswer c w q clock (readReferral (q .size) (nameAsked w q) reply)
-    by link = referralAnswer c w q clock (readReferral (q .size) (nameAsked w q) reply)
-    by sysvol = referralAnswer c w q clock (readReferral (q .size) (nameAsked w q) reply)
-    by io = record { caches = c; core = w; called = ends 25 0 }
+    by Dc = dcAnswer c w (readDcs (q .size) reply)
+    by Root = referralAnswer c w q clock (readReferral (q .size) (nameAsked w q) reply)
+    by Link = referralAnswer c w q clock (readReferral (q .size) (nameAsked w q) reply)
+    by Sysvol = referralAnswer c w q clock (readReferral (q .size) (nameAsked w q) reply)
+    by Io = record { caches = c; core = w; called = ends Malformed 0 }
 
 -- The answer to a referral request. The entry in use is looked up before the answer is read.
 unfoldable pub referralAnswered : Caches → Core → Question → ℕ → List ℕ → ℕ → Turn
@@ -379,7 +392,7 @@ referralAnswered c w q status reply clock =
     (choose (leb 2 (severity status))
     (record { caches = c; core = w; called = referralFails c w q status })
     (referralSucceeds c w q reply clock))
-    (record { caches = c; core = w; called = ends 27 0 })
+    (record { caches = c; core = w; called = ends Gone 0 })
 
 -- Step 8's outcome. "I/O fails only at severity 3. Next target on 0xC00000B5 ..; any other ends 23, PATH_NOT_COVERED apart."
 abbrev pub nextTargetStatuses : List ℕ
@@ -392,26 +405,26 @@ isOneOf n (m ∷ ms) = eqb n m || isOneOf n ms
 unfoldable pub ioFails : Core → Question → ℕ → Referral → Called
 ioFails w q status e =
     choose (eqb status pathNotCovered)
-    (choose (e .root) (linkRequest w (q .entry) (q .party) (q .party) true) (ends 23 status))
+    (choose (e .root) (linkRequest w (q .entry) (q .party) (q .party) true) (ends Failed status))
     (choose (isOneOf status nextTargetStatuses)
-    (onward (length (e .targets)) q (λ place. step8 w e place (q .began)) (ends 23 status))
-    (ends 23 status))
+    (onward (length (e .targets)) q (λ place. step8 w e place (q .began)) (ends Failed status))
+    (ends Failed status))
 
 unfoldable pub ioWith : Caches → Core → Question → ℕ → Option Referral → Turn
-ioWith c w q status none = record { caches = c; core = w; called = ends 27 0 }
+ioWith c w q status none = record { caches = c; core = w; called = ends Gone 0 }
 ioWith c w q status (some e) =
     choose (eqb (severity status) 3)
     (record { caches = c; core = w; called = ioFails w q status e })
-    (record { caches = hintSet c w q; core = w; called = ends 20 status })
+    (record { caches = hintSet c w q; core = w; called = stops Done status (q .tried) })
 
 unfoldable pub ioAnswered : Caches → Core → Question → ℕ → Turn
 ioAnswered c w q status =
-    choose (inUse c w q) (ioWith c w q status (referralInUse c w q)) (record { caches = c; core = w; called = ends 27 0 })
+    choose (inUse c w q) (ioWith c w q status (referralInUse c w q)) (record { caches = c; core = w; called = ends Gone 0 })
 
--- Where the steps come to rest: at a question or at an end, with so many moves left.
+-- Where the steps come to rest: at a question or at an end, which has its status and the path tried; with so many moves left.
 pub data Rest : Type 0 where
   waits : Question → Rest
-  ended : ℕ → ℕ → Rest
+  ended : End → ℕ → List ℕ → Rest
 
 pub record Resting : Type 0 where
   pub core : Core
@@ -419,16 +432,20 @@ pub record Resting : Type 0 where
   pub rest : Rest
 
 -- "Before a move the limit is tested, then the length of the new path; neither end counts as a move." The moves left are the limit.
+unfoldable pub rests : Core → ℕ → Rest → Resting
+rests w n r = record { core = w; left = n; rest = r }
+
+unfoldable pub asking : ℕ → Core → Question → Resting
+asking zero w q = rests w zero (ended LimitReached 0 [])
+asking (suc n) w q = choose (leb (length (q .tried)) pathUnits) (rests w n (waits q)) (rests w (suc n) (ended TooLong 0 []))
+
 unfoldable pub goes : ℕ → Caches → ℕ → Core → Called → Resting
-goes zero c clock w (ends number status) = record { core = w; left = zero; rest = ended number status }
-goes zero c clock w (asks q) = record { core = w; left = zero; rest = ended 24 0 }
-goes zero c clock w (replaces p) = record { core = w; left = zero; rest = ended 24 0 }
-goes (suc n) c clock w (ends number status) = record { core = w; left = suc n; rest = ended number status }
-goes (suc n) c clock w (asks q) =
-    choose (leb (length (q .tried)) pathUnits)
-    (record { core = w; left = n; rest = waits q })
-    (record { core = w; left = suc n; rest = ended 26 0 })
+goes zero c clock w (stops e status tried) = rests w zero (ended e status tried)
+goes zero c clock w (asks q) = asking zero w q
+goes zero c clock w (replaces p) = rests w zero (ended LimitReached 0 [])
+goes (suc n) c clock w (stops e status tried) = rests w (suc n) (ended e status tried)
+goes (suc n) c clock w (asks q) = asking (suc n) w q
 goes (suc n) c clock w (replaces p) =
     choose (leb (length p) pathUnits)
     (goes n c clock (withHit (hitAt c (withPath p w)) (withPath p w)) (step2 c (withPath p w) clock))
-    (record { core = w; left = suc n; rest = ended 26 0 })
+    (rests w (suc n) (ended TooLong 0 []))

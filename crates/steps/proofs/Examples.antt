@@ -10,7 +10,8 @@ use Rattle.caches.specs.Entries.{Target, Referral, Domain, Place, free, used}
 use Rattle.caches.specs.Memory.{referrals, domains}
 use Rattle.lookup.specs.Lookup.{longerMatch, prefixUnits, longestFrom, longestMatch, hasKey, withKeyFrom, withKey, age, expired, targetPath}
 use Rattle.storing.specs.Stored.{heldAt, held, prefixed}
-use Rattle.resolve.specs.Steps.{Caches, Core, Question, Kind, root, Called, ends, asks, replaces, Turn, Resting, Rest, waits, ended, started, fromStep2, withHit, withPath, goes, step2, step2With, step3, step4, step5, step5With, step6Host, step7, step8, step11, longest, domainNamed, hitAt, isThere, failedHost, failed, referralFails, inUse, severity}
+use Rattle.steps.specs.Steps.{Caches, Core, Question, Called, ends, asks, replaces, Turn, Resting, Rest, waits, ended, started, fromStep2, withHit, withPath, goes, step2, step2With, step3, step4, step5, step5With, step6Host, step7, step8, step11, longest, domainNamed, hitAt, isThere, failedHost, failed, referralFails, inUse, severity, rests, asking}
+use Rattle.steps.specs.declared.End.the-variants.{NotDfs, LimitReached}
 
 -- \a\b, and \a\b\c
 abbrev ab : List ℕ
@@ -38,18 +39,18 @@ turning = record {
 }
 
 abbrev walk : List ℕ → Core
-walk path = record { path = path; boot = 100 ∷ 99 ∷ 49 ∷ []; size = 8192; hit = false }
+walk path = record { path = path; size = 8192; hit = false }
 
 -- where a walk with this limit comes to rest
-abbrev rests : ℕ → Turn → Resting
-rests limit t = goes limit (t .caches) 0 (t .core) (t .called)
+abbrev walks : ℕ → Turn → Resting
+walks limit t = goes limit (t .caches) 0 (t .core) (t .called)
 
 -- limit 5: five moves, no question, end 24
-pub turns-five-times : rests 5 (started turning (walk abc) 0) ≡ record { core = withHit true (walk abc); left = 0; rest = ended 24 0 }
-unfolding started fromStep2 goes step2 step2With longest held heldAt longestMatch longestFrom longerMatch prefixUnits matches begins pieces before sameName sameUnit folded choose expired age step7 step4 isSysvol components componentCount step11 replaced targetPath hitAt isThere withHit withPath
+pub turns-five-times : walks 5 (started turning (walk abc) 0) ≡ record { core = withHit true (walk abc); left = 0; rest = ended LimitReached 0 [] }
+unfolding started fromStep2 goes rests asking step2 step2With longest held heldAt longestMatch longestFrom longerMatch prefixUnits matches begins pieces before sameName sameUnit folded choose expired age step7 step4 isSysvol components componentCount step11 replaced targetPath hitAt isThere withHit withPath
 turns-five-times = refl
 
 -- \abc ends 21 with 0 moves
-pub one-component : rests 4 (started turning (walk (92 ∷ 97 ∷ 98 ∷ 99 ∷ [])) 0) .rest ≡ ended 21 0
-unfolding started goes componentCount components pieces before choose
+pub one-component : walks 4 (started turning (walk (92 ∷ 97 ∷ 98 ∷ 99 ∷ [])) 0) .rest ≡ ended NotDfs 0 []
+unfolding started goes rests componentCount components pieces before choose
 one-component = refl

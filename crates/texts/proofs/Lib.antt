@@ -1,0 +1,2 @@
+-- Laws of a walk's texts.
+pub mod TextLaws

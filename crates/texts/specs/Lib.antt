@@ -1,0 +1,2 @@
+-- The texts of a walk.
+pub mod Texts

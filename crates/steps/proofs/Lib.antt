@@ -1,2 +1,4 @@
 -- Laws.
+pub mod HeldLaws
+pub mod StepLaws
 pub mod Examples

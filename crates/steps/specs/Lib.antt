@@ -1,2 +1,3 @@
--- The walk.
+-- The steps of the walk: source document 000.
 pub mod Steps
+pub mod Rested

@@ -92,79 +92,79 @@ unfoldable pub severity : ℕ → ℕ
 severity status = status / 1073741824
 
 -- Step 3, then step 8: the I/O try at a target of the entry, in a round that began at `began`. The prefix is replaced by the target's path.
-unfoldable pub step8 : Core → Referral → ℕ → ℕ → Called
-step8 w e place began =
-    asks (record {
-      kind = Io;
-      entry = length (e .prefix);
-      party = place;
-      began = began;
-      size = 0;
-      tried = replaced (targetPath place e) (length (e .prefix)) (w .path);
-      covered = false;
-    })
+unfoldable pub step8 : Core → Referral → ℕ → ℕ → Question
+step8 w e place began = record {
+  kind = Io;
+  entry = length (e .prefix);
+  party = place;
+  began = began;
+  size = 0;
+  tried = replaced (targetPath place e) (length (e .prefix)) (w .path);
+  covered = false;
+}
 
-unfoldable pub step3 : Core → Referral → Called
+unfoldable pub step3 : Core → Referral → Question
 step3 w e = step8 w e (e .hint) (e .hint)
 
--- Step 11: the prefix is replaced by the target hinted at; the steps go on from step 2.
-unfoldable pub step11 : Core → Referral → Called
-step11 w e = replaces (replaced (targetPath (e .hint) e) (length (e .prefix)) (w .path))
+-- Step 11: the prefix is replaced by the target hinted at; the steps go on from step 2 with this path.
+unfoldable pub step11 : Core → Referral → List ℕ
+step11 w e = replaced (targetPath (e .hint) e) (length (e .prefix)) (w .path)
 
 -- Step 4: a link. SYSVOL and NETLOGON go to step 3, an Interlink to step 11, any other to step 3.
 unfoldable pub step4 : Core → Referral → Called
-step4 w e = choose (not (isSysvol (w .path)) && e .interlink) (step11 w e) (step3 w e)
+step4 w e = choose (not (isSysvol (w .path)) && e .interlink) (replaces (step11 w e)) (asks (step3 w e))
 
 -- Steps 2.3, 7, 8.1.3, 9.1 and 9.2: root targets go to step 3, link targets to step 4.
 unfoldable pub step7 : Core → Referral → Called
-step7 w e = choose (e .root) (step3 w e) (step4 w e)
+step7 w e = choose (e .root) (asks (step3 w e)) (step4 w e)
 
 -- Step 6, through a domain: a root request to one of its DCs, in a round that began at `began`. The name of the domain is the path's first component.
-unfoldable pub step6 : Core → ℕ → ℕ → Called
+unfoldable pub step6 : Core → ℕ → ℕ → Question
 step6 w place began =
-    asks (record { kind = Root; entry = length (firstOf 1 (w .path)); party = place; began = began; size = w .size; tried = []; covered = false })
+    record { kind = Root; entry = length (firstOf 1 (w .path)); party = place; began = began; size = w .size; tried = []; covered = false }
 
 -- Step 6, with the first component as the host's name.
-unfoldable pub step6Host : Core → Called
-step6Host w = asks (record { kind = Root; entry = 0; party = 0; began = 0; size = w .size; tried = []; covered = false })
+unfoldable pub step6Host : Core → Question
+step6Host w = record { kind = Root; entry = 0; party = 0; began = 0; size = w .size; tried = []; covered = false }
 
 -- Step 10: a SYSVOL request to the DC hinted at.
-unfoldable pub step10 : Core → Domain → Called
+unfoldable pub step10 : Core → Domain → Question
 step10 w d =
-    asks (record { kind = Sysvol; entry = length (firstOf 1 (w .path)); party = d .hint; began = d .hint; size = w .size; tried = []; covered = false })
+    record { kind = Sysvol; entry = length (firstOf 1 (w .path)); party = d .hint; began = d .hint; size = w .size; tried = []; covered = false }
 
 -- Step 5.2: a domain. Without a DC a DC request to the bootstrap DC; then SYSVOL and NETLOGON go to step 10, any other path to step 6.
-unfoldable pub step5Domain : Core → Domain → Called
+unfoldable pub dcRequest : Core → Question
+dcRequest w = record { kind = Dc; entry = length (firstOf 1 (w .path)); party = 0; began = 0; size = w .size; tried = []; covered = false }
+
+unfoldable pub step5Domain : Core → Domain → Question
 step5Domain w d =
-    choose (eqb (length (d .dcs)) 0)
-    (asks (record { kind = Dc; entry = length (firstOf 1 (w .path)); party = 0; began = 0; size = w .size; tried = []; covered = false }))
+    choose (eqb (length (d .dcs)) 0) (dcRequest w)
     (choose (isSysvol (w .path)) (step10 w d) (step6 w (d .hint) (d .hint)))
 
 -- Step 5: the first component is looked up in the domain cache.
-unfoldable pub step5With : Core → Option Domain → Called
+unfoldable pub step5With : Core → Option Domain → Question
 step5With w none = step6Host w
 step5With w (some d) = step5Domain w d
 
-unfoldable pub step5 : Caches → Core → Called
-step5 c w = step5With w (domainNamed (getD (components (w .path)) 0 []) (c .domains))
+unfoldable pub step5 : List (Place Domain) → Core → Question
+step5 ds w = step5With w (domainNamed (getD (components (w .path)) 0 []) ds)
 
 -- Step 9: an expired link is asked for at the targets of the root entry of exactly the first two components; without one, step 5.
-unfoldable pub linkRequest : Core → ℕ → ℕ → ℕ → Bool → Called
+unfoldable pub linkRequest : Core → ℕ → ℕ → ℕ → Bool → Question
 linkRequest w entry place began covered =
-    asks (record { kind = Link; entry = entry; party = place; began = began; size = w .size; tried = []; covered = covered })
+    record { kind = Link; entry = entry; party = place; began = began; size = w .size; tried = []; covered = covered }
 
-unfoldable pub step9With : Caches → Core → Option Referral → Called
-step9With c w none = step5 c w
-step9With c w (some e) =
-    choose (e .root) (linkRequest w (length (e .prefix)) (e .hint) (e .hint) false) (step5 c w)
+unfoldable pub step9With : Caches → Core → Option Referral → Question
+step9With c w none = step5 (c .domains) w
+step9With c w (some e) = choose (e .root) (linkRequest w (length (e .prefix)) (e .hint) (e .hint) false) (step5 (c .domains) w)
 
-unfoldable pub step9 : Caches → Core → Called
+unfoldable pub step9 : Caches → Core → Question
 step9 c w = step9With c w (prefixed (firstOf 2 (w .path)) (c .referrals))
 
 -- Step 2: the longest match in the referral cache. An expired root goes to step 5, an expired link to step 9, a fresh entry to step 3 or 4.
 unfoldable pub step2With : Caches → Core → ℕ → Option Referral → Called
-step2With c w clock none = step5 c w
-step2With c w clock (some e) = choose (expired clock e) (choose (e .root) (step5 c w) (step9 c w)) (step7 w e)
+step2With c w clock none = asks (step5 (c .domains) w)
+step2With c w clock (some e) = choose (expired clock e) (asks (choose (e .root) (step5 (c .domains) w) (step9 c w))) (step7 w e)
 
 unfoldable pub step2 : Caches → Core → ℕ → Called
 step2 c w clock = step2With c w clock (longest (w .path) (c .referrals))
@@ -253,8 +253,8 @@ inUse c w q = usable (q .kind)
 unfoldable pub nextPlace : ℕ → ℕ → ℕ
 nextPlace n place = choose (leb n (place + 1)) 0 (place + 1)
 
-unfoldable pub onward : ℕ → Question → (ℕ → Called) → Called → Called
-onward n q ask exhausted = choose (eqb (nextPlace n (q .party)) (q .began)) exhausted (ask (nextPlace n (q .party)))
+unfoldable pub onward : ℕ → Question → (ℕ → Question) → Called → Called
+onward n q ask exhausted = choose (eqb (nextPlace n (q .party)) (q .began)) exhausted (asks (ask (nextPlace n (q .party))))
 
 -- A referral that fails (severity 2 or 3). 0x80000005 first asks the same party again with the size doubled, at most 57,344.
 abbrev pub mostSize : ℕ
@@ -344,7 +344,7 @@ unfoldable pub dcAnswer : Caches → Core → replies.Reply (List (List ℕ)) �
 dcAnswer c w malformed = record { caches = c; core = w; called = ends Malformed 0 }
 dcAnswer c w nothing = record { caches = c; core = w; called = ends (emptyEnd Dc) pathNotFound }
 dcAnswer c w (says names) =
-    record { caches = dcsIn c w names; core = withHit true w; called = step5 (dcsIn c w names) (withHit true w) }
+    record { caches = dcsIn c w names; core = withHit true w; called = asks (step5 (dcsIn c w names .domains) (withHit true w)) }
 
 -- Step 8.1.2, after PATH_NOT_COVERED: "a reply of kind root, or a prefix no longer than that in use, ends 23 with 0xC0000257 and stores nothing".
 unfoldable pub coversNothing : Question → replies.Referral → Bool
@@ -356,7 +356,7 @@ unfoldable pub afterStore : Kind → Core → Referral → Called
 afterStore Dc w e = step7 w e
 afterStore Root w e = step7 w e
 afterStore Link w e = step7 w e
-afterStore Sysvol w e = step3 w e
+afterStore Sysvol w e = asks (step3 w e)
 afterStore Io w e = step7 w e
 
 unfoldable pub storedTurn : Caches → Core → Question → replies.Referral → ℕ → Turn
@@ -405,7 +405,7 @@ isOneOf n (m ∷ ms) = eqb n m || isOneOf n ms
 unfoldable pub ioFails : Core → Question → ℕ → Referral → Called
 ioFails w q status e =
     choose (eqb status pathNotCovered)
-    (choose (e .root) (linkRequest w (q .entry) (q .party) (q .party) true) (ends Failed status))
+    (choose (e .root) (asks (linkRequest w (q .entry) (q .party) (q .party) true)) (ends Failed status))
     (choose (isOneOf status nextTargetStatuses)
     (onward (length (e .targets)) q (λ place. step8 w e place (q .began)) (ends Failed status))
     (ends Failed status))

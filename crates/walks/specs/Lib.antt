@@ -1,0 +1,2 @@
+-- The walk as it is held, and its form.
+pub mod Walks

@@ -1,9 +1,9 @@
 -- Laws of entries that were found, in either cache.
-use mathlib.Core.Path.{_≡_, refl, sym, ap, _∙_}
-use mathlib.Core.Bool.{Bool, true, false}
-use mathlib.Core.List.{List, []}
+use mathlib.Core.Path.{_≡_, sym, ap, _∙_}
+use mathlib.Core.Bool.{true, false}
+use mathlib.Core.List.{List}
 use mathlib.Core.Logic.{_⊎_, inl, inr}
-use mathlib.Core.Option.{Option, none, some}
+use mathlib.Core.Option.{none, some}
 use Prim.Native.Nat.{ℕ, _/_, _<_}
 use native.Mathlib.Omega.{arith}
 use lib.ListN.{length, getD}
@@ -11,19 +11,19 @@ use lib.Dec.{eqb}
 use borrow.Author.Tests.{eqb-true}
 use Rattle.laws.proofs.Orders.{told}
 use Rattle.unc.specs.Paths.{matches}
-use Rattle.places.specs.Layout.{placeAt, unitAt, placeCount}
-use Rattle.caches.specs.Entries.{Referral, Domain, Place, free, used}
+use Rattle.places.specs.Layout.{placeAt, unitAt}
+use Rattle.caches.specs.Entries.{Referral, Place, free, used}
 use Rattle.caches.specs.Order.{goodReferral}
-use Rattle.caches.specs.Memory.{Kind, referrals, domains, decode, inOrder, placeOf}
+use Rattle.caches.specs.Memory.{Kind, referrals, decode, inOrder, placeOf}
 use Rattle.caches.proofs.MemoryLaws.{length-decode, decode-at, place-free, place-used}
-use Rattle.caches.proofs.KindLaws.{referrals-lawful, domains-lawful}
+use Rattle.caches.proofs.KindLaws.{referrals-lawful}
 use Rattle.lookup.specs.Lookup.{longestMatch, withKey, entryAt}
 use Rattle.lookup.specs.declared.Found.{Found}
 use Rattle.lookup.specs.declared.Found.the-variants.{At, Nothing}
 use Rattle.lookup.proofs.LookupLaws.{used-inside, longest-found, LongestAt, KeyAt, key-found}
 use Rattle.lookup.proofs.StoreLaws.{entry-good}
-use Rattle.storing.specs.Stored.{held, heldAt, prefixed}
-use Rattle.steps.specs.Steps.{longest, domainNamed}
+use Rattle.storing.specs.Stored.{held, heldAt}
+use Rattle.steps.specs.Steps.{longest}
 
 -- a used place lies inside the memory and holds what is read there
 module _ {E : Type 0} (k : Kind E) (raw : List ℕ) (i : ℕ) (e : E) (here : getD (decode k raw) i free ≡ used e) where

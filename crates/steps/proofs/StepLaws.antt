@@ -1,9 +1,8 @@
 -- Laws of what the steps find and put.
 use mathlib.Core.Path.{_≡_, refl, sym, ap, _∙_}
-use mathlib.Core.Bool.{Bool, true, false, _&&_, _||_, not}
+use mathlib.Core.Bool.{Bool, true, false, _&&_}
 use mathlib.Core.List.{List, []}
 use mathlib.Core.Logic.{_⊎_, inl, inr}
-use mathlib.Core.Option.{Option, none, some}
 use Prim.Native.Nat.{ℕ, zero, suc, _+_, _-_, _/_, _≤_, _<_}
 use native.Mathlib.Omega.{arith}
 use lib.ListN.{length, getD, take, drop, length-take}
@@ -15,28 +14,27 @@ use Rattle.laws.proofs.Choices.{choose-yes, choose-no, and-left, and-right}
 use Rattle.laws.proofs.Orders.{told}
 use Rattle.unc.specs.Paths.{components, firstOf, isSysvol, pathUnits, normalisedCount, isNormalised}
 use Rattle.caches.specs.Entries.{Referral, Domain, Place}
-use Rattle.caches.specs.Order.{goodReferral, goodPrefix}
+use Rattle.caches.specs.Order.{goodPrefix}
 use Rattle.caches.proofs.KindLaws.{prefix-some}
-use Rattle.unc.proofs.PieceLaws.{Spans, spans, first-over}
-use Rattle.unc.proofs.SpanLaws.{span-start, span-end, span-some}
+use Rattle.unc.proofs.PieceLaws.{spans, first-over}
+use Rattle.unc.proofs.SpanLaws.{span-start, span-some}
 use Rattle.laws.specs.Lists.{part}
 use Rattle.places.specs.Layout.{textAt, roomAt}
-use Rattle.caches.specs.Memory.{referrals, domains, decode, inOrder, referralOf}
+use Rattle.caches.specs.Memory.{referrals, domains, decode, referralOf}
 use Rattle.lookup.specs.Lookup.{longestMatch, withKey, entryAt, expired}
 use Rattle.lookup.specs.declared.Found.{Found}
 use Rattle.lookup.specs.declared.Found.the-variants.{At, Nothing}
-use Rattle.storing.specs.Stored.{held, prefixed}
-use Rattle.steps.specs.Steps.{Caches, Core, Question, Called, asks, Rest, Resting, waits, ended, rests, asking, longest, domainNamed, isThere, hitAt, withHit, dcRequest, step2, step2With, step3, step4, step5, step5With, step5Domain, step6, step6Host, step7, step8, step9, step9With, step10, step11, linkRequest}
-use Rattle.steps.specs.Rested.{cachesOf, coreOf, askingOf, nextOf, triedOf, restedOf, endedAt, askedAt, domainAsking, turning, step9At, step9In, step2At, step2In}
+use Rattle.steps.specs.Steps.{Core, Question, waits, ended, rests, asking, domainNamed, dcRequest, step5, step5With, step5Domain, step6, step6Host, step10, linkRequest}
+use Rattle.steps.specs.Rested.{askingOf, nextOf, triedOf, restedOf, endedAt, askedAt, domainAsking, turning, step9At, step9In, step2At, step2In}
 use Rattle.steps.specs.declared.Kind.{Kind}
 use Rattle.steps.specs.declared.Kind.the-variants.{Dc, Root, Link, Sysvol}
 use Rattle.steps.specs.declared.End.the-variants.{LimitReached, TooLong}
 use Rattle.steps.specs.declared.Asking.{Asking}
-use Rattle.steps.specs.declared.Next.the-variants.{Asks, Ends}
+use Rattle.steps.specs.declared.Next.the-variants.{Asks}
 use Rattle.steps.specs.declared.Rested.{Rested}
 use Rattle.steps.specs.declared.Matched.{Matched}
 use Rattle.steps.specs.declared.Matched.the-variants.{Fresh, Refresh, Stale, Missed}
-use Rattle.steps.proofs.HeldLaws.{none-held, key-held, key-fits, longest-held, longest-fits, longest-matches, longest-good}
+use Rattle.steps.proofs.HeldLaws.{none-held, key-held, key-fits, longest-fits}
 
 -- a question put, or the limit
 module _ (q : Asking) (path left : ℕ) (hit : Bool) where

@@ -2,27 +2,19 @@ use Rattle.steps.proofs.StepLaws.{asked-limit, asked-put}
 use borrow.Author.Needs.{needs}
 use Rattle.steps.proofs.ask.Statement.{statement}
 use Rattle.steps.proofs.ask.Tie as tie
-use Rattle.steps.proofs.ask.Reads as reads
-use Rattle.steps.proofs.ask.Lts as lts
-use Rattle.steps.proofs.end_at.Reads as end-at-reads
 
--- src/lib.rt:81:9
 end-at-requires : tie.Need-end-at-requires
 end-at-requires c κs = search needs
 
--- src/lib.rt:81:9
 returns : tie.Need-returns
 returns c = asked-limit _ _ _ _ (c .end-at .ensures) (c .before .if1 .taken)
 
--- src/lib.rt:85:15
 cast-t8 : tie.Need-cast-t8
 cast-t8 c = search needs
 
--- src/lib.rt:87:15
 sub-t9 : tie.Need-sub-t9
 sub-t9 c = search needs
 
--- src/lib.rt:76:1
 returns-2 : tie.Need-returns-2
 returns-2 c = asked-put _ _ _ _ (c .if1 .left)
 

@@ -7,29 +7,19 @@ use Rattle.steps.proofs.StepLaws.{asked-link}
 use borrow.Author.Needs.{needs}
 use Rattle.steps.proofs.ask_link.Statement.{statement}
 use Rattle.steps.proofs.ask_link.Tie as tie
-use Rattle.steps.proofs.ask_link.Reads as reads
-use Rattle.steps.proofs.ask_link.Lts as lts
-use Rattle.lookup.proofs.prefix.Reads as prefix-reads
-use Rattle.lookup.proofs.target_hint.Reads as target-hint-reads
-use Rattle.steps.proofs.ask.Reads as ask-reads
 
--- src/lib.rt:134:13
 prefix-requires : tie.Need-prefix-requires
 prefix-requires c κs = search needs
 
--- src/lib.rt:135:9
 target-hint-requires : tie.Need-target-hint-requires
 target-hint-requires c κs = search needs
 
--- src/lib.rt:138:16
 cast-t11 : tie.Need-cast-t11
 cast-t11 c = omega (arith, prefix-within (c .before .before .before .before .args .i) (now (c .before .before .before .before .args .refs)), ap length (c .before .prefix .ensures))
 
--- src/lib.rt:144:5
 ask-requires : tie.Need-ask-requires
 ask-requires c κs = search needs
 
--- src/lib.rt:130:1
 returns : tie.Need-returns
 returns c = asked-link _ _ _ _ (c .ask .ensures) (c .before .before .prefix .ensures) (c .before .target-hint .ensures) refl refl
 

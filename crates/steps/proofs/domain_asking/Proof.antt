@@ -4,19 +4,13 @@ use Rattle.steps.proofs.StepLaws.{domain-asking}
 use borrow.Author.Needs.{needs}
 use Rattle.steps.proofs.domain_asking.Statement.{statement}
 use Rattle.steps.proofs.domain_asking.Tie as tie
-use Rattle.steps.proofs.domain_asking.Reads as reads
-use Rattle.steps.proofs.domain_asking.Lts as lts
-use Rattle.unc.proofs.first_end.Reads as first-end-reads
 
--- src/lib.rt:152:9
 first-end-requires : tie.Need-first-end-requires
 first-end-requires c κs = search needs
 
--- src/lib.rt:155:16
 cast-t6 : tie.Need-cast-t6
 cast-t6 c = omega (arith, first-within 1 _ (c .first-end .ensures))
 
--- src/lib.rt:148:1
 returns : tie.Need-returns
 returns c = domain-asking _ _ _ _ (c .first-end .ensures)
 

@@ -3,14 +3,10 @@ use Rattle.steps.specs.Rested.{endedAt}
 use borrow.Author.Needs.{needs}
 use Rattle.steps.proofs.end_at.Statement.{statement}
 use Rattle.steps.proofs.end_at.Tie as tie
-use Rattle.steps.proofs.end_at.Reads as reads
-use Rattle.steps.proofs.end_at.Lts as lts
 
--- src/lib.rt:68:15
 cast-t7 : tie.Need-cast-t7
 cast-t7 c = search needs
 
--- src/lib.rt:62:1
 returns : tie.Need-returns
 unfolding endedAt
 returns c = refl

@@ -2,27 +2,19 @@ use Rattle.steps.proofs.StepLaws.{host-start, host-is, first-within}
 use borrow.Author.Needs.{needs}
 use Rattle.steps.proofs.host.Statement.{statement}
 use Rattle.steps.proofs.host.Tie as tie
-use Rattle.steps.proofs.host.Reads as reads
-use Rattle.steps.proofs.host.Lts as lts
-use Rattle.unc.proofs.first_end.Reads as first-end-reads
 
--- src/lib.rt:183:9
 first-end-requires : tie.Need-first-end-requires
 first-end-requires c κs = search needs
 
--- src/lib.rt:184:5
 sub-result : tie.Need-sub-result
 sub-result c = host-start _ (c .before .before .pre) (c .first-end .ensures)
 
--- src/lib.rt:184:5
 part-result-start : tie.Need-part-result-start
 part-result-start c = host-start _ (c .before .before .pre) (c .first-end .ensures)
 
--- src/lib.rt:184:5
 part-result-end : tie.Need-part-result-end
 part-result-end c = first-within 1 _ (c .first-end .ensures)
 
--- src/lib.rt:179:1
 returns : tie.Need-returns
 returns c = host-is _ (c .before .before .before .pre) (c .before .first-end .ensures)
 

@@ -3,50 +3,34 @@ use Rattle.steps.proofs.StepLaws.{step2-none, step2-fits, step2-fresh, 
 use borrow.Author.Needs.{needs}
 use Rattle.steps.proofs.step2.Statement.{statement}
 use Rattle.steps.proofs.step2.Tie as tie
-use Rattle.steps.proofs.step2.Reads as reads
-use Rattle.steps.proofs.step2.Lts as lts
-use Rattle.lookup.proofs.find.Reads as find-reads
-use Rattle.lookup.proofs.is_expired.Reads as is-expired-reads
-use Rattle.lookup.proofs.is_root.Reads as is-root-reads
-use Rattle.steps.proofs.step9.Reads as step9-reads
 
--- src/lib.rt:117:24
 find-requires : tie.Need-find-requires
 find-requires c κs = search needs
 
--- src/lib.rt:117:19
 enum-known-i : tie.Need-enum-known-i
 enum-known-i c = search needs
 
--- src/lib.rt:118:9
 enum-told : tie.Need-enum-told
 enum-told c = search needs
 
--- src/lib.rt:118:9
 returns : tie.Need-returns
 returns c = step2-none _ _ _ (c .before .before .find .ensures) (c .enum-told .given .1)
 
--- src/lib.rt:120:9
 is-expired-requires : tie.Need-is-expired-requires
 is-expired-requires c κs = step2-fits 0 _ _ (c .before .before .before .find .ensures) _ (c .before .i .given .1)
 
--- src/lib.rt:121:9
 returns-2 : tie.Need-returns-2
 returns-2 c = step2-fresh _ _ _ (c .before .before .before .before .before .find .ensures) _ (c .before .before .before .i .given .1) (c .before .is-expired .ensures) (not-true _ (c .if1 .taken))
 
--- src/lib.rt:123:8
 is-root-requires : tie.Need-is-root-requires
 is-root-requires c κs = step2-fits 0 _ _ (c .before .before .before .before .before .find .ensures) _ (c .before .before .before .i .given .1)
 
--- src/lib.rt:124:9
 returns-3 : tie.Need-returns-3
 returns-3 c = step2-root _ _ _ (c .before .before .before .before .before .before .before .find .ensures) _ (c .before .before .before .before .before .i .given .1) (c .before .before .before .is-expired .ensures) (not-false _ (c .before .before .if1 .left)) (c .before .is-root .ensures) (c .if2 .taken)
 
--- src/lib.rt:126:5
 step9-requires : tie.Need-step9-requires
 step9-requires c κs = search needs
 
--- src/lib.rt:114:1
 returns-4 : tie.Need-returns-4
 returns-4 c = step2-link _ _ _ (c .before .before .before .before .before .before .before .before .find .ensures) _ (c .before .before .before .before .before .before .i .given .1) (c .before .before .before .before .is-expired .ensures) (not-false _ (c .before .before .before .if1 .left)) (c .before .before .is-root .ensures) (c .before .if2 .left) (c .step9 .ensures)
 

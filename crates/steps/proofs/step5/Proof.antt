@@ -1,50 +1,36 @@
 use Rattle.caches.specs.Memory.{domains}
 use Rattle.steps.proofs.HeldLaws.{key-fits}
 use Rattle.caches.proofs.KindLaws.{prefix-short}
-use Rattle.steps.specs.Rested.{askingOf, restedOf}
-use Rattle.steps.specs.Steps.{step6Host, Core, Question, asking}
-use mathlib.Core.Path.{refl, ap, sym, _∙_}
+use Rattle.steps.specs.Rested.{askingOf}
+use Rattle.steps.specs.Steps.{step6Host}
+use mathlib.Core.Path.{refl, sym, _∙_}
 use Rattle.steps.proofs.StepLaws.{asked-as, host-asked, domain-asked}
 use borrow.Author.Needs.{needs}
 use Rattle.steps.proofs.step5.Statement.{statement}
 use Rattle.steps.proofs.step5.Tie as tie
-use Rattle.steps.proofs.step5.Reads as reads
-use Rattle.steps.proofs.step5.Lts as lts
-use Rattle.lookup.proofs.find_domain.Reads as find-domain-reads
-use Rattle.steps.proofs.ask.Reads as ask-reads
-use Rattle.steps.proofs.ask_domain.Reads as ask-domain-reads
-use Rattle.steps.proofs.host.Reads as host-reads
 
--- src/lib.rt:192:50
 host-requires : tie.Need-host-requires
 host-requires c κs = search needs
 
--- src/lib.rt:192:24
 find-domain-requires : tie.Need-find-domain-requires
 find-domain-requires c κs = search needs
 
--- src/lib.rt:192:19
 enum-known-i : tie.Need-enum-known-i
 enum-known-i c = search needs
 
--- src/lib.rt:194:19
 enum-told : tie.Need-enum-told
 enum-told c = search needs
 
--- src/lib.rt:201:9
 ask-requires : tie.Need-ask-requires
 ask-requires c κs = prefix-short _ (c .before .before .before .before .before .before .pre)
 
--- src/lib.rt:201:9
 returns : tie.Need-returns
 unfolding step6Host askingOf
 returns c = asked-as _ _ _ _ (c .ask .ensures) refl refl refl ∙ host-asked _ _ _ (c .before .before .before .before .host .ensures) (c .before .before .before .find-domain .ensures) (c .before .enum-told .given .1)
 
--- src/lib.rt:203:5
 ask-domain-requires : tie.Need-ask-domain-requires
 ask-domain-requires c κs = (key-fits domains _ _ _ (sym (c .before .before .before .find-domain .ensures) ∙ c .before .i .given .1), prefix-short _ (c .before .before .before .before .before .before .before .pre))
 
--- src/lib.rt:188:1
 returns-2 : tie.Need-returns-2
 returns-2 c = c .ask-domain .ensures ∙ domain-asked _ _ _ (c .before .before .before .before .before .host .ensures) (c .before .before .before .before .find-domain .ensures) _ (c .before .before .i .given .1)
 

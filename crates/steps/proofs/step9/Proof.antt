@@ -4,45 +4,31 @@ use Rattle.steps.proofs.StepLaws.{step9-none, step9-fits, step9-root, s
 use borrow.Author.Needs.{needs}
 use Rattle.steps.proofs.step9.Statement.{statement}
 use Rattle.steps.proofs.step9.Tie as tie
-use Rattle.steps.proofs.step9.Reads as reads
-use Rattle.steps.proofs.step9.Lts as lts
-use Rattle.lookup.proofs.find_prefix.Reads as find-prefix-reads
-use Rattle.lookup.proofs.is_root.Reads as is-root-reads
-use Rattle.unc.proofs.first_end.Reads as first-end-reads
 
--- src/lib.rt:104:9
 first-end-requires : tie.Need-first-end-requires
 first-end-requires c κs = search needs
 
--- src/lib.rt:105:50
 slice-aggregate-find-prefix : tie.Need-slice-aggregate-find-prefix
 slice-aggregate-find-prefix c = sym (length-first 2 _ (c .before .first-end .ensures))
 
--- src/lib.rt:105:24
 find-prefix-requires : tie.Need-find-prefix-requires
 find-prefix-requires c κs = search needs
 
--- src/lib.rt:105:19
 enum-known-i : tie.Need-enum-known-i
 enum-known-i c = search needs
 
--- src/lib.rt:106:9
 enum-told : tie.Need-enum-told
 enum-told c = search needs
 
--- src/lib.rt:106:9
 returns : tie.Need-returns
 returns c = step9-none _ _ (first-part _ _ (c .before .before .before .before .first-end .ensures) (c .before .before .find-prefix .ensures)) (c .enum-told .given .1)
 
--- src/lib.rt:108:8
 is-root-requires : tie.Need-is-root-requires
 is-root-requires c κs = step9-fits _ _ (first-part _ _ (c .before .before .before .before .before .first-end .ensures) (c .before .before .before .find-prefix .ensures)) _ (c .before .i .given .1)
 
--- src/lib.rt:109:9
 returns-2 : tie.Need-returns-2
 returns-2 c = step9-root _ _ (first-part _ _ (c .before .before .before .before .before .before .before .first-end .ensures) (c .before .before .before .before .before .find-prefix .ensures)) _ (c .before .before .before .i .given .1) (c .before .is-root .ensures) (c .if1 .taken)
 
--- src/lib.rt:101:1
 returns-3 : tie.Need-returns-3
 returns-3 c = step9-link _ _ (first-part _ _ (c .before .before .before .before .before .before .before .first-end .ensures) (c .before .before .before .before .before .find-prefix .ensures)) _ (c .before .before .before .i .given .1) (c .before .is-root .ensures) (c .if1 .left)
 

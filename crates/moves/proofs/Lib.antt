@@ -1,0 +1,3 @@
+-- Laws.
+pub mod MatchedLaws
+pub mod MoveLaws

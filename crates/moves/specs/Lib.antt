@@ -1,0 +1,2 @@
+-- The cycle of steps.
+pub mod Moves

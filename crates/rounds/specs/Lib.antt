@@ -1,0 +1,2 @@
+-- Rounds over parties.
+pub mod Rounds

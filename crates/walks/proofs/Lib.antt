@@ -1,1 +1,4 @@
--- Laws.
+-- Laws of this crate.
+pub mod RoomLaws
+pub mod FormLaws
+pub mod TestLaws

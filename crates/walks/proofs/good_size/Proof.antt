@@ -1,0 +1,18 @@
+-- The size asked.
+use Rattle.walks.specs.Walks.{goodSize}
+use Rattle.laws.proofs.Choices.{and-yes-left, and-no-left}
+use borrow.Author.Tests.{le-leb, lt-leb}
+use mathlib.Core.Path.{sym}
+use Rattle.walks.proofs.good_size.Statement.{statement}
+use Rattle.walks.proofs.good_size.Tie as tie
+
+returns : tie.Need-returns
+unfolding goodSize
+returns c = sym (and-no-left _ (lt-leb _ _ (c .if1 .taken)))
+
+returns-2 : tie.Need-returns-2
+unfolding goodSize
+returns-2 c = sym (and-yes-left _ (le-leb _ _ (c .if1 .left)))
+
+pub good-size-spec : {M : Type 1} → statement M
+good-size-spec = tie.close (tie.spec returns returns-2)

@@ -1,0 +1,17 @@
+-- The path tried, or none.
+use Rattle.walks.proofs.TestLaws.{tried-some, tried-none}
+use borrow.Author.Needs.{needs}
+use Rattle.walks.proofs.good_tried.Statement.{statement}
+use Rattle.walks.proofs.good_tried.Tie as tie
+
+normalised-count-requires : tie.Need-normalised-count-requires
+normalised-count-requires c κs = search needs
+
+returns : tie.Need-returns
+returns c = tried-some _ (c .normalised-count .ensures) (c .before .if1 .taken)
+
+returns-2 : tie.Need-returns-2
+returns-2 c = tried-none (c .before .before .args .tried .now) (c .if1 .left)
+
+pub good-tried-spec : {M : Type 1} → statement M
+good-tried-spec = tie.close (tie.spec normalised-count-requires returns returns-2)

@@ -1,0 +1,43 @@
+-- The three rooms.
+use Rattle.walks.proofs.TestLaws.{stops, passes}
+use Rattle.walks.specs.Tests.{roomsForm}
+use borrow.Author.Tests.{not-true, not-false}
+use borrow.Author.Needs.{needs}
+use Rattle.walks.proofs.rooms_form.Statement.{statement}
+use Rattle.walks.proofs.rooms_form.Tie as tie
+
+room-form-requires : tie.Need-room-form-requires
+room-form-requires c κs = search needs
+
+returns : tie.Need-returns
+unfolding roomsForm
+returns c = stops _ (c .before .room-form .ensures) (not-true _ (c .if1 .taken))
+
+room-form-requires-2 : tie.Need-room-form-requires-2
+room-form-requires-2 c κs = search needs
+
+returns-2 : tie.Need-returns-2
+unfolding roomsForm
+returns-2 c =
+    passes (c .before .before .before .room-form .ensures) (not-false _ (c .before .before .if1 .left))
+    (stops _ (c .before .room-form2 .ensures) (not-true _ (c .if2 .taken)))
+
+room-form-requires-3 : tie.Need-room-form-requires-3
+room-form-requires-3 c κs = search needs
+
+returns-3 : tie.Need-returns-3
+unfolding roomsForm
+returns-3 c =
+    passes (c .before .before .before .before .room-form .ensures) (not-false _ (c .before .before .before .if1 .left))
+    (passes (c .before .before .room-form2 .ensures) (not-false _ (c .before .if2 .left)) (c .room-form3 .ensures))
+
+pub rooms-form-spec : {M : Type 1} → statement M
+rooms-form-spec =
+    tie.close
+    (tie.spec
+    room-form-requires
+    returns
+    room-form-requires-2
+    returns-2
+    room-form-requires-3
+    returns-3)

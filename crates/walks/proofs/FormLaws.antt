@@ -1,19 +1,37 @@
 -- What a walk in form is, for the callers of its test.
-use mathlib.Core.Path.{_≡_, sym}
-use mathlib.Core.Bool.{true, _&&_}
-use mathlib.Core.List.{List}
-use Prim.Native.Nat.{ℕ, _-_, _≤_, min}
+use mathlib.Core.Path.{_≡_, refl, sym, ap, _∙_}
+use mathlib.Core.Bool.{Bool, true, false, _&&_, _||_}
+use mathlib.Core.List.{List, [], _++_, append-assoc}
+use mathlib.Core.Logic.{_⊎_, inl, inr}
+use Prim.Native.Nat.{ℕ, _+_, _-_, _≤_, _<_, min}
 use native.Mathlib.Omega.{arith}
-use lib.ListN.{length, take, drop, length-take, length-drop}
-use lib.Seq.{length-take-le}
+use lib.ListN.{length, take, drop, length-append, length-take, length-drop}
+use lib.Seq.{take-all, take-at, take-append-le, drop-at, length-take-le}
 use lib.Dec.{leb, eqb}
-use borrow.Author.Tests.{leb-true, eqb-true}
+use borrow.Author.Tests.{leb-true, le-leb, eqb-true, eq-eqb}
+use Rattle.laws.specs.Lists.{roomed}
 use Rattle.laws.specs.Listed.{sameList}
-use Rattle.laws.proofs.Choices.{and-left, and-right}
-use Rattle.laws.proofs.Listed.{sameList-true}
+use Rattle.laws.proofs.Choices.{and-left, and-right, and-both}
+use Rattle.laws.proofs.Orders.{told, lt-or-le}
+use Rattle.laws.proofs.Tests.{not-both}
+use Rattle.laws.proofs.Pasting.{length-roomed, take-roomed}
+use Rattle.laws.proofs.Listed.{sameList-true, same-sameList}
 use Rattle.unc.specs.Names.{goodName}
+use Rattle.unc.specs.Paths.{firstOf, matches, normalisedCount}
+use Rattle.unc.proofs.FormLaws.{normal-long}
+use Rattle.caches.specs.Order.{goodPrefix}
+use Rattle.texts.specs.Texts.{textsOf}
+use Rattle.texts.proofs.TextLaws.{length-texts, path-in}
+use Rattle.steps.specs.Steps.{Resting}
+use Rattle.steps.specs.Rested.{nextOf, triedOf}
+use Rattle.steps.specs.declared.Kind.{Kind}
+use Rattle.steps.specs.declared.Kind.the-variants.{Dc, Root, Link, Sysvol, Io}
+use Rattle.steps.specs.declared.Asking.{Asking}
+use Rattle.steps.specs.declared.Next.{Next}
+use Rattle.steps.specs.declared.Next.the-variants.{Asks, Ends}
 use Rattle.walks.specs.declared.Walk.{Walk}
-use Rattle.walks.specs.Walks.{lent, pathIn, triedIn, bootIn, goodLimit, goodSize, goodSettings, nextInForm, inForm}
+use Rattle.walks.specs.Walks.{lent, pathIn, triedIn, bootIn, goodLimit, goodSize, goodSettings, namesDomain, namesPrefix, noParty, oneParty, askedInForm}
+use Rattle.walks.specs.Walks.{hasTried, endTried, goodTried, nextInForm, inForm, walkOf, textsAfter}
 use Rattle.walks.proofs.RoomLaws.{lent-path, lent-tried}
 
 -- the settings
@@ -105,3 +123,215 @@ module _ (w : Walk) (texts : List ℕ) where
       (settings-told (w .limit) (w .size) (bootIn w texts) (and-left _ _ r))
       (and-left _ _ m)
       (and-right (leb (w .moves) (w .limit)) _ m)
+
+-- the texts of such a walk, as its first two rooms and its last
+module _ {w : Walk} {texts : List ℕ} (f : Formed w texts) where
+  two-rooms : length (textsOf (pathIn w texts) (triedIn w texts)) ≡ 512
+  two-rooms =
+      let p : length (pathIn w texts) ≤ 256 = rw (f .path-length) (f .path-most) in
+      let t : length (triedIn w texts) ≤ 256 = rw (f .tried-length) (f .tried-most) in
+      length-texts (pathIn w texts) (triedIn w texts) p t
+
+  as-rooms : texts ≡ textsOf (pathIn w texts) (triedIn w texts) ++ roomed 256 (bootIn w texts)
+  unfolding lent
+  as-rooms = f .rooms
+
+  pub first-rooms : take 512 texts ≡ textsOf (pathIn w texts) (triedIn w texts)
+  first-rooms = ap (take 512) as-rooms ∙ take-at (textsOf (pathIn w texts) (triedIn w texts)) (roomed 256 (bootIn w texts)) 512 two-rooms
+
+  pub last-room : drop 512 texts ≡ roomed 256 (bootIn w texts)
+  last-room = ap (drop 512) as-rooms ∙ drop-at (textsOf (pathIn w texts) (triedIn w texts)) (roomed 256 (bootIn w texts)) 512 two-rooms
+
+-- a walk that waits
+pub record Waiting (path tried : List ℕ) (q : Asking) : Type 0 where
+  pub good : goodPrefix path ≡ true
+  pub tried-form : goodTried (hasTried (q .kind)) tried ≡ true
+  pub form : askedInForm path q (q .kind) ≡ true
+
+pub waiting-told : (path tried : List ℕ) (q : Asking) → nextInForm path tried (Asks q) ≡ true → Waiting path tried q
+unfolding nextInForm goodPrefix
+waiting-told path tried q h =
+    let r = and-right (leb 2 (normalisedCount path)) _ h in
+    record {
+      good = and-left _ _ h;
+      tried-form = and-left _ _ r;
+      form = and-right (goodTried (hasTried (q .kind)) tried) _ r;
+    }
+
+-- the entry of a link request and of an I/O try
+pub record Prefixed (path : List ℕ) (q : Asking) : Type 0 where
+  pub good : goodPrefix (take (q .entry) path) ≡ true
+  pub matching : matches (take (q .entry) path) path ≡ true
+
+-- of a root request: none and no party, or the domain
+abbrev pub Rooted : List ℕ → Asking → Type 0
+Rooted path q = ((q .entry ≡ 0) × ((q .party ≡ 0) × (q .began ≡ 0))) ⊎ (q .entry ≡ length (firstOf 1 path))
+
+module _ (path : List ℕ) (q : Asking) where
+  prefix-told : namesPrefix path q ≡ true → Prefixed path q
+  unfolding namesPrefix goodPrefix
+  prefix-told h = record { good = and-left _ _ h; matching = and-right (leb 2 (normalisedCount (take (q .entry) path))) _ h }
+
+  domain-told : namesDomain path q ≡ true → q .entry ≡ length (firstOf 1 path)
+  unfolding namesDomain
+  domain-told h = eqb-true (q .entry) (length (firstOf 1 path)) h
+
+  party-told : noParty q ≡ true → (q .party ≡ 0) × (q .began ≡ 0)
+  unfolding noParty
+  party-told h = (eqb-true (q .party) 0 (and-left _ _ h), eqb-true (q .began) 0 (and-right (eqb (q .party) 0) _ h))
+
+  size-of : (k : Kind) → hasTried k ≡ false → askedInForm path q k ≡ true → goodSize (q .size) ≡ true
+  unfolding askedInForm hasTried
+  size-of Dc n h = and-left _ _ (and-right (noParty q) _ (and-right (namesDomain path q) _ h))
+  size-of Root n h = and-left _ _ (and-right ((eqb (q .entry) 0 && noParty q) || namesDomain path q) _ h)
+  size-of Link n h = and-right (namesPrefix path q) _ h
+  size-of Sysvol n h = and-left _ _ (and-right (oneParty q) _ (and-right (namesDomain path q) _ h))
+  size-of Io n h = absurd (not-both refl n)
+
+none-tried : (k : Kind) (t : List ℕ) → hasTried k ≡ false → goodTried (hasTried k) t ≡ true → t ≡ []
+unfolding goodTried
+none-tried k t n h =
+    let z : length t ≡ 0 = eqb-true (length t) 0 (ap (λ b. goodTried b t) (sym n) ∙ h) in
+    sym (take-all 0 t (omega arith))
+
+pub count-short : (s : List ℕ) → 1 ≤ normalisedCount s → length s ≤ 256
+count-short s h = go (lt-or-le 256 (length s))
+  where
+    go : (256 < length s) ⊎ (length s ≤ 256) → length s ≤ 256
+    go (inl l) =
+        let z : 0 ≡ normalisedCount s = normal-long s l in
+        absurd (omega arith)
+    go (inr l) = l
+
+module _ {path tried : List ℕ} {q : Asking} (w : Waiting path tried q) where
+  asked-as : {k : Kind} → q .kind ≡ k → askedInForm path q k ≡ true
+  asked-as e = ap (askedInForm path q) (sym e) ∙ w .form
+
+  pub link-named : q .kind ≡ Link → Prefixed path q
+  unfolding askedInForm
+  link-named e = prefix-told path q (and-left _ _ (asked-as e))
+
+  pub io-named : q .kind ≡ Io → Prefixed path q
+  unfolding askedInForm
+  io-named e = prefix-told path q (and-left _ _ (asked-as e))
+
+  pub dc-named : q .kind ≡ Dc → q .entry ≡ length (firstOf 1 path)
+  unfolding askedInForm
+  dc-named e = domain-told path q (and-left _ _ (asked-as e))
+
+  pub sysvol-named : q .kind ≡ Sysvol → q .entry ≡ length (firstOf 1 path)
+  unfolding askedInForm
+  sysvol-named e = domain-told path q (and-left _ _ (asked-as e))
+
+  pub root-named : q .kind ≡ Root → Rooted path q
+  unfolding askedInForm
+  root-named e = go (told (eqb (q .entry) 0 && noParty q)) (and-left _ _ (asked-as e))
+    where
+      go : ((eqb (q .entry) 0 && noParty q) ≡ true) ⊎ ((eqb (q .entry) 0 && noParty q) ≡ false)
+          → ((eqb (q .entry) 0 && noParty q) || namesDomain path q) ≡ true → Rooted path q
+      go (inl y) h = inl (eqb-true (q .entry) 0 (and-left _ _ y), party-told path q (and-right (eqb (q .entry) 0) _ y))
+      go (inr n) h = inr (domain-told path q (rw n at h))
+
+  pub dc-party : q .kind ≡ Dc → (q .party ≡ 0) × (q .began ≡ 0)
+  unfolding askedInForm
+  dc-party e = party-told path q (and-left _ _ (and-right (namesDomain path q) _ (asked-as e)))
+
+  pub sysvol-party : q .kind ≡ Sysvol → q .party ≡ q .began
+  unfolding askedInForm oneParty
+  sysvol-party e = eqb-true (q .party) (q .began) (and-left _ _ (and-right (namesDomain path q) _ (asked-as e)))
+
+  -- a request: its size, and no path tried
+  pub request-size : hasTried (q .kind) ≡ false → (1024 ≤ q .size) × (q .size ≤ 57344)
+  request-size n = size-told (q .size) (size-of path q (q .kind) n (w .form))
+
+  pub request-tried : hasTried (q .kind) ≡ false → tried ≡ []
+  request-tried n = none-tried (q .kind) tried n (w .tried-form)
+
+  -- an I/O try: no size, and the path tried
+  pub io-size : q .kind ≡ Io → q .size ≡ 0
+  unfolding askedInForm
+  io-size e = eqb-true (q .size) 0 (and-left _ _ (and-right (namesPrefix path q) _ (asked-as e)))
+
+  pub io-count : q .kind ≡ Io → 1 ≤ normalisedCount tried
+  unfolding hasTried goodTried
+  io-count e = leb-true 1 (normalisedCount tried) (ap (λ k. goodTried (hasTried k) tried) (sym e) ∙ w .tried-form)
+
+  pub io-tried : q .kind ≡ Io → length tried ≤ 256
+  io-tried e = count-short tried (io-count e)
+
+-- kinds but I/O have no path tried
+pub no-tried : (k : Kind) → (k ≡ Io → ⊥) → hasTried k ≡ false
+unfolding hasTried
+no-tried Dc n = refl
+no-tried Root n = refl
+no-tried Link n = refl
+no-tried Sysvol n = refl
+no-tried Io n = absurd (n refl)
+
+-- texts of a next move in form fit their rooms
+tried-short : (has : Bool) (t : List ℕ) → goodTried has t ≡ true → length t ≤ 256
+unfolding goodTried
+tried-short true t h = count-short t (leb-true 1 (normalisedCount t) h)
+tried-short false t h =
+    let z : length t ≡ 0 = eqb-true (length t) 0 h in
+    omega arith
+
+pub texts-short : (path tried : List ℕ) (n : Next) → nextInForm path tried n ≡ true → (length path ≤ 256) × (length tried ≤ 256)
+unfolding nextInForm
+texts-short path tried (Asks q) h =
+    let c : 2 ≤ normalisedCount path = leb-true 2 (normalisedCount path) (and-left _ _ h) in (
+      count-short path (omega arith),
+      tried-short (hasTried (q .kind)) tried (and-left _ _ (and-right (leb 2 (normalisedCount path)) _ h)),
+    )
+texts-short path tried (Ends e status) h = (
+  count-short path (leb-true 1 (normalisedCount path) (and-left _ _ h)),
+  tried-short (endTried e) tried (and-left _ _ (and-right (leb 1 (normalisedCount path)) _ h)),
+)
+
+-- texts that fit are read back from what is lent
+module _ (n : ℕ) (a c : List ℕ) (t : List ℕ) (la : length a ≡ n) where
+  second-in : take (length t) (drop n ((a ++ roomed n t) ++ c)) ≡ t
+  unfolding roomed
+  second-in =
+      ap (λ (x : List ℕ). take (length t) (drop n x)) (append-assoc a (roomed n t) c)
+      ∙ (ap (take (length t)) (drop-at a (roomed n t ++ c) n la)
+      ∙ (take-append-le (length t) (roomed n t) c (simp length-append (omega arith)) ∙ take-roomed n t))
+
+module _ (path tried boot : List ℕ) (hp : length path ≤ 256) (ht : length tried ≤ 256) where
+  pub lent-path-in : take (length path) (lent path tried boot) ≡ path
+  unfolding lent
+  lent-path-in =
+      let l : length (textsOf path tried) ≡ 512 = length-texts path tried hp ht in
+      take-append-le (length path) (textsOf path tried) (roomed 256 boot) (omega arith) ∙ path-in path tried
+
+  pub lent-tried-in : take (length tried) (drop 256 (lent path tried boot)) ≡ tried
+  unfolding lent textsOf
+  lent-tried-in = second-in 256 (roomed 256 path) (roomed 256 boot) tried (length-roomed 256 path hp)
+
+  pub lent-boot-in : take (length boot) (drop 512 (lent path tried boot)) ≡ boot
+  unfolding lent
+  lent-boot-in =
+      ap (take (length boot)) (drop-at (textsOf path tried) (roomed 256 boot) 512 (length-texts path tried hp ht)) ∙ take-roomed 256 boot
+
+  pub length-lent : length boot ≤ 256 → length (lent path tried boot) ≡ 768
+  unfolding lent
+  length-lent hb =
+      let l : length (textsOf path tried) ≡ 512 = length-texts path tried hp ht in
+      let m : length (roomed 256 boot) ≡ 256 = length-roomed 256 boot hb in
+      length-append (textsOf path tried) (roomed 256 boot) ∙ (λ i. l i + m i)
+
+-- the walk that a rest leaves is in form where its settings and its next move are
+module _ (limit : ℕ) (boot : List ℕ) (x : Resting) where
+  pub form-of-rest : goodSettings limit (x .core .size) boot ≡ true → nextInForm (x .core .path) (triedOf (x .rest)) (nextOf (x .rest)) ≡ true
+      → inForm (walkOf limit boot x) (textsAfter boot x) ≡ true
+  unfolding inForm walkOf textsAfter pathIn triedIn bootIn
+  form-of-rest s n =
+      let z : (length (x .core .path) ≤ 256) × (length (triedOf (x .rest)) ≤ 256) = texts-short (x .core .path) (triedOf (x .rest)) (nextOf (x .rest)) n in
+      let u : length boot ≤ 255 = name-short boot (settings-told limit (x .core .size) boot s .boot-good) in
+      let p = lent-path-in (x .core .path) (triedOf (x .rest)) boot (z .0) (z .1) in
+      let t = lent-tried-in (x .core .path) (triedOf (x .rest)) boot (z .0) (z .1) in
+      let b = lent-boot-in (x .core .path) (triedOf (x .rest)) boot (z .0) (z .1) in
+      and-both (eq-eqb _ 768 (length-lent (x .core .path) (triedOf (x .rest)) boot (z .0) (z .1) (omega arith)))
+      (and-both (same-sameList _ _ (λ i. lent (p i) (t i) (b i)))
+      (and-both (ap (goodSettings limit (x .core .size)) b ∙ s)
+      (and-both (le-leb (limit - x .left) limit (omega arith)) ((λ i. nextInForm (p i) (t i) (nextOf (x .rest))) ∙ n))))

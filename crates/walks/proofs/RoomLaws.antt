@@ -113,13 +113,19 @@ module _ (n : ℕ) (d : List ℕ) (long : length d ≡ n + n + n) where
         boot-room = length-roomed n (take b (drop (n + n) d)) (simp length-take (omega arith))
 
         pub path-zeros : zeros (part (0 + p) (n - p) d) ≡ true
-        path-zeros = room-told n 0 p d (omega arith) path-fits (first (roomed n (take p d)) (roomed n (take t (drop n d))) (roomed n (take b (drop (n + n) d))) path-room tried-room boot-room e)
+        path-zeros =
+            room-told n 0 p d (omega arith) path-fits
+            (first (roomed n (take p d)) (roomed n (take t (drop n d))) (roomed n (take b (drop (n + n) d))) path-room tried-room boot-room e)
 
         pub tried-zeros : zeros (part (n + t) (n - t) d) ≡ true
-        tried-zeros = room-told n n t d (omega arith) tried-fits (second (roomed n (take p d)) (roomed n (take t (drop n d))) (roomed n (take b (drop (n + n) d))) path-room tried-room boot-room e)
+        tried-zeros =
+            room-told n n t d (omega arith) tried-fits
+            (second (roomed n (take p d)) (roomed n (take t (drop n d))) (roomed n (take b (drop (n + n) d))) path-room tried-room boot-room e)
 
         pub boot-zeros : zeros (part (n + n + b) (n - b) d) ≡ true
-        boot-zeros = room-told n (n + n) b d (omega arith) hb (third (roomed n (take p d)) (roomed n (take t (drop n d))) (roomed n (take b (drop (n + n) d))) path-room tried-room boot-room e)
+        boot-zeros =
+            room-told n (n + n) b d (omega arith) hb
+            (third (roomed n (take p d)) (roomed n (take t (drop n d))) (roomed n (take b (drop (n + n) d))) path-room tried-room boot-room e)
 
 -- the texts are what is lent exactly where the rooms pass their tests
 module _ (texts : List ℕ) (long : length texts ≡ 768) (p t b : ℕ) where

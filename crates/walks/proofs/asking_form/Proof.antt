@@ -33,7 +33,8 @@ returns-3 : tie.Need-returns-3
 unfolding askingForm nextInForm
 returns-3 c =
     enough 2 (c .before .before .before .before .before .normalised-count .ensures) (c .before .before .before .before .if1 .left)
-    (passes (tried-as _ (c .before .before .good-tried .ensures) (c .before .before .before .has-tried .ensures)) (not-false _ (c .before .if2 .left)) (c .asked-in-form .ensures))
+    (passes (tried-as _ (c .before .before .good-tried .ensures) (c .before .before .before .has-tried .ensures))
+    (not-false _ (c .before .if2 .left)) (c .asked-in-form .ensures))
 
 pub asking-form-spec : {M : Type 1} → statement M
 asking-form-spec =

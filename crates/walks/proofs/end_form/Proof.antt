@@ -33,7 +33,8 @@ returns-3 : tie.Need-returns-3
 unfolding endForm nextInForm
 returns-3 c =
     enough 1 (c .before .before .before .before .before .normalised-count .ensures) (c .before .before .before .before .if1 .left)
-    (passes (tried-as _ (c .before .before .good-tried .ensures) (c .before .before .before .end-tried .ensures)) (not-false _ (c .before .if2 .left)) (c .end-status .ensures))
+    (passes (tried-as _ (c .before .before .good-tried .ensures) (c .before .before .before .end-tried .ensures))
+    (not-false _ (c .before .if2 .left)) (c .end-status .ensures))
 
 pub end-form-spec : {M : Type 1} → statement M
 end-form-spec =

@@ -4,6 +4,7 @@ use borrow.Author.Tests.{not-true, not-false}
 use lib.Seq.{length-take-le}
 use native.Mathlib.Omega.{arith}
 use mathlib.Core.Path.{sym}
+use Prim.Native.Nat.{_≤_}
 use borrow.Author.Needs.{needs}
 use Rattle.walks.proofs.in_form.Statement.{statement}
 use Rattle.walks.proofs.in_form.Tie as tie
@@ -57,8 +58,9 @@ returns-4 c =
 
 slice-aggregate-next-in-form : tie.Need-slice-aggregate-next-in-form
 slice-aggregate-next-in-form c =
-    sym
-    (length-take-le _ _ (omega (arith, path-within _ _ _ _ (c .before .before .before .before .before .before .before .before .rooms-form .ensures) (not-false _ (c .before .before .before .before .before .before .before .if2 .left)))))
+    let h : c .before .before .before .before .before .before .before .before .before .before .before .before .before .before .args .walk .path ≤ 256 =
+    path-within _ _ _ _ (c .before .before .before .before .before .before .before .before .rooms-form .ensures) (not-false _ (c .before .before .before .before .before .before .before .if2 .left)) in
+    sym (length-take-le _ _ (omega arith))
 
 add-next-in-form : tie.Need-add-next-in-form
 add-next-in-form c = search needs
@@ -71,8 +73,9 @@ part-next-in-form-start c = search needs
 
 part-next-in-form-end : tie.Need-part-next-in-form-end
 part-next-in-form-end c =
-    omega
-    (arith, tried-within _ _ _ _ (c .before .before .before .before .before .before .before .before .rooms-form .ensures) (not-false _ (c .before .before .before .before .before .before .before .if2 .left)))
+    let h : c .before .before .before .before .before .before .before .before .before .before .before .before .before .before .args .walk .tried ≤ 256 =
+    tried-within _ _ _ _ (c .before .before .before .before .before .before .before .before .rooms-form .ensures) (not-false _ (c .before .before .before .before .before .before .before .if2 .left)) in
+    omega arith
 
 next-in-form-requires : tie.Need-next-in-form-requires
 next-in-form-requires c κs = search needs

@@ -22,7 +22,7 @@ all-zero-requires : tie.Need-all-zero-requires
 all-zero-requires c κs = search needs
 
 returns-2 : tie.Need-returns-2
-returns-2 c = room-tested _ _ _ (c .all-zero .ensures) (c .before .if1 .left)
+returns-2 c = room-tested (c .before .before .before .args .at) (c .before .before .before .args .units) _ (c .all-zero .ensures) (c .before .if1 .left)
 
 pub room-form-spec : {M : Type 1} → statement M
 room-form-spec =

@@ -160,6 +160,7 @@ waiting-told path tried q h =
 
 -- the entry of a link request and of an I/O try
 pub record Prefixed (path : List ℕ) (q : Asking) : Type 0 where
+  pub within : q .entry ≤ length path
   pub good : goodPrefix (take (q .entry) path) ≡ true
   pub matching : matches (take (q .entry) path) path ≡ true
 
@@ -170,7 +171,13 @@ Rooted path q = ((q .entry ≡ 0) × ((q .party ≡ 0) × (q .began ≡ 0))) ⊎
 module _ (path : List ℕ) (q : Asking) where
   prefix-told : namesPrefix path q ≡ true → Prefixed path q
   unfolding namesPrefix goodPrefix
-  prefix-told h = record { good = and-left _ _ h; matching = and-right (leb 2 (normalisedCount (take (q .entry) path))) _ h }
+  prefix-told h =
+      let r = and-right (leb (q .entry) (length path)) _ h in
+      record {
+        within = leb-true (q .entry) (length path) (and-left _ _ h);
+        good = and-left _ _ r;
+        matching = and-right (leb 2 (normalisedCount (take (q .entry) path))) _ r;
+      }
 
   domain-told : namesDomain path q ≡ true → q .entry ≡ length (firstOf 1 path)
   unfolding namesDomain

@@ -2,17 +2,14 @@
 use mathlib.Core.Path.{_≡_, refl, sym, ap, _∙_}
 use mathlib.Core.Bool.{Bool, true, false, _&&_, _||_}
 use mathlib.Core.List.{List}
-use mathlib.Core.Logic.{_⊎_, inl, inr}
-use Prim.Native.Nat.{ℕ, _+_, _-_, _≤_, _<_, min}
+use Prim.Native.Nat.{ℕ, _+_, _-_, _≤_, _<_}
 use native.Mathlib.Omega.{arith}
 use lib.ListN.{length, take, drop}
-use lib.Seq.{take-all, length-take-le}
 use lib.Dec.{leb, eqb}
 use borrow.Author.Tests.{leb-true, eq-eqb, ne-eqb, le-leb, lt-leb}
 use Rattle.laws.specs.Lists.{part}
 use Rattle.laws.specs.Listed.{sameList}
 use Rattle.laws.proofs.Choices.{and-left, and-right, and-both, and-yes-left, and-no-left}
-use Rattle.laws.proofs.Orders.{lt-or-le}
 use Rattle.laws.proofs.Tests.{both-ways}
 use Rattle.laws.proofs.Listed.{same-sameList}
 use Rattle.unc.specs.Paths.{matches, normalisedCount}
@@ -39,27 +36,20 @@ few m {k} {n} b e h = sym (and-no-left b (lt-leb m n (rw (← e) h)))
 pub enough : (m : ℕ) {k n : ℕ} {b s : Bool} → k ≡ n → m ≤ k → s ≡ b → s ≡ (leb m n && b)
 enough m {k} {n} {b} e h g = g ∙ sym (and-yes-left b (le-leb m n (rw (← e) h)))
 
--- the prefix of so many units, or all, of the path
-module _ (path : List ℕ) (q : Asking) {n : ℕ} (e : n ≡ min (q .entry) (length path)) where
-  pub prefix-length : n ≡ length (take n path)
-  prefix-length = sym (length-take-le n path (omega arith))
-
-  prefix-of : take n path ≡ take (q .entry) path
-  prefix-of = go (lt-or-le (q .entry) (length path))
-    where
-      go : (q .entry < length path) ⊎ (length path ≤ q .entry) → take n path ≡ take (q .entry) path
-      go (inl h) =
-          let k : n ≡ q .entry = omega arith in
-          ap (λ (x : ℕ). take x path) k
-      go (inr h) = take-all n path (omega arith) ∙ sym (take-all (q .entry) path h)
-
-  pub prefix-few : {k : ℕ} → k ≡ normalisedCount (take n path) → k < 2 → false ≡ namesPrefix path q
+-- an entry beyond the path; one of few components; one that is told by its match
+module _ (path : List ℕ) (q : Asking) where
+  pub prefix-beyond : length path < q .entry → false ≡ namesPrefix path q
   unfolding namesPrefix
-  prefix-few f h = few 2 _ (f ∙ ap normalisedCount prefix-of) h
+  prefix-beyond h = sym (and-no-left _ (lt-leb (q .entry) (length path) h))
 
-  pub prefix-matched : {k : ℕ} {r : Bool} → k ≡ normalisedCount (take n path) → 2 ≤ k → r ≡ matches (take n path) path → r ≡ namesPrefix path q
-  unfolding namesPrefix
-  prefix-matched f h g = enough 2 (f ∙ ap normalisedCount prefix-of) h (g ∙ ap (λ (x : List ℕ). matches x path) prefix-of)
+  module _ (h : q .entry ≤ length path) {k : ℕ} (e : k ≡ normalisedCount (take (q .entry) path)) where
+    pub prefix-few : k < 2 → false ≡ namesPrefix path q
+    unfolding namesPrefix
+    prefix-few f = few 2 _ e f ∙ sym (and-yes-left _ (le-leb (q .entry) (length path) h))
+
+    pub prefix-matched : {r : Bool} → 2 ≤ k → r ≡ matches (take (q .entry) path) path → r ≡ namesPrefix path q
+    unfolding namesPrefix
+    prefix-matched f g = enough 2 e f g ∙ sym (and-yes-left _ (le-leb (q .entry) (length path) h))
 
 -- a root request, to a DC of the domain or to the host
 or-yes : (a : Bool) → (a || true) ≡ true

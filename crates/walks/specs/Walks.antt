@@ -46,12 +46,13 @@ goodSize size = leb 1024 size && leb size 57344
 unfoldable pub goodSettings : ℕ → ℕ → List ℕ → Bool
 goodSettings limit size boot = goodLimit limit && (goodSize size && goodName boot)
 
--- the domain of the path's first component; a prefix of 2 components or more that matches the path
+-- the domain of the path's first component; units of the path that are a prefix of 2 components or more and match it
 unfoldable pub namesDomain : List ℕ → Asking → Bool
 namesDomain path q = eqb (q .entry) (length (firstOf 1 path))
 
 unfoldable pub namesPrefix : List ℕ → Asking → Bool
-namesPrefix path q = leb 2 (normalisedCount (take (q .entry) path)) && matches (take (q .entry) path) path
+namesPrefix path q =
+    leb (q .entry) (length path) && (leb 2 (normalisedCount (take (q .entry) path)) && matches (take (q .entry) path) path)
 
 -- no party, and so no round; one party and no round
 unfoldable pub noParty : Asking → Bool

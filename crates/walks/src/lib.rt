@@ -1,6 +1,6 @@
 // The walk as it is held, and the test of its form.
 ghost use mathlib.Core.Path.{_≡_};
-ghost use Prim.Native.Nat.{_+_, _≤_, min};
+ghost use Prim.Native.Nat.{_+_, _≤_};
 ghost use lib.ListN.{length};
 ghost use Rattle.steps.specs.declared.Kind.the-variants.{Dc, Root, Link, Sysvol, Io};
 ghost use Rattle.walks.specs.Walks.{goodLimit, goodSize, goodSettings, namesDomain, namesPrefix, noParty, askedInForm};
@@ -68,16 +68,13 @@ fn names_domain(path: &[u16], q: Asking) -> bool
     q.entry as usize == unc::first_end(path, 1)
 }
 
-fn smaller(a: usize, b: usize) -> usize
-    ensures { λ r. ⌜ r ≡ min a b ⌝ }
-{
-    if a < b { a } else { b }
-}
-
 fn names_prefix(path: &[u16], q: Asking) -> bool
     ensures { λ r. ⌜ r ≡ namesPrefix (now (path .entry)) q ⌝ }
 {
-    let n = smaller(q.entry as usize, path.len());
+    let n = q.entry as usize;
+    if path.len() < n {
+        return false;
+    }
     if unc::normalised_count(&path[..n]) < 2 {
         return false;
     }

@@ -1,0 +1,2 @@
+-- The request of a question.
+pub mod Questions

@@ -1,0 +1,383 @@
+-- Laws of a call's beginning and end.
+use mathlib.Core.Path.{_≡_, refl, sym, ap, _∙_, subst}
+use mathlib.Core.Bool.{Bool, true, false, _&&_}
+use mathlib.Core.List.{List, [], _++_, append-nil}
+use mathlib.Core.Logic.{_⊎_, inl, inr}
+use Prim.Native.Nat.{ℕ, zero, suc, _+_, _-_, _≤_}
+use native.Mathlib.Omega.{arith}
+use lib.ListN.{length, take, drop, replicate, length-append, length-take, length-replicate, drop-of-length-le}
+use lib.Seq.{length-take-le, take-at, drop-at}
+use lib.Dec.{eqb, leb}
+use borrow.Author.Tests.{eq-eqb, ne-eqb, le-leb, leb-true}
+use Rattle.laws.specs.Choice.{choose}
+use Rattle.laws.specs.Lists.{part, pasted, roomed}
+use Rattle.laws.proofs.Choices.{choose-yes, choose-no, and-both, and-yes-left, and-no-left}
+use Rattle.laws.proofs.Pasting.{pasted-join, pasted-whole, length-roomed}
+use Rattle.unc.specs.Paths.{goodPath, normalised, isNormalised, componentCount, normalisedCount, formWithin, roomAfter, pathUnits}
+use Rattle.unc.specs.declared.Form.{Form}
+use Rattle.unc.specs.declared.Form.the-variants.{Bad, Long, Good}
+use Rattle.unc.specs.Paths.{body, pieces}
+use Rattle.unc.proofs.FormLaws.{count-normalised}
+use Rattle.unc.proofs.PieceLaws.{pieces-some}
+use Rattle.unc.proofs.WholeLaws.{normalised-is}
+use Rattle.texts.proofs.TextLaws.{path-in, taken-stands}
+use Rattle.laws.proofs.Orders.{told}
+use Rattle.texts.specs.Texts.{textsOf, Standing}
+use Rattle.caches.specs.Order.{goodPrefix}
+use Rattle.caches.specs.Memory.{referrals, domains, inOrder}
+use Rattle.steps.specs.Steps.{Caches, Core, Question, Called, stops, ends, asks, replaces, Turn, Rest, Resting, waits, ended, rests, asking, started, fromStep2, goes, hitAt, withHit, withPath, step2}
+use Rattle.steps.specs.Rested.{cachesOf, coreOf, triedOf, restedOf, endedAt}
+use Rattle.steps.specs.declared.End.{End}
+use Rattle.steps.specs.declared.End.the-variants.{NotDfs, TooLong}
+use Rattle.steps.specs.declared.Rested.{Rested}
+use Rattle.moves.specs.Moves.{Packed, joined, packed, stepsFrom, Ready}
+use Rattle.moves.proofs.MoveLaws.{standing-path, packed-end}
+use Rattle.questions.specs.Questions.{nameFits, withRequest, nextUnits, named}
+use Rattle.questions.proofs.NameLaws.{rest-fits, rest-out}
+use Rattle.walks.specs.declared.Walk.{Walk}
+use Rattle.resolve.specs.Calls.{Left, refused, turned, closes, startRest, startCall}
+use Rattle.walks.specs.Walks.{goodSettings, lent, walkOf, textsAfter}
+use Rattle.resolve.specs.Closing.{left, walkWith, closedStart, pathRooms, startAt, Begun}
+use Rattle.resolve.specs.declared.Verdict.the-variants.{Taken, BadPath, LongPath, BadSettings, NotInOrder, OutOfForm, ShortBuffer}
+
+-- a normalised path of two components or more is good
+good-counted : (s : List ℕ) → length s ≤ 256 → isNormalised s ≡ true → 2 ≤ componentCount s → goodPrefix s ≡ true
+unfolding goodPrefix normalisedCount
+good-counted s l n h = ap (leb 2) (choose-yes _ _ (and-both (le-leb _ _ l) n)) ∙ le-leb 2 _ h
+
+blank-length : (n : ℕ) → length (replicate {A = ℕ} n 0) ≡ n
+blank-length n = length-replicate {A = ℕ} n 0
+
+-- both caches
+module _ (a b : Bool) {r : Bool} (e : r ≡ a) where
+  pub order-no : r ≡ false → false ≡ (a && b)
+  order-no h = sym (and-no-left b (sym e ∙ h))
+
+  pub order-yes : r ≡ true → {s : Bool} → s ≡ b → s ≡ (a && b)
+  order-yes h f = f ∙ sym (and-yes-left b (sym e ∙ h))
+
+-- the path into its room
+module _ (n : ℕ) (rooms : List ℕ) {m : List ℕ} (long : length rooms ≡ n + n) (e : m ≡ pasted rooms n (replicate n 0)) where
+  split : m ≡ take n rooms ++ replicate n 0
+  unfolding pasted
+  split =
+      e
+      ∙ (ap (λ (l : List ℕ). take n rooms ++ (replicate n 0 ++ l)) (let z : length rooms ≤ n + length (replicate n 0) = omega (arith, blank-length n) in drop-of-length-le rooms z)
+      ∙ ap (λ (l : List ℕ). take n rooms ++ l) (append-nil (replicate n 0)))
+
+  half : length (take n rooms) ≡ n
+  half = length-take-le n rooms (omega arith)
+
+  pub cleared-take : take n m ≡ take n rooms
+  cleared-take = ap (take n) split ∙ take-at (take n rooms) (replicate n 0) n half
+
+  pub cleared-drop : drop n m ≡ replicate n 0
+  cleared-drop = ap (drop n) split ∙ drop-at (take n rooms) (replicate n 0) n half
+
+  pub cleared-half : n ≡ length (take n m)
+  cleared-half = sym (ap length cleared-take ∙ half)
+
+pub path-put : (path rooms : List ℕ) {m o : List ℕ} → length rooms ≡ 512 → m ≡ pasted rooms 256 (replicate 256 0) → o ≡ roomAfter path (take 256 m)
+    → o ++ drop 256 m ≡ pathRooms path rooms
+unfolding pathRooms
+path-put path rooms l e h = λ j. (h ∙ ap (roomAfter path) (cleared-take 256 rooms l e)) j ++ cleared-drop 256 rooms l e j
+
+pub form-put : (path rooms : List ℕ) {m : List ℕ} {f : Form} → length rooms ≡ 512 → m ≡ pasted rooms 256 (replicate 256 0) → f ≡ formWithin (length (take 256 m)) path
+    → f ≡ formWithin pathUnits path
+form-put path rooms l e h = h ∙ ap (λ (n : ℕ). formWithin n path) (sym (cleared-half 256 rooms l e))
+
+-- the first rest
+goes-stops : (n : ℕ) (c : Caches) (clock : ℕ) (w : Core) (e : End) (status : ℕ) (tried : List ℕ) → goes n c clock w (stops e status tried) ≡ rests w n (ended e status tried)
+unfolding goes
+goes-stops zero c clock w e status tried = refl
+goes-stops (suc n) c clock w e status tried = refl
+
+module _ (refs doms rooms : List ℕ) (n k limit size clock : ℕ) (b : Begun refs rooms n k) where
+  pub first-alone : {r : Rested} → k ≡ 1 → r ≡ endedAt NotDfs 0 n limit false
+      → joined r rooms ≡ packed (turned limit clock (started (cachesOf refs doms) (coreOf (take n rooms) size false) clock))
+  unfolding turned started
+  first-alone h e =
+      packed-end n rooms (b .standing) NotDfs 0 limit size false e
+      ∙ (ap packed (sym (goes-stops limit (cachesOf refs doms) clock (coreOf (take n rooms) size false) NotDfs 0 []))
+      ∙ ap (λ (t : Turn). packed (turned limit clock t)) (sym (choose-yes _ _ (eq-eqb _ 1 (sym (b .count) ∙ h)))))
+
+  module _ (h : k ≡ 1 → ⊥) where
+    pub first-ready : Ready refs rooms n
+    first-ready = record { order = b .order; standing = b .standing; good = first-good }
+      where
+        first-good : goodPrefix (take n rooms) ≡ true
+        first-good = good-counted (take n rooms) (omega (arith, standing-path n rooms (b .standing), b .standing .few)) (b .normal) (omega (arith, b .count, b .some))
+
+    pub first-moved : {x : Packed}
+        → x ≡ stepsFrom limit refs doms clock (withHit (hitAt (cachesOf refs doms) (coreOf (take n rooms) size false)) (coreOf (take n rooms) size false)) (step2 (cachesOf refs doms) (coreOf (take n rooms) size false) clock)
+        → x ≡ packed (turned limit clock (started (cachesOf refs doms) (coreOf (take n rooms) size false) clock))
+    unfolding turned started fromStep2 stepsFrom
+    first-moved e =
+        e
+        ∙ ap (λ (t : Turn). packed (turned limit clock t))
+        (sym (choose-no _ (fromStep2 (cachesOf refs doms) (coreOf (take n rooms) size false) clock) (ne-eqb _ 1 (λ z. h (b .count ∙ z)))))
+
+-- the texts of a start
+pub texts-put : (texts rooms boot : List ℕ) {m o : List ℕ} → length texts ≡ 768 → length rooms ≡ 512 → length boot ≤ 256 → m ≡ pasted texts 0 rooms
+    → o ≡ pasted m 512 (roomed 256 boot) → o ≡ rooms ++ roomed 256 boot
+texts-put texts rooms boot {m} {o} l k b e h =
+    let z : length (roomed 256 boot) ≡ 256 = length-roomed 256 boot b in
+    let y : 512 ≡ 0 + length rooms = omega arith in
+    let s : length (rooms ++ roomed 256 boot) ≡ length texts = length-append rooms (roomed 256 boot) ∙ omega arith in
+    h
+    ∙ ((λ j. pasted (e j) (y j) (roomed 256 boot))
+    ∙ (pasted-join texts 0 rooms (roomed 256 boot) (omega arith) ∙ pasted-whole texts (rooms ++ roomed 256 boot) s))
+
+module _ (limit size : ℕ) (boot : List ℕ) (r : Rested) (rooms : List ℕ) (walk : Walk) (texts out : List ℕ) {b : Bool}
+    (f : b ≡ nameFits (length out) (named (nextUnits (r .next) (take (r .path) rooms)) (take (r .path) rooms))) where
+  pub start-short : b ≡ false → refused ShortBuffer walk texts out ≡ closedStart limit size boot r rooms walk texts out
+  unfolding closedStart
+  start-short h = sym (choose-no _ _ (sym f ∙ h))
+
+  pub start-closed : b ≡ true → {w : Walk} {t o : List ℕ} → w ≡ walkWith limit size (length boot) r → t ≡ rooms ++ roomed 256 boot
+      → o ≡ withRequest (named (nextUnits (r .next) (take (r .path) rooms)) (take (r .path) rooms)) out
+      → record { verdict = Taken; walk = w; texts = t; out = o } ≡ closedStart limit size boot r rooms walk texts out
+  unfolding closedStart
+  start-closed h a e g = (λ j. record { verdict = Taken; walk = a j; texts = e j; out = g j }) ∙ sym (choose-yes _ _ (sym f ∙ h))
+
+-- a normalised path has a component
+normalised-some : (path : List ℕ) → 1 ≤ componentCount (normalised path)
+unfolding normalised
+normalised-some path = omega (arith, count-normalised (body path), ap length (pieces-some (body path)))
+
+blank-room : (n : ℕ) → replicate n 0 ≡ roomed n []
+unfolding roomed
+blank-room n = let z : n ≡ n - 0 = omega arith in ap (λ (m : ℕ). replicate m 0) z
+
+-- the form of a path, read back
+record GoodForm (path : List ℕ) (n k : ℕ) : Type 0 where
+  good : goodPath path ≡ true
+  short : length (normalised path) ≤ 256
+  units : n ≡ length (normalised path)
+  parts : k ≡ componentCount (normalised path)
+  some : 1 ≤ k
+
+module _ (path : List ℕ) where
+  formed : {f : Form} → formWithin pathUnits path ≡ f
+      → ((goodPath path ≡ false) × (f ≡ Bad))
+      ⊎ (((goodPath path ≡ true) × ((leb (length (normalised path)) pathUnits ≡ false) × (f ≡ Long)))
+      ⊎ ((goodPath path ≡ true) × ((length (normalised path) ≤ 256) × (f ≡ Good (length (normalised path)) (componentCount (normalised path))))))
+  unfolding formWithin
+  formed {f} h = go (told (goodPath path)) (told (leb (length (normalised path)) pathUnits))
+    where
+      go : (goodPath path ≡ true) ⊎ (goodPath path ≡ false)
+          → (leb (length (normalised path)) pathUnits ≡ true) ⊎ (leb (length (normalised path)) pathUnits ≡ false)
+          → ((goodPath path ≡ false) × (f ≡ Bad))
+          ⊎ (((goodPath path ≡ true) × ((leb (length (normalised path)) pathUnits ≡ false) × (f ≡ Long)))
+          ⊎ ((goodPath path ≡ true) × ((length (normalised path) ≤ 256) × (f ≡ Good (length (normalised path)) (componentCount (normalised path))))))
+      go (inr t) u = inl (t, sym h ∙ choose-no _ _ t)
+      go (inl t) (inr u) = inr (inl (t, (u, sym h ∙ (choose-yes _ _ t ∙ choose-no _ _ u))))
+      go (inl t) (inl u) = inr (inr (t, (leb-true _ _ u, sym h ∙ (choose-yes _ _ t ∙ choose-yes _ _ u))))
+
+  bad-form : formWithin pathUnits path ≡ Bad → goodPath path ≡ false
+  bad-form h = go (formed h)
+    where
+      go : ((goodPath path ≡ false) × (Bad ≡ Bad))
+          ⊎ (((goodPath path ≡ true) × ((leb (length (normalised path)) pathUnits ≡ false) × (Bad ≡ Long)))
+          ⊎ ((goodPath path ≡ true) × ((length (normalised path) ≤ 256) × (Bad ≡ Good (length (normalised path)) (componentCount (normalised path)))))) → goodPath path ≡ false
+      go (inl t) = t .0
+      go (inr (inl t)) = absurd (let z : _≡_ {A = ℕ} 0 1 = cc (t .1 .1) in omega arith)
+      go (inr (inr t)) = absurd (let z : _≡_ {A = ℕ} 0 1 = cc (t .1 .1) in omega arith)
+
+  long-form : formWithin pathUnits path ≡ Long → (goodPath path ≡ true) × (leb (length (normalised path)) pathUnits ≡ false)
+  long-form h = go (formed h)
+    where
+      go : ((goodPath path ≡ false) × (Long ≡ Bad))
+          ⊎ (((goodPath path ≡ true) × ((leb (length (normalised path)) pathUnits ≡ false) × (Long ≡ Long)))
+          ⊎ ((goodPath path ≡ true) × ((length (normalised path) ≤ 256) × (Long ≡ Good (length (normalised path)) (componentCount (normalised path))))))
+          → (goodPath path ≡ true) × (leb (length (normalised path)) pathUnits ≡ false)
+      go (inl t) = absurd (let z : _≡_ {A = ℕ} 0 1 = cc (t .1) in omega arith)
+      go (inr (inl t)) = (t .0, t .1 .0)
+      go (inr (inr t)) = absurd (let z : _≡_ {A = ℕ} 0 1 = cc (t .1 .1) in omega arith)
+
+  good-form : (n k : ℕ) → formWithin pathUnits path ≡ Good n k → GoodForm path n k
+  good-form n k h = go (formed h)
+    where
+      go : ((goodPath path ≡ false) × (Good n k ≡ Bad))
+          ⊎ (((goodPath path ≡ true) × ((leb (length (normalised path)) pathUnits ≡ false) × (Good n k ≡ Long)))
+          ⊎ ((goodPath path ≡ true) × ((length (normalised path) ≤ 256) × (Good n k ≡ Good (length (normalised path)) (componentCount (normalised path)))))) → GoodForm path n k
+      go (inl t) = absurd (let z : _≡_ {A = ℕ} 0 1 = cc (t .1) in omega arith)
+      go (inr (inl t)) = absurd (let z : _≡_ {A = ℕ} 0 1 = cc (t .1 .1) in omega arith)
+      go (inr (inr t)) =
+          let p : k ≡ componentCount (normalised path) = cc (t .1 .1) in
+          record { good = t .0; short = t .1 .0; units = cc (t .1 .1); parts = p; some = omega (arith, normalised-some path) }
+
+-- a start, by its tests
+module _ (refs doms texts : List ℕ) (walk : Walk) (path boot : List ℕ) (limit size clock : ℕ) (out : List ℕ) where
+  pub start-order : {b : Bool} → b ≡ (inOrder referrals refs && inOrder domains doms) → b ≡ false
+      → refused NotInOrder walk texts out ≡ startCall refs doms texts walk path boot limit size clock out
+  unfolding startCall
+  start-order e h = sym (choose-no _ _ (sym e ∙ h))
+
+  module _ {b : Bool} (e : b ≡ (inOrder referrals refs && inOrder domains doms)) (h : b ≡ true) {f : Form} (g : f ≡ formWithin pathUnits path) where
+    pub start-bad : f ≡ Bad → refused BadPath walk texts out ≡ startCall refs doms texts walk path boot limit size clock out
+    unfolding startCall
+    start-bad k = sym (choose-yes _ _ (sym e ∙ h) ∙ choose-no _ _ (bad-form path (sym g ∙ k)))
+
+    pub start-long : f ≡ Long → refused LongPath walk texts out ≡ startCall refs doms texts walk path boot limit size clock out
+    unfolding startCall
+    start-long k =
+        let z = long-form path (sym g ∙ k) in
+        sym (choose-yes _ _ (sym e ∙ h) ∙ (choose-yes _ _ (z .0) ∙ choose-no _ _ (z .1)))
+
+    module _ (n k : ℕ) (q : f ≡ Good n k) where
+      fine : GoodForm path n k
+      fine = good-form path n k (sym g ∙ q)
+
+      pub start-good : {p : List ℕ} {x : Left} → p ≡ normalised path → x ≡ startAt refs doms texts walk p boot limit size clock out
+          → x ≡ startCall refs doms texts walk path boot limit size clock out
+      unfolding startCall startAt startRest
+      start-good p d =
+          d
+          ∙ (ap (λ (l : List ℕ). startAt refs doms texts walk l boot limit size clock out) p
+          ∙ sym (choose-yes _ _ (sym e ∙ h) ∙ (choose-yes _ _ (fine .good) ∙ choose-yes _ _ (le-leb _ _ (fine .short)))))
+
+      -- the rooms that the path was put into
+      module _ (rooms : List ℕ) (l : length rooms ≡ 512) {o : List ℕ} (d : o ≡ pathRooms path rooms) where
+        pub put-rooms : o ≡ textsOf (normalised path) []
+        unfolding pathRooms roomAfter textsOf
+        put-rooms =
+            let z : length (take 256 rooms) ≡ 256 = length-take-le 256 rooms (omega arith) in
+            let y : length (normalised path) ≤ length (take 256 rooms) = omega (arith, fine .short) in
+            let w : roomAfter path (take 256 rooms) ≡ roomed 256 (normalised path) =
+            choose-yes _ (take 256 rooms) (fine .good)
+            ∙ (choose-yes _ (take 256 rooms) (le-leb _ _ y) ∙ ap (λ (m : ℕ). roomed m (normalised path)) z) in
+            d ∙ (λ j. w j ++ blank-room 256 j)
+
+        pub put-taken : take n o ≡ normalised path
+        put-taken = (λ j. take (fine .units j) (put-rooms j)) ∙ path-in (normalised path) []
+
+        pub put-begun : inOrder referrals refs ≡ true → Begun refs o n k
+        put-begun order = record {
+          order = order;
+          standing = subst (λ (m : List ℕ). Standing n m) (sym put-rooms) (subst (λ (m : ℕ). Standing m (textsOf (normalised path) [])) (sym (fine .units)) (taken-stands (normalised path) (fine .short)));
+          normal = ap isNormalised put-taken ∙ normalised-is path (fine .good);
+          count = fine .parts ∙ ap componentCount (sym put-taken);
+          some = fine .some;
+        }
+
+-- a start with a good path, by its tests
+module _ (refs doms texts : List ℕ) (walk : Walk) (path boot : List ℕ) (limit size clock : ℕ) (out : List ℕ) {s : Bool} (p : s ≡ goodSettings limit size boot) where
+  pub at-settings : s ≡ false → refused BadSettings walk texts out ≡ startAt refs doms texts walk path boot limit size clock out
+  unfolding startAt
+  at-settings u = sym (choose-no _ _ (sym p ∙ u))
+
+  pub at-texts : s ≡ true → (length texts ≡ 768 → ⊥) → refused OutOfForm walk texts out ≡ startAt refs doms texts walk path boot limit size clock out
+  unfolding startAt
+  at-texts u v = sym (choose-yes _ _ (sym p ∙ u) ∙ choose-no _ _ (ne-eqb _ 768 v))
+
+  pub at-taken : s ≡ true → length texts ≡ 768 → {x : Left}
+      → x ≡ closes limit boot (turned limit clock (started (cachesOf refs doms) (coreOf path size false) clock)) walk texts out
+      → x ≡ startAt refs doms texts walk path boot limit size clock out
+  unfolding startAt
+  at-taken u v d = d ∙ sym (choose-yes _ _ (sym p ∙ u) ∙ choose-yes _ _ (eq-eqb _ 768 v))
+
+-- what the steps keep: the size given, the moves that were left at most, a path that fits its room
+pub record Kept (n : ℕ) (w : Core) (x : Resting) : Type 0 where
+  pub size-kept : x .core .size ≡ w .size
+  pub left-kept : x .left ≤ n
+  pub path-kept : length (x .core .path) ≤ 256
+
+kept-same : (n : ℕ) (w : Core) (r : Rest) → length (w .path) ≤ 256 → Kept n w (rests w n r)
+unfolding rests
+kept-same n w r h = record { size-kept = refl; left-kept = omega arith; path-kept = h }
+
+kept-less : (n : ℕ) (w : Core) (r : Rest) → length (w .path) ≤ 256 → Kept (suc n) w (rests w n r)
+unfolding rests
+kept-less n w r h = record { size-kept = refl; left-kept = omega arith; path-kept = h }
+
+kept-asking : (n : ℕ) (w : Core) (q : Question) → length (w .path) ≤ 256 → Kept n w (asking n w q)
+unfolding asking
+kept-asking zero w q h = kept-same zero w _ h
+kept-asking (suc n) w q h = go (told (leb (length (q .tried)) pathUnits))
+  where
+    go : (leb (length (q .tried)) pathUnits ≡ true) ⊎ (leb (length (q .tried)) pathUnits ≡ false)
+        → Kept (suc n) w (choose (leb (length (q .tried)) pathUnits) (rests w n (waits q)) (rests w (suc n) (ended TooLong 0 [])))
+    go (inl t) = subst (Kept (suc n) w) (sym (choose-yes _ _ t)) (kept-less n w (waits q) h)
+    go (inr t) = subst (Kept (suc n) w) (sym (choose-no _ _ t)) (kept-same (suc n) w (ended TooLong 0 []) h)
+
+pub kept-goes : (n : ℕ) (c : Caches) (clock : ℕ) (w : Core) (a : Called) → length (w .path) ≤ 256 → Kept n w (goes n c clock w a)
+unfolding goes withHit withPath
+kept-goes zero c clock w (stops e status tried) h = kept-same zero w _ h
+kept-goes zero c clock w (asks q) h = kept-asking zero w q h
+kept-goes zero c clock w (replaces p) h = kept-same zero w _ h
+kept-goes (suc n) c clock w (stops e status tried) h = kept-same (suc n) w _ h
+kept-goes (suc n) c clock w (asks q) h = kept-asking (suc n) w q h
+kept-goes (suc n) c clock w (replaces p) h = go (told (leb (length p) pathUnits)) (kept-goes n c clock (withHit (hitAt c (withPath p w)) (withPath p w)) (step2 c (withPath p w) clock))
+  where
+    go : (leb (length p) pathUnits ≡ true) ⊎ (leb (length p) pathUnits ≡ false)
+        → (length p ≤ 256 → Kept n (withHit (hitAt c (withPath p w)) (withPath p w)) (goes n c clock (withHit (hitAt c (withPath p w)) (withPath p w)) (step2 c (withPath p w) clock)))
+        → Kept (suc n) w (choose (leb (length p) pathUnits) (goes n c clock (withHit (hitAt c (withPath p w)) (withPath p w)) (step2 c (withPath p w) clock)) (rests w (suc n) (ended TooLong 0 [])))
+    go (inl t) f =
+        let k = f (leb-true _ _ t) in
+        subst (Kept (suc n) w) (sym (choose-yes _ _ t)) (record { size-kept = k .size-kept; left-kept = omega (arith, k .left-kept); path-kept = k .path-kept })
+    go (inr t) f = subst (Kept (suc n) w) (sym (choose-no _ _ t)) (kept-same (suc n) w (ended TooLong 0 []) h)
+
+pub kept-started : (n : ℕ) (c : Caches) (clock : ℕ) (w : Core) → length (w .path) ≤ 256 → Kept n w (turned n clock (started c w clock))
+unfolding turned started fromStep2 withHit
+kept-started n c clock w h = go (told (eqb (componentCount (w .path)) 1))
+  where
+    go : (eqb (componentCount (w .path)) 1 ≡ true) ⊎ (eqb (componentCount (w .path)) 1 ≡ false)
+        → Kept n w (turned n clock (choose (eqb (componentCount (w .path)) 1) (record { caches = c; core = w; called = ends NotDfs 0 }) (fromStep2 c w clock)))
+    go (inl t) = subst (λ (x : Turn). Kept n w (turned n clock x)) (sym (choose-yes _ (fromStep2 c w clock) t)) (kept-goes n c clock w (ends NotDfs 0) h)
+    go (inr t) =
+        let k = kept-goes n c clock (withHit (hitAt c w) w) (step2 c w clock) h in
+        subst (λ (x : Turn). Kept n w (turned n clock x)) (sym (choose-no (record { caches = c; core = w; called = ends NotDfs 0 }) (fromStep2 c w clock) t))
+        (record { size-kept = k .size-kept; left-kept = k .left-kept; path-kept = k .path-kept })
+
+-- a rest that a call closes
+module _ (x : Resting) (r : Rested) (rooms : List ℕ) (e : joined r rooms ≡ packed x) where
+  rested-is : r ≡ restedOf x
+  unfolding packed
+  rested-is = ap (λ (p : Packed). p .rested) e
+
+  rooms-are : rooms ≡ textsOf (x .core .path) (triedOf (x .rest))
+  unfolding packed
+  rooms-are = ap (λ (p : Packed). p .texts) e
+
+  path-is : take (r .path) rooms ≡ x .core .path
+  unfolding restedOf
+  path-is = (λ j. take (rested-is j .path) (rooms-are j)) ∙ path-in (x .core .path) (triedOf (x .rest))
+
+  pub rest-left : (n : ℕ) (w : Core) → Kept n w x → r .left ≤ n
+  unfolding restedOf
+  rest-left n w k = subst (λ (y : Rested). y .left ≤ n) (sym rested-is) (k .left-kept)
+
+  pub rest-path : (n : ℕ) (w : Core) → Kept n w x → r .path ≤ 256
+  unfolding restedOf
+  rest-path n w k = subst (λ (y : Rested). y .path ≤ 256) (sym rested-is) (k .path-kept)
+
+  pub closed-start : (limit size : ℕ) (boot : List ℕ) (walk : Walk) (texts out : List ℕ) → x .core .size ≡ size
+      → closedStart limit size boot r rooms walk texts out ≡ closes limit boot x walk texts out
+  unfolding closedStart closes walkWith walkOf textsAfter lent restedOf
+  closed-start limit size boot walk texts out s =
+      λ j.
+      choose (((λ k. nameFits (length out) (named (nextUnits (rested-is k .next) (path-is k)) (path-is k))) ∙ rest-fits x (length out) refl) j)
+      (record {
+        verdict = Taken;
+        walk = walkWith limit (sym s j) (length boot) (rested-is j);
+        texts = rooms-are j ++ roomed 256 boot;
+        out = ((λ k. withRequest (named (nextUnits (rested-is k .next) (path-is k)) (path-is k)) out) ∙ rest-out x out refl) j;
+      })
+      (refused ShortBuffer walk texts out)
+
+-- a start that rests: its numbers fit, and it is closed
+module _ (refs doms rooms : List ℕ) (n k limit size clock : ℕ) (b : Begun refs rooms n k) (r : Rested) (o : List ℕ)
+    (e : joined r o ≡ packed (turned limit clock (started (cachesOf refs doms) (coreOf (take n rooms) size false) clock))) where
+  all-kept : Kept limit (coreOf (take n rooms) size false) (turned limit clock (started (cachesOf refs doms) (coreOf (take n rooms) size false) clock))
+  all-kept = kept-started limit (cachesOf refs doms) clock (coreOf (take n rooms) size false) (omega (arith, standing-path n rooms (b .standing), b .standing .few))
+
+  pub first-left : r .left ≤ limit
+  first-left = rest-left _ r o e limit (coreOf (take n rooms) size false) all-kept
+
+  pub first-path : r .path ≤ 256
+  first-path = rest-path _ r o e limit (coreOf (take n rooms) size false) all-kept
+
+  pub first-closed : (boot : List ℕ) (walk : Walk) (texts out : List ℕ) {x : Left} → x ≡ closedStart limit size boot r o walk texts out
+      → x ≡ closes limit boot (turned limit clock (started (cachesOf refs doms) (coreOf (take n rooms) size false) clock)) walk texts out
+  first-closed boot walk texts out h = h ∙ closed-start _ r o e limit size boot walk texts out (all-kept .size-kept)

@@ -1,0 +1,3 @@
+-- The calls of a host.
+pub mod Calls
+pub mod Closing

@@ -15,9 +15,9 @@ use Rattle.caches.specs.Entries.{Target, Referral}
 use Rattle.caches.specs.Order.{goodPrefix, goodTarget, goodReferral}
 use Rattle.caches.specs.Memory.{referralSettings, referralUnits}
 use Rattle.caches.proofs.KindLaws.{GoodReferral, referral-told, referral-shape, prefix-short}
-use Rattle.storing.specs.Writing.{addTargets, begun, settings}
-use Rattle.storing.proofs.WritingLaws.{short}
-use Rattle.storing.proofs.PieceLaws.{pathsOf, marksOf, targets-written, key-shape, begun-written}
+use Rattle.entries.specs.Writing.{addAll, addTarget, begun, settings}
+use Rattle.entries.proofs.WritingLaws.{short}
+use Rattle.entries.proofs.PieceLaws.{pathsOf, marksOf, targets-written, key-shape, begun-written}
 
 -- the settings that are written are the entry's
 settings-of : (e : Referral) → settings (e .root) (e .interlink) (e .failback) (e .ttl) (e .taken) ≡ referralSettings e
@@ -37,24 +37,24 @@ module _ (e : Referral) (good : goodReferral e ≡ true) (first : e .hint ≡ 0)
   g = referral-told e good
 
   filled : (targets : List Target) → targets ≡ e .targets → (piece : List ℕ) → piece ≡ written (e .prefix ∷ []) 0 [] []
-      → putSettings (settings (e .root) (e .interlink) (e .failback) (e .ttl) (e .taken)) (addTargets 0 targets piece) ≡ referralUnits e
+      → putSettings (settings (e .root) (e .interlink) (e .failback) (e .ttl) (e .taken)) (addAll addTarget 0 targets piece) ≡ referralUnits e
   unfolding referralUnits
   filled targets q piece p =
       let k : length (e .prefix) ≤ 256 = prefix-short (e .prefix) (g .prefixed) in
       let f : length (e .targets) ≤ 8 = g .few in
       let t = targets-written (e .prefix) [] 0 [] [] 0 (e .targets) (key-shape (e .prefix) k) refl refl (omega arith) (good-short (e .targets) (g .each)) in
-      (λ i. putSettings (settings-of e i) (addTargets 0 (q i) (p i)))
+      (λ i. putSettings (settings-of e i) (addAll addTarget 0 (q i) (p i)))
       ∙ (ap (putSettings (referralSettings e)) (t .0)
       ∙ (put-settings (e .prefix ∷ pathsOf (e .targets)) 0 (marksOf (e .targets)) [] (referralSettings e) (t .1) (referral-shape e good) (omega arith)
       ∙ ap (λ (h : ℕ). written (e .prefix ∷ pathsOf (e .targets)) h (marksOf (e .targets)) (referralSettings e)) (sym first)))
 
   -- from a new place, and from that of an entry with the same prefix
   pub entry-inserted : (targets : List Target) → targets ≡ e .targets → (q : List ℕ)
-      → putSettings (settings (e .root) (e .interlink) (e .failback) (e .ttl) (e .taken)) (addTargets 0 targets (begun (e .prefix) q)) ≡ referralUnits e
+      → putSettings (settings (e .root) (e .interlink) (e .failback) (e .ttl) (e .taken)) (addAll addTarget 0 targets (begun (e .prefix) q)) ≡ referralUnits e
   entry-inserted targets f q = filled targets f (begun (e .prefix) q) (begun-written (e .prefix) q (prefix-short (e .prefix) (g .prefixed)))
 
   pub entry-replaced : (old : Referral) → goodReferral old ≡ true → old .prefix ≡ e .prefix → (targets : List Target) → targets ≡ e .targets
-      → putSettings (settings (e .root) (e .interlink) (e .failback) (e .ttl) (e .taken)) (addTargets 0 targets (keyOnly (referralUnits old))) ≡ referralUnits e
+      → putSettings (settings (e .root) (e .interlink) (e .failback) (e .ttl) (e .taken)) (addAll addTarget 0 targets (keyOnly (referralUnits old))) ≡ referralUnits e
   unfolding referralUnits
   entry-replaced old h p targets f =
       filled targets f (keyOnly (referralUnits old))

@@ -1,6 +1,4 @@
 -- Laws of storing.
-pub mod WritingLaws
-pub mod PieceLaws
 pub mod HintLaws
 pub mod EntryLaws
 pub mod StoreLaws

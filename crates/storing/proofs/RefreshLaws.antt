@@ -24,8 +24,9 @@ use Rattle.equivalence.specs.Equivalence.{equivalent}
 use Rattle.storing.specs.Stored.{targetsIn, targetsAfter, firstEqual, hinted, failedBack, refreshed, fresh}
 use Rattle.referral.specs.Found.{referralShown}
 use Rattle.referral.specs.declared.ReferralFound.{ReferralFound}
-use Rattle.storing.specs.Writing.{addTargets, settings, heldTarget, Storable, Held}
-use Rattle.storing.proofs.WritingLaws.{Keeps, keeps-unit, keeps-pasted, keeps-both, then-changed, changed-same}
+use Rattle.entries.specs.Writing.{addAll, addTarget, settings, heldTarget}
+use Rattle.storing.specs.Writing.{Storable, Held}
+use Rattle.entries.proofs.WritingLaws.{Keeps, keeps-unit, keeps-pasted, keeps-both, then-changed, changed-same}
 use Rattle.storing.proofs.EntryLaws.{withHint, entry-hinted, entry-settled, entry-replaced}
 use Rattle.storing.proofs.StoreLaws.{targets-in, keeps-settled, keeps-kept}
 
@@ -123,7 +124,7 @@ zeroed-keeps m n u v =
 
 -- what a refresh with another list leaves in the place, up to the hint
 given-entry : (raw : List ℕ) (i : ℕ) → Held i raw → (r : List ℕ) (f : ReferralFound) (interlink : Bool) (clock : ℕ) → goodReferral (based (entryAt referrals i raw) (referralShown r f) interlink clock (targetsIn (referralShown r f)) 0) ≡ true
-    → putSettings (settings (f .root) interlink (f .failback) (f .ttl) clock) (addTargets 0 (map (heldTarget r) (take (f .targets) (f .kept))) (keyOnly (referralUnits (entryAt referrals i raw)))) ≡ referralUnits (based (entryAt referrals i raw) (referralShown r f) interlink clock (targetsIn (referralShown r f)) 0)
+    → putSettings (settings (f .root) interlink (f .failback) (f .ttl) clock) (addAll addTarget 0 (map (heldTarget r) (take (f .targets) (f .kept))) (keyOnly (referralUnits (entryAt referrals i raw)))) ≡ referralUnits (based (entryAt referrals i raw) (referralShown r f) interlink clock (targetsIn (referralShown r f)) 0)
 unfolding referralShown
 given-entry raw i place r f interlink clock g =
     entry-replaced (based (entryAt referrals i raw) (referralShown r f) interlink clock (targetsIn (referralShown r f)) 0) g refl (entryAt referrals i raw) (place .good) refl (map (heldTarget r) (take (f .targets) (f .kept))) (sym (targets-in r f))
@@ -170,16 +171,16 @@ module _ (raw : List ℕ) (i : ℕ) (place : Held i raw) (r : List ℕ) (f : Ref
     unfolding keyOnly
     keeps-keyOnly p l = zeroed-keeps 31 2048 (omega arith) (omega arith) p l
 
-    given-settled : {k l m : List ℕ} → k ≡ changed i keyOnly raw → l ≡ changed i (addTargets 0 (map (heldTarget r) (take (f .targets) (f .kept)))) k → m ≡ changed i (putSettings (settings (f .root) interlink (f .failback) (f .ttl) clock)) l
+    given-settled : {k l m : List ℕ} → k ≡ changed i keyOnly raw → l ≡ changed i (addAll addTarget 0 (map (heldTarget r) (take (f .targets) (f .kept)))) k → m ≡ changed i (putSettings (settings (f .root) interlink (f .failback) (f .ttl) clock)) l
         → m ≡ changed i (λ p. referralUnits (based (entryAt referrals i raw) (referralShown r f) interlink clock (targetsIn (referralShown r f)) 0)) raw
     given-settled a b c =
-        then-changed raw i (place .fits) (λ p. addTargets 0 (map (heldTarget r) (take (f .targets) (f .kept))) (keyOnly p)) (putSettings (settings (f .root) interlink (f .failback) (f .ttl) clock))
-        (keeps-both keyOnly (addTargets 0 (map (heldTarget r) (take (f .targets) (f .kept)))) keeps-keyOnly (keeps-kept raw i (place .fits) r f s interlink clock)) (keeps-settled (f .root) interlink (f .failback) (f .ttl) clock)
-        (then-changed raw i (place .fits) keyOnly (addTargets 0 (map (heldTarget r) (take (f .targets) (f .kept)))) keeps-keyOnly (keeps-kept raw i (place .fits) r f s interlink clock) a b) c
-        ∙ changed-same raw i (place .fits) (λ p. putSettings (settings (f .root) interlink (f .failback) (f .ttl) clock) (addTargets 0 (map (heldTarget r) (take (f .targets) (f .kept))) (keyOnly p))) (λ p. referralUnits (based (entryAt referrals i raw) (referralShown r f) interlink clock (targetsIn (referralShown r f)) 0))
-        (ap (λ (x : List ℕ). putSettings (settings (f .root) interlink (f .failback) (f .ttl) clock) (addTargets 0 (map (heldTarget r) (take (f .targets) (f .kept))) (keyOnly x))) (place .units) ∙ given-entry raw i place r f interlink clock good-given)
+        then-changed raw i (place .fits) (λ p. addAll addTarget 0 (map (heldTarget r) (take (f .targets) (f .kept))) (keyOnly p)) (putSettings (settings (f .root) interlink (f .failback) (f .ttl) clock))
+        (keeps-both keyOnly (addAll addTarget 0 (map (heldTarget r) (take (f .targets) (f .kept)))) keeps-keyOnly (keeps-kept raw i (place .fits) r f s interlink clock)) (keeps-settled (f .root) interlink (f .failback) (f .ttl) clock)
+        (then-changed raw i (place .fits) keyOnly (addAll addTarget 0 (map (heldTarget r) (take (f .targets) (f .kept)))) keeps-keyOnly (keeps-kept raw i (place .fits) r f s interlink clock) a b) c
+        ∙ changed-same raw i (place .fits) (λ p. putSettings (settings (f .root) interlink (f .failback) (f .ttl) clock) (addAll addTarget 0 (map (heldTarget r) (take (f .targets) (f .kept))) (keyOnly p))) (λ p. referralUnits (based (entryAt referrals i raw) (referralShown r f) interlink clock (targetsIn (referralShown r f)) 0))
+        (ap (λ (x : List ℕ). putSettings (settings (f .root) interlink (f .failback) (f .ttl) clock) (addAll addTarget 0 (map (heldTarget r) (take (f .targets) (f .kept))) (keyOnly x))) (place .units) ∙ given-entry raw i place r f interlink clock good-given)
 
-    module _ (k l m : List ℕ) (a : k ≡ changed i keyOnly raw) (b : l ≡ changed i (addTargets 0 (map (heldTarget r) (take (f .targets) (f .kept)))) k) (c : m ≡ changed i (putSettings (settings (f .root) interlink (f .failback) (f .ttl) clock)) l) (hint : ℕ)
+    module _ (k l m : List ℕ) (a : k ≡ changed i keyOnly raw) (b : l ≡ changed i (addAll addTarget 0 (map (heldTarget r) (take (f .targets) (f .kept)))) k) (c : m ≡ changed i (putSettings (settings (f .root) interlink (f .failback) (f .ttl) clock)) l) (hint : ℕ)
         (h : hint ≡ firstEqual 0 (hinted (entryAt referrals i raw)) (map (heldTarget r) (take (f .targets) (f .kept)))) where
       pub given-ready : (i < length m / 2336) × (hint < length (entryAt referrals i m .targets))
       unfolding fresh

@@ -18,8 +18,9 @@ use Rattle.referral.specs.Found.{referralShown, targetShown}
 use Rattle.referral.specs.declared.Kept.{Kept}
 use Rattle.referral.specs.declared.ReferralFound.{ReferralFound}
 use Rattle.storing.specs.Stored.{targetsIn, fresh}
-use Rattle.storing.specs.Writing.{addText, addTargets, begun, settings, heldTarget, Storable}
-use Rattle.storing.proofs.WritingLaws.{Keeps, keeps-added, keeps-blank, keeps-both, keeps-targets, keeps-pasted, short, all-short, then-changed, changed-same}
+use Rattle.entries.specs.Writing.{addText, addAll, addTarget, begun, settings, heldTarget}
+use Rattle.storing.specs.Writing.{Storable}
+use Rattle.entries.proofs.WritingLaws.{Keeps, keeps-added, keeps-blank, keeps-both, keeps-target, keeps-all, keeps-pasted, short, all-short, then-changed, changed-same}
 use Rattle.storing.proofs.EntryLaws.{entry-inserted}
 
 -- the targets of the reply, as the cache holds them
@@ -58,7 +59,7 @@ few-kept r ks n h = simp (length-map, length-take) (omega arith)
 
 -- what the three steps leave in a place
 new-entry : (r : List ℕ) (f : ReferralFound) → Storable r f → (interlink : Bool) (clock : ℕ) (p : List ℕ)
-    → putSettings (settings (f .root) interlink (f .failback) (f .ttl) clock) (addTargets 0 (map (heldTarget r) (take (f .targets) (f .kept))) (begun (spanned r (f .prefix)) p))
+    → putSettings (settings (f .root) interlink (f .failback) (f .ttl) clock) (addAll addTarget 0 (map (heldTarget r) (take (f .targets) (f .kept))) (begun (spanned r (f .prefix)) p))
     ≡ referralUnits (fresh (referralShown r f) interlink clock)
 unfolding fresh referralShown
 new-entry r f s interlink clock p =
@@ -67,22 +68,22 @@ new-entry r f s interlink clock p =
 
 -- a new entry, written in three steps
 module _ (raw : List ℕ) (i : ℕ) (fits : i < length raw / 2336) (r : List ℕ) (f : ReferralFound) (s : Storable r f) (interlink : Bool) (clock : ℕ) where
-  pub keeps-kept : Keeps (addTargets 0 (map (heldTarget r) (take (f .targets) (f .kept))))
+  pub keeps-kept : Keeps (addAll addTarget 0 (map (heldTarget r) (take (f .targets) (f .kept))))
   keeps-kept =
-      keeps-targets 0 (map (heldTarget r) (take (f .targets) (f .kept)))
+      keeps-all addTarget short keeps-target 0 (map (heldTarget r) (take (f .targets) (f .kept)))
       (few-kept r (f .kept) (f .targets) (s .few)) (all-short r (take (f .targets) (f .kept)) (s .kept))
 
   pub inserted : {l m o : List ℕ} → l ≡ changed i (begun (spanned r (f .prefix))) raw
-      → m ≡ changed i (addTargets 0 (map (heldTarget r) (take (f .targets) (f .kept)))) l
+      → m ≡ changed i (addAll addTarget 0 (map (heldTarget r) (take (f .targets) (f .kept)))) l
       → o ≡ changed i (putSettings (settings (f .root) interlink (f .failback) (f .ttl) clock)) m
       → o ≡ changed i (λ p. referralUnits (fresh (referralShown r f) interlink clock)) raw
   inserted a b c =
       let u : length (spanned r (f .prefix)) ≤ 256 = omega (arith, length-spanned r (f .prefix), prefix-fits r f s) in
-      let kb = keeps-both (begun (spanned r (f .prefix))) (addTargets 0 (map (heldTarget r) (take (f .targets) (f .kept)))) (keeps-begun (spanned r (f .prefix)) u) keeps-kept in
-      then-changed raw i fits (λ p. addTargets 0 (map (heldTarget r) (take (f .targets) (f .kept))) (begun (spanned r (f .prefix)) p))
+      let kb = keeps-both (begun (spanned r (f .prefix))) (addAll addTarget 0 (map (heldTarget r) (take (f .targets) (f .kept)))) (keeps-begun (spanned r (f .prefix)) u) keeps-kept in
+      then-changed raw i fits (λ p. addAll addTarget 0 (map (heldTarget r) (take (f .targets) (f .kept))) (begun (spanned r (f .prefix)) p))
       (putSettings (settings (f .root) interlink (f .failback) (f .ttl) clock)) kb (keeps-settled (f .root) interlink (f .failback) (f .ttl) clock)
-      (then-changed raw i fits (begun (spanned r (f .prefix))) (addTargets 0 (map (heldTarget r) (take (f .targets) (f .kept))))
+      (then-changed raw i fits (begun (spanned r (f .prefix))) (addAll addTarget 0 (map (heldTarget r) (take (f .targets) (f .kept))))
       (keeps-begun (spanned r (f .prefix)) u) keeps-kept a b) c
       ∙ changed-same raw i fits
-      (λ p. putSettings (settings (f .root) interlink (f .failback) (f .ttl) clock) (addTargets 0 (map (heldTarget r) (take (f .targets) (f .kept))) (begun (spanned r (f .prefix)) p)))
+      (λ p. putSettings (settings (f .root) interlink (f .failback) (f .ttl) clock) (addAll addTarget 0 (map (heldTarget r) (take (f .targets) (f .kept))) (begun (spanned r (f .prefix)) p)))
       (λ p. referralUnits (fresh (referralShown r f) interlink clock)) (new-entry r f s interlink clock (placeAt i raw))

@@ -31,7 +31,8 @@ use Rattle.referral.specs.Found.{referralShown, keptInside, inside}
 use Rattle.referral.specs.declared.Kept.{Kept}
 use Rattle.referral.specs.declared.ReferralFound.{ReferralFound}
 use Rattle.storing.specs.Stored.{targetsIn, targetsAfter, firstEqual, hinted, failedBack, refreshed, fresh, stored, storedEntry, storePlace, prefixed, held, heldAt}
-use Rattle.storing.specs.Writing.{keptFits, Storable, Held}
+use Rattle.entries.specs.Writing.{keptFits}
+use Rattle.storing.specs.Writing.{Storable, Held}
 use Rattle.storing.proofs.StoreLaws.{fresh-good}
 use Rattle.storing.proofs.EntryLaws.{withHint}
 use Rattle.storing.proofs.RefreshLaws.{based, hint-good, back-within, first-within, held-good, given-good, refreshed-held, refreshed-given}

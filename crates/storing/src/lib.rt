@@ -6,7 +6,7 @@ ghost use Prim.Native.Nat.{ℕ, _+_, _-_, _*_, _/_, _≤_, _<_};
 ghost use lib.ListN.{length, take, getD};
 ghost use Rattle.laws.specs.Lists.{every};
 ghost use Rattle.spans.specs.Spans.{spanned, Inside};
-ghost use Rattle.places.specs.Layout.{changed, placeAt, flagUnit};
+ghost use Rattle.places.specs.Layout.{changed, placeAt, putUnit};
 ghost use Rattle.caches.specs.Memory.{referrals, decode};
 ghost use Rattle.lookup.specs.Keys.{keyIs};
 ghost use Rattle.lookup.specs.Lookup.{entryAt, withKey};
@@ -16,86 +16,13 @@ ghost use Rattle.caches.specs.Memory.{encode, inOrder};
 ghost use Rattle.storing.specs.Stored.{stored, storePlace};
 ghost use Rattle.caches.specs.Memory.{referralUnits};
 ghost use Rattle.referral.specs.Found.{referralShown};
-ghost use Rattle.places.specs.Layout.{putUnit, putSettings};
-ghost use Rattle.storing.specs.Writing.{addText, addTarget, addTargets, begun, settings, heldTarget, keptFits, Storable, Held};
+ghost use Rattle.entries.specs.Writing.{heldTarget, keptFits};
+ghost use Rattle.storing.specs.Writing.{Storable, Held};
 use lookup::Found;
 use places::PLACE;
 use referral::Kept;
 use referral::ReferralFound;
 use spans::Span;
-
-const HEAD: usize = 32;
-
-const ROOM: usize = 256;
-
-fn flag_unit(b: bool) -> u16
-    ensures { λ r. ⌜ r ≡ flagUnit b ⌝ }
-{
-    if b { 1 } else { 0 }
-}
-
-// Text n of place i from the reply, as the last text of the place.
-fn add_text(cache: &mut [u16], i: usize, n: usize, reply: &[u8], s: Span)
-    requires { ⌜ (i < length (now cache) / 2336) × ((n < 9) × (Inside (now reply) s × (s .units ≤ 256))) ⌝ }
-    ensures { λ r. ⌜ now (cache .exit) ≡ changed i (addText n (spanned (now (reply .entry)) s)) (now (cache .entry)) ⌝ }
-{
-    let at = i * PLACE;
-    let units = s.units;
-    rooms::put_unit(cache, at + n, units as u16);
-    spans::put_span(reply, s, cache, at + HEAD + n * ROOM, ROOM);
-    places::put_unit(cache, i, 9, n as u16);
-}
-
-// Target n of place i from the reply.
-fn add_target(cache: &mut [u16], i: usize, n: usize, reply: &[u8], k: Kept)
-    requires { ⌜ (i < length (now cache) / 2336) × ((n < 8) × (keptFits (now reply) k ≡ true)) ⌝ }
-    ensures { λ r. ⌜ now (cache .exit) ≡ changed i (addTarget n (heldTarget (now (reply .entry)) k)) (now (cache .entry)) ⌝ }
-{
-    let s = k.path;
-    add_text(cache, i, 1 + n, reply, s);
-    places::put_unit(cache, i, 11 + n, flag_unit(k.opens));
-}
-
-// The targets of the reply into place i, which has none.
-fn add_targets(cache: &mut [u16], i: usize, reply: &[u8], kept: [Kept; 8], count: usize)
-    requires { ⌜ (i < length (now cache) / 2336) × ((count ≤ 8) × (every (keptFits (now reply)) (take count kept) ≡ true)) ⌝ }
-    ensures { λ r. ⌜ now (cache .exit) ≡ changed i (addTargets 0 (map (heldTarget (now (reply .entry))) (take count kept))) (now (cache .entry)) ⌝ }
-{
-    let mut n = 0;
-    while n < count {
-        let k = kept[n];
-        add_target(cache, i, n, reply, k);
-        n += 1;
-    }
-}
-
-// Place i with a prefix from the reply and nothing else.
-fn begin_entry(cache: &mut [u16], i: usize, reply: &[u8], s: Span)
-    requires { ⌜ (i < length (now cache) / 2336) × (Inside (now reply) s × (s .units ≤ 256)) ⌝ }
-    ensures { λ r. ⌜ now (cache .exit) ≡ changed i (begun (spanned (now (reply .entry)) s)) (now (cache .entry)) ⌝ }
-{
-    places::clear_place(cache, i);
-    add_text(cache, i, 0, reply, s);
-}
-
-// Root, Interlink, TargetFailback, TTL and the time taken of place i.
-fn put_settings(
-    cache: &mut [u16],
-    i: usize,
-    root: bool,
-    interlink: bool,
-    failback: bool,
-    ttl: u32,
-    taken: u32,
-)
-    requires { ⌜ i < length (now cache) / 2336 ⌝ }
-    ensures { λ r. ⌜ now (cache .exit) ≡ changed i (putSettings (settings root interlink failback ttl taken)) (now (cache .entry)) ⌝ }
-{
-    let a = flag_unit(root);
-    let b = flag_unit(interlink);
-    let c = flag_unit(failback);
-    places::put_settings(cache, i, a, b, c, ttl, taken);
-}
 
 // Whether place i is used and its prefix is an equal name.
 fn prefix_is(cache: &[u16], i: usize, reply: &[u8], s: Span) -> bool
@@ -206,9 +133,9 @@ fn insert(
     let prefix = found.prefix;
     let kept = found.kept;
     let count = found.targets;
-    begin_entry(cache, i, reply, prefix);
-    add_targets(cache, i, reply, kept, count);
-    put_settings(
+    entries::begin_entry(cache, i, reply, prefix);
+    entries::add_targets(cache, i, reply, kept, count);
+    entries::put_settings(
         cache,
         i,
         found.root,
@@ -232,7 +159,7 @@ fn refresh_held(
     ensures { λ r. ⌜ now (cache .exit) ≡ changed i (λ q. referralUnits (refreshed (entryAt referrals i (now (cache .entry))) (referralShown (now (reply .entry)) found) interlink clock)) (now (cache .entry)) ⌝ }
 {
     let hint = held_place(cache, i);
-    put_settings(
+    entries::put_settings(
         cache,
         i,
         found.root,
@@ -260,8 +187,8 @@ fn refresh_given(
     let count = found.targets;
     let hint = given_place(cache, i, reply, kept, count);
     places::keep_key(cache, i);
-    add_targets(cache, i, reply, kept, count);
-    put_settings(
+    entries::add_targets(cache, i, reply, kept, count);
+    entries::put_settings(
         cache,
         i,
         found.root,

@@ -1,4 +1,4 @@
-use Rattle.storing.specs.Writing.{heldTarget}
+use Rattle.entries.specs.Writing.{heldTarget, keptFits}
 use Rattle.storing.specs.Stored.{firstEqual, hinted}
 use mathlib.Core.List.{map}
 use Rattle.lookup.specs.Lookup.{entryAt}
@@ -8,7 +8,7 @@ use lib.ListN.{length, drop, take}
 use Prim.Native.Nat.{_≤_, _-_}
 use mathlib.Core.Path.{_≡_, refl, sym, _∙_}
 use native.Mathlib.Omega.{arith}
-use Rattle.storing.proofs.WritingLaws.{kept-at, kept-inside, path-at, length-targets}
+use Rattle.entries.proofs.WritingLaws.{kept-at, kept-inside, path-at, length-shown}
 use Rattle.storing.proofs.HintLaws.{nowhere, hinted-is, equal-hit, equal-miss, equal-end}
 use borrow.Author.Needs.{needs}
 use Rattle.storing.proofs.given_place.Statement.{statement}
@@ -43,15 +43,15 @@ array-copy-out-k c = search needs
 same-span-requires : tie.Need-same-span-requires Inv-loop μ-loop
 same-span-requires c κs =
     let l : length (c .before .before .before .before .before .before .before .args .t4) ≡ 8 = search needs in
-    kept-inside (now (c .before .before .before .before .before .before .before .args .reply)) _ (kept-at (now (c .before .before .before .before .before .before .before .args .reply)) (c .before .before .before .before .before .before .before .args .t4) (c .before .before .before .before .before .before .before .args .count) (c .before .before .loop .j) _ l (omega arith) (omega arith) (c .before .before .before .before .before .before .before .pre .1 .1 .1))
+    kept-inside (now (c .before .before .before .before .before .before .before .args .reply)) _ (kept-at (c .before .before .before .before .before .before .before .args .t4) (c .before .before .before .before .before .before .before .args .count) (c .before .before .loop .j) _ (omega arith) (omega arith) (keptFits (now (c .before .before .before .before .before .before .before .args .reply))) (c .before .before .before .before .before .before .before .pre .1 .1 .1))
 
 returns : tie.Need-returns Inv-loop μ-loop
 returns c =
     let l : length (c .before .before .before .before .before .before .before .before .before .args .t4) ≡ 8 = search needs in
-    let m = length-targets (now (c .before .before .before .before .before .before .before .before .before .args .reply)) (c .before .before .before .before .before .before .before .before .before .args .t4) (c .before .before .before .before .before .before .before .before .before .args .count) l (omega arith) in
+    let m = length-shown (heldTarget (now (c .before .before .before .before .before .before .before .before .before .args .reply))) (c .before .before .before .before .before .before .before .before .before .args .t4) (c .before .before .before .before .before .before .before .before .before .args .count) (omega arith) in
     sym (c .before .before .before .before .loop .inv .1
     ∙ equal-hit (hinted (entryAt referrals (c .before .before .before .before .before .before .before .before .before .args .i) (now (c .before .before .before .before .before .before .before .before .before .args .cache)))) (map (heldTarget (now (c .before .before .before .before .before .before .before .before .before .args .reply))) (take (c .before .before .before .before .before .before .before .before .before .args .count) (c .before .before .before .before .before .before .before .before .before .args .t4))) (c .before .before .before .before .loop .j) nowhere (omega arith)
-    (path-at (now (c .before .before .before .before .before .before .before .before .before .args .reply)) (c .before .before .before .before .before .before .before .before .before .args .t4) (c .before .before .before .before .before .before .before .before .before .args .count) (c .before .before .before .before .loop .j) _ l (omega arith) (omega arith) nowhere)
+    (path-at (now (c .before .before .before .before .before .before .before .before .before .args .reply)) (c .before .before .before .before .before .before .before .before .before .args .t4) (c .before .before .before .before .before .before .before .before .before .args .count) (c .before .before .before .before .loop .j) _ nowhere (omega arith) (omega arith))
     (hinted-is (entryAt referrals (c .before .before .before .before .before .before .before .before .before .args .i) (now (c .before .before .before .before .before .before .before .before .before .args .cache))) _ (c .before .before .before .before .before .target .ensures) (c .before .before .before .before .before .before .target-hint .ensures) (omega arith)) (c .before .same-span .ensures) (c .if1 .taken))
 
 add-j : tie.Need-add-j Inv-loop μ-loop
@@ -63,18 +63,18 @@ loop-less c = search needs
 loop-again : tie.Need-loop-again Inv-loop μ-loop
 loop-again c =
     let l : length (c .before .before .before .before .before .before .before .before .before .args .t4) ≡ 8 = search needs in
-    let m = length-targets (now (c .before .before .before .before .before .before .before .before .before .args .reply)) (c .before .before .before .before .before .before .before .before .before .args .t4) (c .before .before .before .before .before .before .before .before .before .args .count) l (omega arith) in (
+    let m = length-shown (heldTarget (now (c .before .before .before .before .before .before .before .before .before .args .reply))) (c .before .before .before .before .before .before .before .before .before .args .t4) (c .before .before .before .before .before .before .before .before .before .args .count) (omega arith) in (
       omega arith,
       c .before .before .before .before .loop .inv .1
           ∙ equal-miss (hinted (entryAt referrals (c .before .before .before .before .before .before .before .before .before .args .i) (now (c .before .before .before .before .before .before .before .before .before .args .cache)))) (map (heldTarget (now (c .before .before .before .before .before .before .before .before .before .args .reply))) (take (c .before .before .before .before .before .before .before .before .before .args .count) (c .before .before .before .before .before .before .before .before .before .args .t4))) (c .before .before .before .before .loop .j) nowhere (omega arith)
-          (path-at (now (c .before .before .before .before .before .before .before .before .before .args .reply)) (c .before .before .before .before .before .before .before .before .before .args .t4) (c .before .before .before .before .before .before .before .before .before .args .count) (c .before .before .before .before .loop .j) _ l (omega arith) (omega arith) nowhere)
+          (path-at (now (c .before .before .before .before .before .before .before .before .before .args .reply)) (c .before .before .before .before .before .before .before .before .before .args .t4) (c .before .before .before .before .before .before .before .before .before .args .count) (c .before .before .before .before .loop .j) _ nowhere (omega arith) (omega arith))
           (hinted-is (entryAt referrals (c .before .before .before .before .before .before .before .before .before .args .i) (now (c .before .before .before .before .before .before .before .before .before .args .cache))) _ (c .before .before .before .before .before .target .ensures) (c .before .before .before .before .before .before .target-hint .ensures) (omega arith)) (c .before .same-span .ensures) (c .if1 .left),
     )
 
 returns-2 : tie.Need-returns-2 Inv-loop μ-loop
 returns-2 c =
     let l : length (c .before .before .before .before .before .before .args .t4) ≡ 8 = search needs in
-    let m = length-targets (now (c .before .before .before .before .before .before .args .reply)) (c .before .before .before .before .before .before .args .t4) (c .before .before .before .before .before .before .args .count) l (omega arith) in
+    let m = length-shown (heldTarget (now (c .before .before .before .before .before .before .args .reply))) (c .before .before .before .before .before .before .args .t4) (c .before .before .before .before .before .before .args .count) (omega arith) in
     sym (c .before .loop .inv .1 ∙ equal-end _ (map (heldTarget (now (c .before .before .before .before .before .before .args .reply))) (take (c .before .before .before .before .before .before .args .count) (c .before .before .before .before .before .before .args .t4))) _ (omega arith))
 
 pub given-place-spec : {M : Type 1} → statement M

@@ -1,9 +1,9 @@
 use denote.Ref.{now}
 use native.Mathlib.Omega.{arith}
-use Rattle.storing.proofs.WritingLaws.{settings-written}
+use Rattle.entries.proofs.WritingLaws.{settings-written}
 use borrow.Author.Needs.{needs}
-use Rattle.storing.proofs.put_settings.Statement.{statement}
-use Rattle.storing.proofs.put_settings.Tie as tie
+use Rattle.entries.proofs.put_settings.Statement.{statement}
+use Rattle.entries.proofs.put_settings.Tie as tie
 
 flag-unit-requires : tie.Need-flag-unit-requires
 flag-unit-requires c κs = search needs

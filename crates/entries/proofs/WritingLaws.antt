@@ -22,7 +22,7 @@ use Rattle.referral.specs.declared.Kept.{Kept}
 use Rattle.places.specs.Layout.{placeAt, changed, putUnit, putText, putSettings, flagUnit, wideUnits, blank}
 use Rattle.places.proofs.LayoutLaws.{length-place, length-changed, place-changed, changed-again, changed-pasted, changed-none}
 use Rattle.places.proofs.WriterLaws.{length-putUnit, text-put}
-use Rattle.storing.specs.Writing.{addText, addTarget, addTargets, begun, heldTarget, keptFits, settings}
+use Rattle.entries.specs.Writing.{addText, addTarget, addDc, addAll, begun, heldTarget, keptFits, settings}
 
 pub flag-one : (b : Bool) → b ≡ true → 1 ≡ flagUnit b
 unfolding flagUnit
@@ -58,21 +58,21 @@ pub keeps-added : (n : ℕ) (t : List ℕ) → n < 9 → length t ≤ 256 → Ke
 unfolding addText
 keeps-added n t h k = keeps-both (putText n t) (putUnit 9 n) (keeps-text n t h k) (keeps-unit 9 n (omega arith))
 
-pub keeps-target : (n : ℕ) (t : Target) → n < 8 → length (t .path) ≤ 256 → Keeps (addTarget n t)
-unfolding addTarget
-keeps-target n t h k =
-    keeps-both (addText (1 + n) (t .path)) (putUnit (11 + n) (flagUnit (t .opens))) (keeps-added (1 + n) (t .path) (omega arith) k) (keeps-unit (11 + n) _ (omega arith))
-
--- a path that fits its room
+-- a path, and a name, that fits its room
 abbrev pub short : Target → Bool
 short t = leb (length (t .path)) 256
 
-pub keeps-targets : (n : ℕ) (ts : List Target) → n + length ts ≤ 8 → every short ts ≡ true → Keeps (addTargets n ts)
-unfolding addTargets every
-keeps-targets n [] h k q e = e
-keeps-targets n (t ∷ ts) h k q e =
-    keeps-targets (n + 1) ts (omega arith) (and-right (short t) _ k) (addTarget n t q)
-    (keeps-target n t (omega arith) (leb-true _ _ (and-left (short t) _ k)) q e)
+abbrev pub shortName : List ℕ → Bool
+shortName t = leb (length t) 256
+
+pub keeps-target : (n : ℕ) (t : Target) → n < 8 → short t ≡ true → Keeps (addTarget n t)
+unfolding addTarget
+keeps-target n t h k =
+    keeps-both (addText (1 + n) (t .path)) (putUnit (11 + n) (flagUnit (t .opens))) (keeps-added (1 + n) (t .path) (omega arith) (leb-true _ _ k)) (keeps-unit (11 + n) _ (omega arith))
+
+pub keeps-dc : (n : ℕ) (t : List ℕ) → n < 8 → shortName t ≡ true → Keeps (addDc n t)
+unfolding addDc
+keeps-dc n t h k = keeps-added (1 + n) t (omega arith) (leb-true _ _ k)
 
 -- kept targets
 pub kept-inside : (r : List ℕ) (k : Kept) → keptFits r k ≡ true → Inside r (k .path)
@@ -92,23 +92,24 @@ unfolding every
 all-short r [] h = refl
 all-short r (k ∷ ks) h = and-both (held-short r k (and-left (keptFits r k) _ h)) (all-short r ks (and-right (keptFits r k) _ h))
 
--- the kept targets up to a count, one at a time
-module _ (r : List ℕ) (kept : List Kept) (count : ℕ) (n : ℕ) (d : Kept) (long : length kept ≡ 8) (few : count ≤ 8) (more : n < count) where
-  taken-length : length (take count kept) ≡ count
-  taken-length = length-take-le count kept (omega arith)
+-- the first `count` of what was kept, one at a time, and what it shows
+module _ {K : Type 0} (kept : List K) (count n : ℕ) (d : K) (long : count ≤ length kept) (more : n < count) where
+  count-taken : length (take count kept) ≡ count
+  count-taken = length-take-le count kept long
 
-  pub kept-at : every (keptFits r) (take count kept) ≡ true → keptFits r (getD kept n d) ≡ true
-  kept-at h = ap (keptFits r) (sym (getD-take count kept n d more)) ∙ every-at (keptFits r) (take count kept) h n d (omega (arith, taken-length))
+  pub kept-at : (fit : K → Bool) → every fit (take count kept) ≡ true → fit (getD kept n d) ≡ true
+  kept-at fit h = ap fit (sym (getD-take count kept n d more)) ∙ every-at fit (take count kept) h n d (omega (arith, count-taken))
 
-  pub target-at : getD (map (heldTarget r) (take count kept)) n (heldTarget r (getD kept n d)) ≡ heldTarget r (getD kept n d)
-  target-at = getD-map (heldTarget r) (take count kept) n d _ (omega (arith, taken-length)) ∙ ap (heldTarget r) (getD-take count kept n d more)
+  pub shown-at : {A : Type 0} (f : K → A) (z : A) → getD (map f (take count kept)) n z ≡ f (getD kept n d)
+  shown-at f z = getD-map f (take count kept) n d z (omega (arith, count-taken)) ∙ ap f (getD-take count kept n d more)
 
-  pub path-at : (z : Target) → spanned r (getD kept n d .path) ≡ getD (map (heldTarget r) (take count kept)) n z .path
-  unfolding heldTarget
-  path-at z = ap (λ (t : Target). t .path) (sym (getD-map (heldTarget r) (take count kept) n d z (omega (arith, taken-length)) ∙ ap (heldTarget r) (getD-take count kept n d more)))
+pub length-shown : {K A : Type 0} (f : K → A) (kept : List K) (count : ℕ) → count ≤ length kept → length (map f (take count kept)) ≡ count
+length-shown f kept count h = length-map (take count kept) f ∙ length-take-le count kept h
 
-pub length-targets : (r : List ℕ) (kept : List Kept) (count : ℕ) → length kept ≡ 8 → count ≤ 8 → length (map (heldTarget r) (take count kept)) ≡ count
-length-targets r kept count l h = length-map (take count kept) (heldTarget r) ∙ length-take-le count kept (omega arith)
+pub path-at : (r : List ℕ) (kept : List Kept) (count n : ℕ) (d : Kept) (z : Target) → count ≤ length kept → n < count
+    → spanned r (getD kept n d .path) ≡ getD (map (heldTarget r) (take count kept)) n z .path
+unfolding heldTarget
+path-at r kept count n d z h k = ap (λ (t : Target). t .path) (sym (shown-at kept count n d h k (heldTarget r) z))
 
 module _ (raw : List ℕ) (i : ℕ) (fits : i < length raw / 2336) where
   pub whole : (f : List ℕ → List ℕ) → Keeps f → length (f (placeAt i raw)) ≡ 2336
@@ -152,27 +153,31 @@ module _ (raw : List ℕ) (i : ℕ) (fits : i < length raw / 2336) where
   unfolding begun
   entry-begun t a c h = then-changed (λ q. blank) (addText 0 t) keeps-blank (keeps-added 0 t (omega arith) h) a c
 
-  -- a loop that adds targets: one more, and at its end
-  pub targets-more : (all : List Target) (n : ℕ) (t : Target) {o : List ℕ} → n < length all → length all ≤ 8 → every short all ≡ true
-      → getD all n t ≡ t → o ≡ changed i (addTarget n t) raw
-      → changed i (addTargets n (drop n all)) raw ≡ changed i (addTargets (n + 1) (drop (n + 1) all)) o
-  unfolding addTargets
-  targets-more all n t {o} h u k e a =
-      let d : drop n all ≡ t ∷ drop (n + 1) all = drop-cons all n t h ∙ rw (e, add-one n) in
-      let l : length (drop (n + 1) all) ≡ length all - (n + 1) = length-drop (n + 1) all in
-      let s : every short (t ∷ drop (n + 1) all) ≡ true = subst (λ (x : List Target). every short x ≡ true) d (every-drop short n all k) in
-      rw d
-      (sym (changed-again raw i fits (addTarget n t) (whole (addTarget n t) (kt s)) (addTargets (n + 1) (drop (n + 1) all))
-      (keeps-targets (n + 1) (drop (n + 1) all) (omega arith) (every-drop short (n + 1) all k) (addTarget n t (placeAt i raw)) (whole (addTarget n t) (kt s))))
-      ∙ ap (changed i (addTargets (n + 1) (drop (n + 1) all))) (sym a))
-    where
-      cons-short : every short (t ∷ drop (n + 1) all) ≡ true → short t ≡ true
-      cons-short s = every-at short (t ∷ drop (n + 1) all) s 0 t (omega arith)
+-- additions one after another, where one that fits keeps the place whole: a loop that makes them, and its end
+module _ {A : Type 0} (add : ℕ → A → List ℕ → List ℕ) (fit : A → Bool) (keeps : (n : ℕ) (a : A) → n < 8 → fit a ≡ true → Keeps (add n a)) where
+  pub keeps-all : (n : ℕ) (l : List A) → n + length l ≤ 8 → every fit l ≡ true → Keeps (addAll add n l)
+  unfolding addAll every
+  keeps-all n [] h k q e = e
+  keeps-all n (a ∷ l) h k q e =
+      keeps-all (n + 1) l (omega arith) (and-right (fit a) _ k) (add n a q) (keeps n a (omega arith) (and-left (fit a) _ k) q e)
 
-      kt : every short (t ∷ drop (n + 1) all) ≡ true → Keeps (addTarget n t)
-      kt s = keeps-target n t (omega arith) (leb-true _ _ (cons-short s))
+  module _ (raw : List ℕ) (i : ℕ) (fits : i < length raw / 2336) where
+    pub all-more : (all : List A) (n : ℕ) (a : A) {o : List ℕ} → n < length all → length all ≤ 8 → every fit all ≡ true
+        → getD all n a ≡ a → o ≡ changed i (add n a) raw
+        → changed i (addAll add n (drop n all)) raw ≡ changed i (addAll add (n + 1) (drop (n + 1) all)) o
+    unfolding addAll
+    all-more all n a h u k e c =
+        let d : drop n all ≡ a ∷ drop (n + 1) all = drop-cons all n a h ∙ rw (e, add-one n) in
+        let l : length (drop (n + 1) all) ≡ length all - (n + 1) = length-drop (n + 1) all in
+        let w : Keeps (add n a) = keeps n a (omega arith) (ap fit (sym e) ∙ every-at fit all k n a h) in
+        rw d
+        (sym (changed-again raw i fits (add n a) (whole raw i fits (add n a) w) (addAll add (n + 1) (drop (n + 1) all))
+        (keeps-all (n + 1) (drop (n + 1) all) (omega arith) (every-drop fit (n + 1) all k) (add n a (placeAt i raw)) (whole raw i fits (add n a) w)))
+        ∙ ap (changed i (addAll add (n + 1) (drop (n + 1) all))) (sym c))
 
-  pub targets-all : (n : ℕ) (all : List Target) {m : List ℕ} → m ≡ changed i (addTargets n (drop n all)) raw → length all ≤ n → raw ≡ m
-  unfolding addTargets
-  targets-all n all e h =
-      sym (e ∙ (ap (λ (x : List Target). changed i (addTargets n x) raw) (drop-of-length-le all h) ∙ (changed-same (λ q. q) (λ q. placeAt i raw) refl ∙ changed-none raw i fits)))
+    pub all-done : (n : ℕ) (all : List A) {m : List ℕ} → m ≡ changed i (addAll add n (drop n all)) raw → length all ≤ n → raw ≡ m
+    unfolding addAll
+    all-done n all e h =
+        sym
+        (e ∙ (ap (λ (x : List A). changed i (addAll add n x) raw) (drop-of-length-le all h)
+        ∙ (changed-same raw i fits (λ q. q) (λ q. placeAt i raw) refl ∙ changed-none raw i fits)))

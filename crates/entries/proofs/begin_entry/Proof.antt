@@ -2,10 +2,10 @@ use Rattle.spans.proofs.UnitLaws.{length-spanned}
 use Rattle.spans.specs.Spans.{spanned}
 use denote.Ref.{now}
 use native.Mathlib.Omega.{arith}
-use Rattle.storing.proofs.WritingLaws.{entry-begun}
+use Rattle.entries.proofs.WritingLaws.{entry-begun}
 use borrow.Author.Needs.{needs}
-use Rattle.storing.proofs.begin_entry.Statement.{statement}
-use Rattle.storing.proofs.begin_entry.Tie as tie
+use Rattle.entries.proofs.begin_entry.Statement.{statement}
+use Rattle.entries.proofs.begin_entry.Tie as tie
 
 clear-place-requires : tie.Need-clear-place-requires
 clear-place-requires c κs = search needs

@@ -1,6 +1,6 @@
-use Rattle.storing.proofs.WritingLaws.{flag-one, flag-none}
-use Rattle.storing.proofs.flag_unit.Statement.{statement}
-use Rattle.storing.proofs.flag_unit.Tie as tie
+use Rattle.entries.proofs.WritingLaws.{flag-one, flag-none}
+use Rattle.entries.proofs.flag_unit.Statement.{statement}
+use Rattle.entries.proofs.flag_unit.Tie as tie
 
 returns : tie.Need-returns
 returns c = flag-one _ (c .if1 .taken)

@@ -4,10 +4,10 @@ use Rattle.spans.specs.Spans.{spanned}
 use mathlib.Core.Path.{sym}
 use denote.Ref.{now}
 use native.Mathlib.Omega.{arith}
-use Rattle.storing.proofs.WritingLaws.{text-added}
+use Rattle.entries.proofs.WritingLaws.{text-added}
 use borrow.Author.Needs.{needs}
-use Rattle.storing.proofs.add_text.Statement.{statement}
-use Rattle.storing.proofs.add_text.Tie as tie
+use Rattle.entries.proofs.add_text.Statement.{statement}
+use Rattle.entries.proofs.add_text.Tie as tie
 use Rattle.places.proofs.put_unit.Reads as put-unit-reads
 
 mul-at : tie.Need-mul-at

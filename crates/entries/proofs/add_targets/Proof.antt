@@ -1,5 +1,5 @@
-use Rattle.storing.proofs.WritingLaws.{kept-at, target-at, length-targets, all-short, targets-more, targets-all}
-use Rattle.storing.specs.Writing.{addTargets, heldTarget}
+use Rattle.entries.proofs.WritingLaws.{kept-at, shown-at, length-shown, short, keeps-target, all-short, all-more, all-done}
+use Rattle.entries.specs.Writing.{addAll, addTarget, heldTarget, keptFits}
 use Rattle.places.specs.Layout.{changed}
 use denote.Ref.{now}
 use native.Mathlib.Omega.{arith}
@@ -8,14 +8,14 @@ use mathlib.Core.List.{map}
 use mathlib.Core.Path.{_≡_, refl, _∙_}
 use Prim.Native.Nat.{_≤_, _-_}
 use borrow.Author.Needs.{needs}
-use Rattle.storing.proofs.add_targets.Statement.{statement}
-use Rattle.storing.proofs.add_targets.Tie as tie
+use Rattle.entries.proofs.add_targets.Statement.{statement}
+use Rattle.entries.proofs.add_targets.Tie as tie
 
 abbrev Inv-loop : tie.InvT-loop
 Inv-loop cache₀ i reply count kept n₀ cache n =
     (n ≤ count)
     × ((length cache ≡ length cache₀)
-    × (changed i (addTargets 0 (map (heldTarget reply) (take count kept))) cache₀ ≡ changed i (addTargets n (drop n (map (heldTarget reply) (take count kept)))) cache))
+    × (changed i (addAll addTarget 0 (map (heldTarget reply) (take count kept))) cache₀ ≡ changed i (addAll addTarget n (drop n (map (heldTarget reply) (take count kept)))) cache))
 
 abbrev μ-loop : tie.MeasureT-loop
 μ-loop cache₀ i reply count kept n₀ cache n = count - n
@@ -33,7 +33,7 @@ add-target-requires : tie.Need-add-target-requires Inv-loop μ-loop
 add-target-requires c κs =
     let a = c .before .before .before .before .before .before .args in
     let l : length (a .t4) ≡ 8 = search needs in
-    (omega arith, (omega arith, kept-at (now (a .reply)) (a .t4) (a .count) (c .before .before .before .loop .n) _ l (omega arith) (omega arith) (c .before .before .before .before .before .before .pre .1 .1)))
+    (omega arith, (omega arith, kept-at (a .t4) (a .count) (c .before .before .before .loop .n) _ (omega arith) (omega arith) (keptFits (now (a .reply))) (c .before .before .before .before .before .before .pre .1 .1)))
 
 add-n : tie.Need-add-n Inv-loop μ-loop
 add-n c = search needs
@@ -50,11 +50,11 @@ loop-again c =
       (
         omega arith,
         c .before .before .before .before .before .before .loop .inv .1 .1
-            ∙ targets-more (c .before .before .before .before .before .before .loop .cache) (a .i) (omega arith) (map (heldTarget (now (a .reply))) (take (a .count) (a .t4))) n _
-            (omega (arith, length-targets (now (a .reply)) (a .t4) (a .count) l (omega arith)))
-            (omega (arith, length-targets (now (a .reply)) (a .t4) (a .count) l (omega arith)))
+            ∙ all-more addTarget short keeps-target (c .before .before .before .before .before .before .loop .cache) (a .i) (omega arith) (map (heldTarget (now (a .reply))) (take (a .count) (a .t4))) n _
+            (omega (arith, length-shown (heldTarget (now (a .reply))) (a .t4) (a .count) (omega arith)))
+            (omega (arith, length-shown (heldTarget (now (a .reply))) (a .t4) (a .count) (omega arith)))
             (all-short (now (a .reply)) (take (a .count) (a .t4)) (c .before .before .before .before .before .before .before .before .before .pre .1 .1))
-            (target-at (now (a .reply)) (a .t4) (a .count) n _ l (omega arith) (omega arith))
+            (shown-at (a .t4) (a .count) n _ (omega arith) (omega arith) (heldTarget (now (a .reply))) _)
             (c .before .before .add-target .ensures),
       ),
     )
@@ -66,8 +66,8 @@ returns : tie.Need-returns Inv-loop μ-loop
 returns c =
     let a = c .before .before .before .before .args in
     let l : length (a .t4) ≡ 8 = search needs in
-    targets-all (c .before .loop .cache) (a .i) (omega arith) (c .before .loop .n) (map (heldTarget (now (a .reply))) (take (a .count) (a .t4)))
-    (c .before .loop .inv .1 .1) (omega (arith, length-targets (now (a .reply)) (a .t4) (a .count) l (omega arith)))
+    all-done addTarget short keeps-target (c .before .loop .cache) (a .i) (omega arith) (c .before .loop .n) (map (heldTarget (now (a .reply))) (take (a .count) (a .t4)))
+    (c .before .loop .inv .1 .1) (omega (arith, length-shown (heldTarget (now (a .reply))) (a .t4) (a .count) (omega arith)))
 
 pub add-targets-spec : {M : Type 1} → statement M
 add-targets-spec =

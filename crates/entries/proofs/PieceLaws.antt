@@ -12,8 +12,8 @@ use Rattle.places.specs.Layout.{written, flagUnit, putUnit, putText, blank}
 use Rattle.places.proofs.WrittenLaws.{Shaped}
 use Rattle.places.proofs.PutLaws.{put-text, put-mark, put-hint, shape-text, shape-mark, blank-written}
 use Rattle.caches.specs.Entries.{Target}
-use Rattle.storing.specs.Writing.{addText, addTarget, addTargets, begun}
-use Rattle.storing.proofs.WritingLaws.{short}
+use Rattle.entries.specs.Writing.{addText, addTarget, addAll, begun}
+use Rattle.entries.proofs.WritingLaws.{short}
 
 -- the paths of targets, and their boundaries as units
 abbrev pub pathsOf : List Target → List (List ℕ)
@@ -39,9 +39,9 @@ module _ (key : List ℕ) (ps : List (List ℕ)) (hint : ℕ) (ms ss : List ℕ)
 
 pub targets-written : (key : List ℕ) (ps : List (List ℕ)) (hint : ℕ) (ms ss : List ℕ) (n : ℕ) (ts : List Target) → Shaped (key ∷ ps) ms ss
     → length ps ≡ n → length ms ≡ n → n + length ts ≤ 8 → every short ts ≡ true
-    → (addTargets n ts (written (key ∷ ps) hint ms ss) ≡ written (key ∷ (ps ++ pathsOf ts)) hint (ms ++ marksOf ts) ss)
+    → (addAll addTarget n ts (written (key ∷ ps) hint ms ss) ≡ written (key ∷ (ps ++ pathsOf ts)) hint (ms ++ marksOf ts) ss)
     × Shaped (key ∷ (ps ++ pathsOf ts)) (ms ++ marksOf ts) ss
-unfolding addTargets every
+unfolding addAll every
 targets-written key ps hint ms ss n [] h lp lm few k = rw (append-nil ps, append-nil ms) (refl, h)
 targets-written key ps hint ms ss n (t ∷ ts) h lp lm few k =
     let s : length (t .path) ≤ 256 = leb-true _ _ (and-left (short t) _ k) in
@@ -50,7 +50,7 @@ targets-written key ps hint ms ss n (t ∷ ts) h lp lm few k =
     (simp length-append (omega arith)) (simp length-append (omega arith)) (omega arith) (and-right (short t) _ k) in
     let a = append-assoc ps (t .path ∷ []) (pathsOf ts) in
     let b = append-assoc ms (flagUnit (t .opens) ∷ []) (marksOf ts) in (
-      ap (addTargets (n + 1) ts) (target-written key ps hint ms ss n t h lp lm (omega arith) s) ∙ (r .0 ∙ (λ i. written (key ∷ a i) hint (b i) ss)),
+      ap (addAll addTarget (n + 1) ts) (target-written key ps hint ms ss n t h lp lm (omega arith) s) ∙ (r .0 ∙ (λ i. written (key ∷ a i) hint (b i) ss)),
       rw (← a, ← b) (r .1),
     )
 

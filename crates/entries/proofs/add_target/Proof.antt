@@ -1,9 +1,9 @@
 use denote.Ref.{now}
 use native.Mathlib.Omega.{arith}
-use Rattle.storing.proofs.WritingLaws.{kept-inside, kept-short, target-added}
+use Rattle.entries.proofs.WritingLaws.{kept-inside, kept-short, target-added}
 use borrow.Author.Needs.{needs}
-use Rattle.storing.proofs.add_target.Statement.{statement}
-use Rattle.storing.proofs.add_target.Tie as tie
+use Rattle.entries.proofs.add_target.Statement.{statement}
+use Rattle.entries.proofs.add_target.Tie as tie
 
 add-add-text : tie.Need-add-add-text
 add-add-text c = search needs

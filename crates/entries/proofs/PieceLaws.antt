@@ -12,8 +12,8 @@ use Rattle.places.specs.Layout.{written, flagUnit, putUnit, putText, blank}
 use Rattle.places.proofs.WrittenLaws.{Shaped}
 use Rattle.places.proofs.PutLaws.{put-text, put-mark, put-hint, shape-text, shape-mark, blank-written}
 use Rattle.caches.specs.Entries.{Target}
-use Rattle.entries.specs.Writing.{addText, addTarget, addAll, begun}
-use Rattle.entries.proofs.WritingLaws.{short}
+use Rattle.entries.specs.Writing.{addText, addTarget, addDc, addAll, begun}
+use Rattle.entries.proofs.WritingLaws.{short, shortName}
 
 -- the paths of targets, and their boundaries as units
 abbrev pub pathsOf : List Target → List (List ℕ)
@@ -53,6 +53,20 @@ targets-written key ps hint ms ss n (t ∷ ts) h lp lm few k =
       ap (addAll addTarget (n + 1) ts) (target-written key ps hint ms ss n t h lp lm (omega arith) s) ∙ (r .0 ∙ (λ i. written (key ∷ a i) hint (b i) ss)),
       rw (← a, ← b) (r .1),
     )
+
+-- DCs into a place without marks and settings
+pub dcs-written : (key : List ℕ) (ps : List (List ℕ)) (hint n : ℕ) (ts : List (List ℕ)) → Shaped (key ∷ ps) [] [] → length ps ≡ n → n + length ts ≤ 8
+    → every shortName ts ≡ true → addAll addDc n ts (written (key ∷ ps) hint [] []) ≡ written (key ∷ (ps ++ ts)) hint [] []
+unfolding addAll addDc addText every
+dcs-written key ps hint n [] h l few k = rw (append-nil ps)
+dcs-written key ps hint n (t ∷ ts) h l few k =
+    let s : length t ≤ 256 = leb-true _ _ (and-left (shortName t) _ k) in
+    let e : 1 + n ≡ length (key ∷ ps) = omega arith in
+    ap (addAll addDc (n + 1) ts)
+    (ap (λ (x : ℕ). putUnit 9 x (putText x t (written (key ∷ ps) hint [] []))) e ∙ put-text (key ∷ ps) hint [] [] h t (omega arith) s)
+    ∙ (dcs-written key (ps ++ (t ∷ [])) hint (n + 1) ts (shape-text (key ∷ ps) hint [] [] h t (omega arith) s)
+    (simp length-append (omega arith)) (omega arith) (and-right (shortName t) _ k)
+    ∙ ap (λ (x : List (List ℕ)). written (key ∷ x) hint [] []) (append-assoc ps (t ∷ []) ts))
 
 -- a place with its key alone
 pub key-shape : (key : List ℕ) → length key ≤ 256 → Shaped (key ∷ []) [] []

@@ -1,0 +1,2 @@
+-- Document 01: DC and domain replies into the domain cache.
+pub mod Domains

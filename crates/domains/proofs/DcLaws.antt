@@ -1,13 +1,12 @@
 -- Laws of a DC reply stored into its domain entry.
 use mathlib.Core.Path.{_≡_, refl, sym, ap, _∙_}
-use mathlib.Core.Bool.{Bool, true, false, _&&_}
+use mathlib.Core.Bool.{true}
 use mathlib.Core.List.{List, [], _∷_, map}
 use mathlib.Core.Logic.{inl}
-use Prim.Native.Nat.{ℕ, _+_, _*_, _/_, _≤_, _<_}
+use Prim.Native.Nat.{ℕ, _+_, _/_, _≤_, _<_}
 use native.Mathlib.Omega.{arith}
 use lib.ListN.{length, getD, take, set, length-map, length-take}
 use lib.Seq.{getD-set-other}
-use lib.Dec.{leb}
 use borrow.Author.Tests.{leb-true, le-leb}
 use Rattle.laws.specs.Lists.{every}
 use Rattle.laws.proofs.Choices.{and-left, and-right, and-both}
@@ -17,15 +16,15 @@ use Rattle.unc.specs.Names.{goodName}
 use Rattle.spans.specs.Spans.{spanned, Inside}
 use Rattle.spans.specs.declared.Span.{Span}
 use Rattle.spans.proofs.UnitLaws.{length-spanned}
-use Rattle.places.specs.Layout.{placeAt, changed, written, keyOnly}
+use Rattle.places.specs.Layout.{changed, written, keyOnly}
 use Rattle.places.proofs.LayoutLaws.{changed-step}
-use Rattle.places.proofs.WrittenLaws.{Shaped, length-written}
+use Rattle.places.proofs.WrittenLaws.{length-written}
 use Rattle.places.proofs.PutLaws.{key-only}
 use Rattle.caches.specs.Entries.{Domain, Place, free, used}
 use Rattle.caches.specs.Order.{goodDomain, goodDCHint}
 use Rattle.caches.specs.Memory.{domains, domainUnits, decode, encode, inOrder, pieceOf, goodPlace}
 use Rattle.caches.proofs.MemoryLaws.{cache-told, order-good, length-decode, decode-encode, changed-encode}
-use Rattle.caches.proofs.KindLaws.{GoodDomain, domain-told, good-domain, domain-shape, domains-lawful, name-short}
+use Rattle.caches.proofs.KindLaws.{domain-told, good-domain, domain-shape, domains-lawful, name-short}
 use Rattle.caches.proofs.PlaceLaws.{hint-good}
 use Rattle.lookup.specs.Lookup.{entryAt, withKey}
 use Rattle.lookup.specs.declared.Found.the-variants.{At}

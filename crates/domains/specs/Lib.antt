@@ -1,2 +1,3 @@
 -- Document 01: DC and domain replies into the domain cache.
 pub mod Domains
+pub mod Gathering

@@ -1,18 +1,48 @@
-// DC and domain replies into the domain cache: document 01, "Layouts".
+// DC and domain replies into the domain cache: document 01, "Layouts" and "Numbers given back".
 ghost use mathlib.Core.Path.{_≡_};
 ghost use mathlib.Core.Bool.{true};
-ghost use mathlib.Core.List.{map};
+ghost use mathlib.Core.List.{[], map};
 ghost use Prim.Native.Nat.{_/_, _≤_, _<_};
 ghost use lib.ListN.{length, take};
 ghost use Rattle.laws.specs.Lists.{every};
-ghost use Rattle.spans.specs.Spans.{spanned};
+ghost use Rattle.spans.specs.Spans.{spanned, Inside};
 ghost use Rattle.places.specs.Layout.{changed};
-ghost use Rattle.caches.specs.Memory.{domains, decode, encode};
+ghost use Rattle.caches.specs.Memory.{domains, rightSize, decode, encode};
+ghost use Rattle.referral.specs.Found.{asked, bufferWith};
+ghost use Rattle.referral.specs.Replies.{entries, says};
+ghost use Rattle.namelists.specs.NameLists.{domainAt};
 ghost use Rattle.entries.specs.Writing.{addAll, addDc};
-ghost use Rattle.storing.specs.Stored.{dcsStored};
-ghost use Rattle.domains.specs.Domains.{nameFits, DomainAt, StorableDcs};
+ghost use Rattle.storing.specs.Stored.{dcsStored, domainPlaces};
+ghost use Rattle.domains.specs.Domains.{nameFits, DomainAt, StorableDcs, refusalNumber, namesNumber, domainsNumber, cacheAfter, domainsAfter, askedNumber, requestNumber};
+ghost use Rattle.domains.specs.Gathering.{isNew, Fit, Added, WellFormed, Gathered};
 use namelists::DcsFound;
+use places::PLACE;
+use referral::Answer;
+use referral::Asked;
 use spans::Span;
+
+// The least and the most bytes of a reply that may be asked for.
+const LEAST_SIZE: u32 = 1024;
+
+const MOST_SIZE: u32 = 57344;
+
+// One name more than a cache has places.
+const NAMES: usize = 33;
+
+// What reading a domain reply answers.
+pub enum DomainsRead {
+    Done,
+    BadSize,
+    NotInOrder,
+    TooMany,
+    Unreadable,
+}
+
+// Different names of a domain reply, as spans of it: the first `count` of `kept`.
+struct Names {
+    kept: [Span; 33],
+    count: usize,
+}
 
 // The DCs of the reply into place i, which has none.
 fn add_dcs(cache: &mut [u16], i: usize, reply: &[u8], kept: [Span; 8], count: usize)
@@ -36,4 +66,124 @@ pub fn store_dcs(cache: &mut [u16], i: usize, reply: &[u8], found: DcsFound)
     let count = found.count;
     places::keep_key(cache, i);
     add_dcs(cache, i, reply, kept, count);
+}
+
+// Whether no name of those kept is equal to this one.
+fn is_new(reply: &[u8], kept: [Span; 33], count: usize, s: Span) -> bool
+    requires { ⌜ (count ≤ 33) × ((every (nameFits (now reply)) (take count kept) ≡ true) × Inside (now reply) s) ⌝ }
+    ensures { λ r. ⌜ r ≡ isNew (map (spanned (now (reply .entry))) (take count kept)) (spanned (now (reply .entry)) s) ⌝ }
+{
+    let mut j = 0;
+    while j < count {
+        let k = kept[j];
+        if spans::same_spans(reply, k, s) {
+            return false;
+        }
+        j += 1;
+    }
+    true
+}
+
+// The names with one more, if it is new.
+fn add_once(reply: &[u8], names: Names, s: Span) -> Names
+    requires { ⌜ (names .count < 33) × (Fit (now reply) names × (nameFits (now reply) s ≡ true)) ⌝ }
+    ensures { λ v. ⌜ Added (now (reply .entry)) names s v ⌝ }
+{
+    let mut kept = names.kept;
+    let count = names.count;
+    if !is_new(reply, kept, count, s) {
+        return names;
+    }
+    kept[count] = s;
+    Names {
+        kept,
+        count: count + 1,
+    }
+}
+
+// The different names of a well-formed domain reply, 33 at most: in reply order, each in its first spelling.
+fn gather(reply: &[u8]) -> Names
+    requires { ⌜ WellFormed (now reply) ⌝ }
+    ensures { λ v. ⌜ Gathered (now (reply .entry)) v ⌝ }
+{
+    let n = spans::unit_at(reply, 2) as usize;
+    let mut names = Names {
+        kept: [Span { from: 0, units: 0 }; 33],
+        count: 0,
+    };
+    let mut e = 8;
+    let mut i = 0;
+    while i < n {
+        if names.count == NAMES {
+            return names;
+        }
+        let s = namelists::domain_at(reply, e);
+        names = add_once(reply, names, s);
+        e = referral::next_entry(reply, e);
+        i += 1;
+    }
+    names
+}
+
+// The names into the first places of a cache; every other place becomes free.
+fn put_domains(cache: &mut [u16], reply: &[u8], kept: [Span; 33], count: usize)
+    requires { ⌜ (rightSize (now cache) ≡ true) × ((count ≤ length (now cache) / 2336) × (every (nameFits (now reply)) (take count kept) ≡ true)) ⌝ }
+    ensures { λ r. ⌜ now (cache .exit) ≡ encode domains (domainPlaces (length (now (cache .entry)) / 2336) (map (spanned (now (reply .entry))) (take count kept))) ⌝ }
+{
+    let units = cache.len();
+    rooms::clear_units(cache, 0, units);
+    let mut i = 0;
+    while i < count {
+        let s = kept[i];
+        entries::add_text(cache, i, 0, reply, s);
+        i += 1;
+    }
+}
+
+// A well-formed domain reply into a cache, if it has places enough. Nothing is written before its different names are counted.
+fn replace(reply: &[u8], cache: &mut [u16]) -> DomainsRead
+    requires { ⌜ WellFormed (now reply) × (rightSize (now cache) ≡ true) ⌝ }
+    ensures answer { λ v. ⌜ refusalNumber v ≡ namesNumber (length (now (cache .entry)) / 2336) (says (map (domainAt (now (reply .entry))) (entries (now (reply .entry))))) ⌝ }
+    ensures cache { λ v. ⌜ now (cache .exit) ≡ cacheAfter (refusalNumber v) (map (domainAt (now (reply .entry))) (entries (now (reply .entry)))) (now (cache .entry)) ⌝ }
+{
+    let names = gather(reply);
+    let kept = names.kept;
+    let count = names.count;
+    if cache.len() / PLACE < count {
+        return DomainsRead::TooMany;
+    }
+    put_domains(cache, reply, kept, count);
+    DomainsRead::Done
+}
+
+// A domain reply replaces the domain cache. A refusal changes nothing.
+pub fn read_domains(reply: &[u8], size: u32, cache: &mut [u16]) -> DomainsRead
+    ensures answer { λ v. ⌜ refusalNumber v ≡ domainsNumber size (now (reply .entry)) (now (cache .entry)) ⌝ }
+    ensures cache { λ v. ⌜ now (cache .exit) ≡ domainsAfter size (now (reply .entry)) (now (cache .entry)) ⌝ }
+{
+    if !caches::right_size(cache) {
+        return DomainsRead::NotInOrder;
+    }
+    if size < LEAST_SIZE {
+        return DomainsRead::BadSize;
+    }
+    if MOST_SIZE < size {
+        return DomainsRead::BadSize;
+    }
+    let a = namelists::read_domains(reply, size);
+    match a {
+        Answer::Malformed => DomainsRead::Unreadable,
+        Answer::Nothing => DomainsRead::Unreadable,
+        Answer::Says => replace(reply, cache),
+    }
+}
+
+// The request for domains, whose name is empty, into a lent buffer.
+pub fn domain_request(out: &mut [u8]) -> Asked
+    ensures number { λ v. ⌜ askedNumber v ≡ requestNumber (length (now (out .entry))) ⌝ }
+    ensures answer { λ v. ⌜ v ≡ asked (length (now (out .entry))) [] ⌝ }
+    ensures buffer { λ v. ⌜ now (out .exit) ≡ bufferWith [] (now (out .entry)) ⌝ }
+{
+    let none: [u16; 0] = [];
+    referral::request(&none, out)
 }

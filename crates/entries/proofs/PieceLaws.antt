@@ -1,16 +1,16 @@
 -- Laws of the writers on one place: what they write is `written` of the texts, hint, boundaries and settings of an entry.
-use mathlib.Core.Path.{_≡_, refl, sym, ap, _∙_}
-use mathlib.Core.Bool.{Bool, true}
+use mathlib.Core.Path.{_≡_, refl, ap, _∙_}
+use mathlib.Core.Bool.{true}
 use mathlib.Core.List.{List, [], _∷_, _++_, map, append-assoc, append-nil}
-use Prim.Native.Nat.{ℕ, suc, _+_, _≤_, _<_}
+use Prim.Native.Nat.{ℕ, _+_, _≤_, _<_}
 use native.Mathlib.Omega.{arith}
 use lib.ListN.{length, length-append}
 use borrow.Author.Tests.{leb-true}
-use Rattle.laws.specs.Lists.{every, pasted}
+use Rattle.laws.specs.Lists.{every}
 use Rattle.laws.proofs.Choices.{and-left, and-right}
-use Rattle.places.specs.Layout.{written, flagUnit, putUnit, putText, blank}
+use Rattle.places.specs.Layout.{written, flagUnit, putUnit, putText}
 use Rattle.places.proofs.WrittenLaws.{Shaped}
-use Rattle.places.proofs.PutLaws.{put-text, put-mark, put-hint, shape-text, shape-mark, blank-written}
+use Rattle.places.proofs.PutLaws.{put-text, put-mark, shape-text, shape-mark, blank-written}
 use Rattle.caches.specs.Entries.{Target}
 use Rattle.entries.specs.Writing.{addText, addTarget, addDc, addAll, begun}
 use Rattle.entries.proofs.WritingLaws.{short, shortName}

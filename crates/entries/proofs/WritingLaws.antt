@@ -1,10 +1,10 @@
 -- Laws of writing an entry into its place.
-use mathlib.Core.Path.{_≡_, refl, sym, ap, _∙_, subst}
+use mathlib.Core.Path.{_≡_, refl, sym, ap, _∙_}
 use mathlib.Core.Bool.{Bool, true, false}
 use mathlib.Core.List.{List, [], _∷_, _++_, map}
 use Prim.Native.Nat.{ℕ, _+_, _-_, _*_, _/_, _≤_, _<_}
 use native.Mathlib.Omega.{arith}
-use lib.ListN.{length, length-map, getD, take, drop, replicate, length-replicate, length-drop, drop-of-length-le}
+use lib.ListN.{length, length-map, getD, take, drop, length-drop, drop-of-length-le}
 use lib.Seq.{drop-cons, getD-take, length-take-le}
 use lib.Dec.{leb}
 use borrow.Author.Tests.{leb-true, le-leb}
@@ -13,14 +13,14 @@ use Rattle.laws.specs.Lists.{pasted, roomed, every}
 use Rattle.laws.proofs.Choices.{choose-yes, choose-no, and-left, and-right, and-both}
 use Rattle.laws.proofs.Every.{every-drop, every-at}
 use Rattle.laws.proofs.Listed.{getD-map}
-use Rattle.laws.proofs.Pasting.{length-pasted, pasted-join, length-roomed}
+use Rattle.laws.proofs.Pasting.{length-pasted, length-roomed}
 use Rattle.spans.specs.Spans.{spanned, Inside}
 use Rattle.spans.proofs.UnitLaws.{length-spanned}
 use Rattle.caches.specs.Entries.{Target}
 use Rattle.caches.proofs.MemoryLaws.{length-blank}
 use Rattle.referral.specs.declared.Kept.{Kept}
 use Rattle.places.specs.Layout.{placeAt, changed, putUnit, putText, putSettings, flagUnit, wideUnits, blank}
-use Rattle.places.proofs.LayoutLaws.{length-place, length-changed, place-changed, changed-again, changed-pasted, changed-none}
+use Rattle.places.proofs.LayoutLaws.{length-place, length-changed, changed-again, changed-none}
 use Rattle.places.proofs.WriterLaws.{length-putUnit, text-put}
 use Rattle.entries.specs.Writing.{addText, addTarget, addDc, addAll, begun, heldTarget, keptFits, settings}
 

@@ -1,15 +1,14 @@
 -- Laws of an entry written anew in its place: by its settings, by its hint, or whole.
 use mathlib.Core.Path.{_≡_, refl, sym, ap, _∙_}
-use mathlib.Core.Bool.{Bool, true}
-use mathlib.Core.List.{List, [], _∷_, _++_, map}
-use Prim.Native.Nat.{ℕ, _+_, _≤_}
+use mathlib.Core.Bool.{true}
+use mathlib.Core.List.{List, [], _∷_}
+use Prim.Native.Nat.{ℕ, _≤_}
 use native.Mathlib.Omega.{arith}
 use lib.ListN.{length}
 use borrow.Author.Tests.{le-leb}
 use Rattle.laws.specs.Lists.{every}
 use Rattle.laws.proofs.Choices.{and-left, and-right, and-both}
-use Rattle.places.specs.Layout.{written, flagUnit, wideUnits, putUnit, putSettings, keyOnly}
-use Rattle.places.proofs.WrittenLaws.{Shaped}
+use Rattle.places.specs.Layout.{written, putUnit, putSettings, keyOnly}
 use Rattle.places.proofs.PutLaws.{put-hint, put-settings, key-only}
 use Rattle.caches.specs.Entries.{Target, Referral}
 use Rattle.caches.specs.Order.{goodPrefix, goodTarget, goodReferral}

@@ -1,5 +1,5 @@
 -- Laws of an entry refreshed in its place.
-use mathlib.Core.Path.{_≡_, refl, sym, ap, _∙_, subst}
+use mathlib.Core.Path.{_≡_, refl, sym, ap, _∙_}
 use mathlib.Core.Bool.{Bool, true, false}
 use mathlib.Core.List.{List, [], _∷_, map}
 use mathlib.Core.Logic.{_⊎_, inl, inr}
@@ -7,17 +7,16 @@ use Prim.Native.Nat.{ℕ, zero, suc, _+_, _/_, _≤_, _<_}
 use native.Mathlib.Omega.{arith}
 use lib.ListN.{length, take, replicate, length-replicate}
 use Rattle.laws.specs.Choice.{choose}
-use Rattle.laws.specs.Lists.{every, pasted}
+use Rattle.laws.specs.Lists.{pasted}
 use Rattle.laws.proofs.Choices.{choose-yes, choose-no}
 use Rattle.laws.proofs.Orders.{told}
 use Rattle.unc.specs.Names.{sameName}
 use Rattle.places.specs.Layout.{placeAt, changed, putUnit, putSettings, keyOnly}
-use Rattle.places.proofs.LayoutLaws.{length-place, place-changed, length-changed}
+use Rattle.places.proofs.LayoutLaws.{place-changed, length-changed}
 use Rattle.caches.specs.Entries.{Target, Referral}
 use Rattle.caches.specs.Order.{goodReferral}
 use Rattle.caches.specs.Memory.{referrals, referralUnits, referralOf}
-use Rattle.caches.proofs.MemoryLaws.{Lawful}
-use Rattle.caches.proofs.KindLaws.{GoodReferral, referral-told, good-referral, referrals-lawful}
+use Rattle.caches.proofs.KindLaws.{referral-told, good-referral, referrals-lawful}
 use Rattle.lookup.specs.Lookup.{entryAt}
 use Rattle.referral.specs.Replies as replies
 use Rattle.equivalence.specs.Equivalence.{equivalent}

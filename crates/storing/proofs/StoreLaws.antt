@@ -5,11 +5,10 @@ use mathlib.Core.List.{List, [], _∷_, map}
 use Prim.Native.Nat.{ℕ, _+_, _/_, _≤_, _<_}
 use native.Mathlib.Omega.{arith}
 use lib.ListN.{length, take, length-map, length-take}
-use Rattle.laws.specs.Lists.{every}
 use Rattle.places.specs.Layout.{placeAt, changed, putSettings}
 use Rattle.spans.specs.Spans.{spanned}
 use Rattle.spans.proofs.UnitLaws.{length-spanned}
-use Rattle.caches.specs.Entries.{Target, Referral}
+use Rattle.caches.specs.Entries.{Target}
 use Rattle.caches.specs.Order.{goodReferral}
 use Rattle.caches.specs.Memory.{referralUnits}
 use Rattle.caches.proofs.KindLaws.{GoodReferral, referral-told, prefix-short}

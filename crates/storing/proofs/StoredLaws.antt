@@ -1,23 +1,22 @@
 -- Laws of the cache after a store: the place, the entry, and that the cache stays in order.
-use mathlib.Core.Path.{_≡_, refl, sym, ap, _∙_, subst}
+use mathlib.Core.Path.{_≡_, refl, sym, ap, _∙_}
 use mathlib.Core.Bool.{Bool, true, false}
-use mathlib.Core.List.{List, [], _∷_, map}
+use mathlib.Core.List.{List, [], _∷_}
 use mathlib.Core.Logic.{_⊎_, inl, inr}
-use mathlib.Core.Option.{Option, none, some}
-use Prim.Native.Nat.{ℕ, _+_, _*_, _/_, _≤_, _<_}
-use native.Mathlib.Omega.{arith}
+use mathlib.Core.Option.{some}
+use Prim.Native.Nat.{ℕ, _+_, _*_, _/_, _<_}
 use lib.ListN.{length, getD, take, set}
 use lib.Dec.{leb}
 use Rattle.laws.specs.Lists.{every}
 use Rattle.laws.proofs.Choices.{and-left, and-right, and-both}
 use Rattle.laws.proofs.Orders.{told}
-use Rattle.places.specs.Layout.{placeAt, changed, placeCount}
+use Rattle.places.specs.Layout.{changed}
 use Rattle.spans.specs.Spans.{spanned}
-use Rattle.caches.specs.Entries.{Target, Referral, Place, free, used}
+use Rattle.caches.specs.Entries.{Referral, Place, free, used}
 use Rattle.caches.specs.Order.{goodReferral}
 use Rattle.caches.specs.Memory.{referrals, referralUnits, decode, encode, inOrder, pieceOf, goodPlace}
-use Rattle.caches.proofs.MemoryLaws.{Lawful, RightSize, GoodCache, cache-told, order-good, length-decode, changed-encode}
-use Rattle.caches.proofs.KindLaws.{GoodReferral, referral-told, referrals-lawful}
+use Rattle.caches.proofs.MemoryLaws.{cache-told, order-good, length-decode, changed-encode}
+use Rattle.caches.proofs.KindLaws.{referral-told, referrals-lawful}
 use Rattle.lookup.specs.Lookup.{entryAt, withKey, newPlace, foundOr}
 use Rattle.lookup.specs.declared.Found.{Found}
 use Rattle.lookup.specs.declared.Found.the-variants.{At, Nothing}
@@ -30,11 +29,10 @@ use Rattle.referral.specs.Replies as replies
 use Rattle.referral.specs.Found.{referralShown, keptInside, inside}
 use Rattle.referral.specs.declared.Kept.{Kept}
 use Rattle.referral.specs.declared.ReferralFound.{ReferralFound}
-use Rattle.storing.specs.Stored.{targetsIn, targetsAfter, firstEqual, hinted, failedBack, refreshed, fresh, stored, storedEntry, storePlace, prefixed, held, heldAt}
+use Rattle.storing.specs.Stored.{targetsIn, hinted, refreshed, fresh, stored, storedEntry, storePlace, prefixed, held, heldAt}
 use Rattle.entries.specs.Writing.{keptFits}
 use Rattle.storing.specs.Writing.{Storable, Held}
 use Rattle.storing.proofs.StoreLaws.{fresh-good}
-use Rattle.storing.proofs.EntryLaws.{withHint}
 use Rattle.storing.proofs.RefreshLaws.{based, hint-good, back-within, first-within, held-good, given-good, refreshed-held, refreshed-given}
 
 -- kept targets that fit lie inside the reply

@@ -1,4 +1,3 @@
-use lib.ListN.{length}
 use Rattle.spans.proofs.UnitLaws.{length-spanned}
 use Rattle.spans.specs.Spans.{spanned}
 use mathlib.Core.Path.{sym}

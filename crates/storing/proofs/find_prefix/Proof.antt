@@ -1,4 +1,4 @@
-use lib.ListN.{length, take}
+use lib.ListN.{length}
 use Prim.Native.Nat.{_≤_, _-_, _/_}
 use mathlib.Core.Path.{_≡_, sym, _∙_}
 use native.Mathlib.Omega.{arith}

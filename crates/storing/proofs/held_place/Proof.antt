@@ -3,7 +3,7 @@ use Rattle.storing.specs.Stored.{firstEqual, hinted}
 use Rattle.lookup.specs.Lookup.{entryAt}
 use Rattle.caches.specs.Memory.{referrals}
 use denote.Ref.{now}
-use lib.ListN.{length, drop, take}
+use lib.ListN.{length, drop}
 use Prim.Native.Nat.{_≤_, _-_}
 use mathlib.Core.Path.{_≡_, refl, sym, _∙_}
 use native.Mathlib.Omega.{arith}

@@ -4,7 +4,6 @@ use mathlib.Core.Bool.{not}
 use Rattle.lookup.specs.Lookup.{entryAt}
 use Rattle.caches.specs.Memory.{referrals}
 use denote.Ref.{now}
-use lib.ListN.{take}
 use Prim.Native.Nat.{_≤_, _-_}
 use mathlib.Core.Path.{_≡_, sym, _∙_}
 use native.Mathlib.Omega.{arith}

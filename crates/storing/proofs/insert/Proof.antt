@@ -1,4 +1,3 @@
-use lib.ListN.{length}
 use denote.Ref.{now}
 use native.Mathlib.Omega.{arith}
 use Rattle.storing.proofs.StoreLaws.{prefix-fits, inserted}

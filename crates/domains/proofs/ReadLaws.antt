@@ -1,0 +1,205 @@
+-- Laws of reading a domain reply: the number of each way, and the cache after it.
+use mathlib.Core.Path.{_≡_, refl, sym, ap, _∙_}
+use mathlib.Core.Bool.{Bool, true, false}
+use mathlib.Core.List.{List, [], _∷_, map}
+use mathlib.Core.Logic.{_⊎_, inl, inr}
+use Prim.Native.Nat.{ℕ, _/_, _≤_, _<_, min}
+use native.Mathlib.Omega.{arith}
+use lib.ListN.{length, length-map, length-take}
+use lib.Seq.{take-all}
+use lib.Dec.{leb, eqb}
+use borrow.Author.Tests.{leb-true, le-leb, lt-leb, ne-eqb}
+use Rattle.laws.specs.Choice.{choose}
+use Rattle.laws.specs.Lists.{every}
+use Rattle.laws.proofs.Choices.{choose-yes, choose-no, and-left, and-right, and-both, and-no-left, and-no-right}
+use Rattle.laws.proofs.Orders.{told}
+use Rattle.laws.proofs.Tests.{eq-or-ne}
+use Rattle.unc.specs.Names.{goodName}
+use Rattle.places.specs.Layout.{placeCount}
+use Rattle.caches.specs.Memory.{domains, rightSize, encode, inOrder}
+use Rattle.caches.proofs.MemoryLaws.{RightSize, size-told}
+use Rattle.referral.specs.Replies.{Reply, malformed, nothing, says, entries, versionAt, entryFlag, fits}
+use Rattle.referral.specs.declared.Answer.{Answer}
+use Rattle.referral.specs.declared.Answer.the-variants.{Malformed, Nothing, Says}
+use Rattle.namelists.specs.NameLists.{readDomains, domainAt, goodDomain}
+use Rattle.namelists.specs.Found.{answerOf}
+use Rattle.namelists.proofs.SaysLaws.{SoundDomains, says-domains, domain-name-good}
+use Rattle.storing.specs.Stored.{once, domainPlaces}
+use Rattle.domains.specs.Domains.{refusalNumber, goodSize, namesNumber, domainsNumber, namesIn, cacheAfter, domainsAfter}
+use Rattle.domains.specs.Gathering.{shown, WellFormed, Gathered}
+use Rattle.domains.specs.declared.Names.{Names}
+use Rattle.domains.proofs.OnceLaws.{once-every, once-distinct}
+use Rattle.domains.proofs.NamesLaws.{names-in-order}
+use Rattle.domains.specs.declared.DomainsRead.{DomainsRead}
+use Rattle.domains.specs.declared.DomainsRead.the-variants.{Done, NotInOrder, BadSize, TooMany, Unreadable}
+
+-- the cache after any number but 0, and after 0
+unchanged : (n : ℕ) (names : List (List ℕ)) (raw : List ℕ) → (n ≡ 0 → ⊥) → raw ≡ cacheAfter n names raw
+unfolding cacheAfter
+unchanged n names raw h = sym (choose-no (encode domains (domainPlaces (placeCount raw) (once names))) raw (ne-eqb n 0 h))
+
+replaced : (names : List (List ℕ)) (raw : List ℕ) → encode domains (domainPlaces (placeCount raw) (once names)) ≡ cacheAfter 0 names raw
+unfolding cacheAfter
+replaced names raw = sym (choose-yes (encode domains (domainPlaces (placeCount raw) (once names))) raw refl)
+
+-- sizes
+pub size-small : (size : ℕ) → size < 1024 → goodSize size ≡ false
+unfolding goodSize
+size-small size h = and-no-left (leb size 57344) (lt-leb 1024 size h)
+
+pub size-large : (size : ℕ) → 57344 < size → goodSize size ≡ false
+unfolding goodSize
+size-large size h = and-no-right (leb 1024 size) (lt-leb size 57344 h)
+
+pub size-fine : (size : ℕ) → 1024 ≤ size → size ≤ 57344 → goodSize size ≡ true
+unfolding goodSize
+size-fine size h k = and-both {a = leb 1024 size} (le-leb 1024 size h) (le-leb size 57344 k)
+
+-- a well-formed reply, its names gathered
+module _ (r : List ℕ) (v : Names) (g : Gathered r v) (raw : List ℕ) (right : rightSize raw ≡ true) where
+  names : List (List ℕ)
+  names = map (domainAt r) (entries r)
+
+  counted : v .count ≡ min 33 (length (once names))
+  unfolding names
+  counted =
+      let room : length (v .kept) ≡ 33 = g .fit .room in
+      let few : v .count ≤ 33 = g .fit .few in
+      let l : length (shown r v) ≡ v .count = simp (length-map, length-take) (omega arith) in
+      sym l ∙ (ap length (g .are) ∙ length-take 33 (once names))
+
+  pub too-many : length raw / 2336 < v .count
+      → (refusalNumber TooMany ≡ namesNumber (length raw / 2336) (says (map (domainAt r) (entries r)))) × (raw ≡ cacheAfter (refusalNumber TooMany) (map (domainAt r) (entries r)) raw)
+  unfolding names namesNumber refusalNumber
+  too-many h =
+      let u : length raw / 2336 < length (once names) = omega (arith, counted) in
+      (sym (choose-no 0 6 (lt-leb (length (once names)) (length raw / 2336) u)), unchanged 6 names raw (λ z. omega arith))
+
+  pub all-placed : v .count ≤ length raw / 2336 → {o : List ℕ} → o ≡ encode domains (domainPlaces (length raw / 2336) (shown r v))
+      → (refusalNumber Done ≡ namesNumber (length raw / 2336) (says (map (domainAt r) (entries r)))) × (o ≡ cacheAfter (refusalNumber Done) (map (domainAt r) (entries r)) raw)
+  unfolding names namesNumber refusalNumber
+  all-placed h e =
+      let most : length raw / 2336 ≤ 32 = size-told raw right .most in
+      let u : length (once names) ≤ length raw / 2336 = omega (arith, counted) in (
+        sym (choose-yes 0 6 (le-leb (length (once names)) (length raw / 2336) u)),
+        e ∙ (ap (λ (x : List (List ℕ)). encode domains (domainPlaces (length raw / 2336) x)) (g .are ∙ take-all 33 (once names) (omega arith)) ∙ replaced names raw),
+      )
+
+-- the ways of the whole call
+unread : (places : ℕ) (x : Reply (List (List ℕ))) → (Says ≡ answerOf x → ⊥) → namesNumber places x ≡ 7
+unfolding namesNumber answerOf
+unread places malformed h = refl
+unread places nothing h = refl
+unread places (says ns) h = absurd (h refl)
+
+module _ (size : ℕ) (r raw : List ℕ) where
+  refused : (n : ℕ) → n ≡ domainsNumber size r raw → (n ≡ 0 → ⊥) → (n ≡ domainsNumber size r raw) × (raw ≡ domainsAfter size r raw)
+  unfolding domainsAfter
+  refused n e h = (e, unchanged (domainsNumber size r raw) (namesIn (readDomains size r)) raw (λ z. h (e ∙ z)))
+
+  pub not-in-order : {b : Bool} → b ≡ rightSize raw → b ≡ false → (refusalNumber NotInOrder ≡ domainsNumber size r raw) × (raw ≡ domainsAfter size r raw)
+  unfolding refusalNumber domainsNumber
+  not-in-order e h = refused 4 (sym (choose-no _ 4 (sym e ∙ h))) (λ z. omega arith)
+
+  module _ (right : rightSize raw ≡ true) where
+    pub bad-size : goodSize size ≡ false → (refusalNumber BadSize ≡ domainsNumber size r raw) × (raw ≡ domainsAfter size r raw)
+    unfolding refusalNumber domainsNumber
+    bad-size h = refused 3 (sym (choose-yes _ 4 right ∙ choose-no _ 3 h)) (λ z. omega arith)
+
+    module _ (fine : goodSize size ≡ true) where
+      number-is : domainsNumber size r raw ≡ namesNumber (placeCount raw) (readDomains size r)
+      unfolding domainsNumber
+      number-is = choose-yes _ 4 right ∙ choose-yes _ 3 fine
+
+      pub unreadable : {a : Answer} → a ≡ answerOf (readDomains size r) → (a ≡ Says → ⊥) → (refusalNumber Unreadable ≡ domainsNumber size r raw) × (raw ≡ domainsAfter size r raw)
+      unfolding refusalNumber
+      unreadable e h = refused 7 (sym (number-is ∙ unread (placeCount raw) (readDomains size r) (λ z. h (e ∙ sym z)))) (λ z. omega arith)
+
+      module _ {a : Answer} (e : a ≡ answerOf (readDomains size r)) (h : a ≡ Says) where
+        sound : SoundDomains size r
+        sound = says-domains size r (sym h ∙ e)
+
+        pub well-formed : size < 4294967296 → WellFormed r
+        well-formed u =
+            let l : length r ≤ size = sound .within in
+            record { header = sound .header; short = omega arith; good = sound .good }
+
+        pub was-read : (v : DomainsRead) {o : List ℕ} → refusalNumber v ≡ namesNumber (placeCount raw) (says (map (domainAt r) (entries r)))
+            → o ≡ cacheAfter (refusalNumber v) (map (domainAt r) (entries r)) raw → (refusalNumber v ≡ domainsNumber size r raw) × (o ≡ domainsAfter size r raw)
+        unfolding domainsAfter namesIn
+        was-read v p q =
+            let n : refusalNumber v ≡ domainsNumber size r raw = p ∙ (ap (namesNumber (placeCount raw)) (sym (sound .is)) ∙ sym number-is) in
+            (n, q ∙ (λ i. cacheAfter (n i) (namesIn (sym (sound .is) i)) raw))
+
+-- an answer is one of three
+pub malformed-says : {a : Answer} → a ≡ Malformed → a ≡ Says → ⊥
+malformed-says h k = let z : _≡_ {A = ℕ} 0 1 = cc in omega arith
+
+pub nothing-says : {a : Answer} → a ≡ Nothing → a ≡ Says → ⊥
+nothing-says h k = let z : _≡_ {A = ℕ} 0 1 = cc in omega arith
+
+-- a domain reply that was read: its names are good
+names-good : (r : List ℕ) (es : List ℕ) → every (goodDomain r) es ≡ true → every goodName (map (domainAt r) es) ≡ true
+unfolding every goodDomain domainAt
+names-good r [] h = refl
+names-good r (e ∷ es) h =
+    and-both
+    (domain-name-good _
+    (and-right (entryFlag 2 r e) _ (and-right (fits 18 r e) _ (and-right (eqb (versionAt r e) 3) _ (and-left (goodDomain r e) _ h)))))
+    (names-good r es (and-right (goodDomain r e) _ h))
+
+few-names : (c : ℕ) (ns : List (List ℕ)) → _≡_ {A = ℕ} (choose (leb (length (once ns)) c) 0 6) 0 → leb (length (once ns)) c ≡ true
+few-names c ns h = go (told (leb (length (once ns)) c))
+  where
+    go : (leb (length (once ns)) c ≡ true) ⊎ (leb (length (once ns)) c ≡ false) → leb (length (once ns)) c ≡ true
+    go (inl t) = t
+    go (inr t) = absurd (let z : _≡_ {A = ℕ} 6 0 = sym (choose-no 0 6 t) ∙ h in omega arith)
+
+record Accepted (size : ℕ) (r raw : List ℕ) : Type 0 where
+  right : rightSize raw ≡ true
+  few : length (once (namesIn (readDomains size r))) ≤ placeCount raw
+  good : every goodName (namesIn (readDomains size r)) ≡ true
+
+module _ (size : ℕ) (r raw : List ℕ) (h : domainsNumber size r raw ≡ 0) where
+  accepted : Accepted size r raw
+  unfolding domainsNumber namesNumber answerOf namesIn
+  accepted = sized (told (rightSize raw)) (told (goodSize size))
+    where
+      read : rightSize raw ≡ true → (x : Reply (List (List ℕ))) → readDomains size r ≡ x → namesNumber (placeCount raw) x ≡ 0 → Accepted size r raw
+      read t malformed e k = absurd (let z : _≡_ {A = ℕ} 7 0 = k in omega arith)
+      read t nothing e k = absurd (let z : _≡_ {A = ℕ} 7 0 = k in omega arith)
+      read t (says ns) e k =
+          let w : SoundDomains size r = says-domains size r (sym (ap answerOf e)) in
+          let n : map (domainAt r) (entries r) ≡ namesIn (readDomains size r) = sym (ap namesIn (w .is)) in
+          record {
+            right = t;
+            few = leb-true (length (once (namesIn (readDomains size r)))) (placeCount raw) (ap (λ (x : Reply (List (List ℕ))). leb (length (once (namesIn x))) (placeCount raw)) e ∙ few-names (placeCount raw) ns k);
+            good = ap (every goodName) (sym n) ∙ names-good r (entries r) (w .good);
+          }
+
+      sized : (rightSize raw ≡ true) ⊎ (rightSize raw ≡ false) → (goodSize size ≡ true) ⊎ (goodSize size ≡ false) → Accepted size r raw
+      sized (inl t) (inl u) = read t (readDomains size r) refl (sym (choose-yes _ 4 t ∙ choose-yes _ 3 u) ∙ h)
+      sized (inl t) (inr u) = absurd (let z : _≡_ {A = ℕ} 3 0 = sym (choose-yes _ 4 t ∙ choose-no _ 3 u) ∙ h in omega arith)
+      sized (inr t) u = absurd (let z : _≡_ {A = ℕ} 4 0 = sym (choose-no _ 4 t) ∙ h in omega arith)
+
+  -- it leaves a cache in order
+  pub domains-in-order : inOrder domains (domainsAfter size r raw) ≡ true
+  unfolding domainsAfter
+  domains-in-order =
+      let s : RightSize raw = size-told raw (accepted .right) in
+      ap (inOrder domains) (ap (λ (n : ℕ). cacheAfter n (namesIn (readDomains size r)) raw) h ∙ sym (replaced (namesIn (readDomains size r)) raw))
+      ∙ names-in-order (placeCount raw) (once (namesIn (readDomains size r))) (s .least) (s .most) (accepted .few)
+      (once-every goodName (namesIn (readDomains size r)) (accepted .good)) (once-distinct (namesIn (readDomains size r)))
+
+-- a refusal changes nothing
+pub domains-unchanged : (size : ℕ) (r raw : List ℕ) → (domainsNumber size r raw ≡ 0 → ⊥) → domainsAfter size r raw ≡ raw
+unfolding domainsAfter
+domains-unchanged size r raw h = sym (unchanged (domainsNumber size r raw) (namesIn (readDomains size r)) raw h)
+
+-- so that a cache in order stays so
+pub domains-stay-in-order : (size : ℕ) (r raw : List ℕ) → inOrder domains raw ≡ true → inOrder domains (domainsAfter size r raw) ≡ true
+domains-stay-in-order size r raw h = go (eq-or-ne (domainsNumber size r raw) 0)
+  where
+    go : (domainsNumber size r raw ≡ 0) ⊎ (domainsNumber size r raw ≡ 0 → ⊥) → inOrder domains (domainsAfter size r raw) ≡ true
+    go (inl e) = domains-in-order size r raw e
+    go (inr n) = ap (inOrder domains) (domains-unchanged size r raw n) ∙ h

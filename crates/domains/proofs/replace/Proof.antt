@@ -1,0 +1,31 @@
+-- The names are gathered and counted, then written.
+use denote.Ref.{now}
+use native.Mathlib.Omega.{arith}
+use Rattle.domains.proofs.ReadLaws.{too-many, all-placed}
+use borrow.Author.Needs.{needs}
+use Rattle.domains.proofs.replace.Statement.{statement}
+use Rattle.domains.proofs.replace.Tie as tie
+
+gather-requires : tie.Need-gather-requires
+gather-requires c κs = search needs
+
+returns : tie.Need-returns
+returns c =
+    let s = c .before .before .before .before .before in
+    too-many (now (s .args .reply)) (c .before .before .gather .result) (c .before .before .gather .ensures) (now (s .args .cache)) (s .pre .1) (omega arith)
+
+put-domains-requires : tie.Need-put-domains-requires
+put-domains-requires c κs = search needs
+
+same-length : tie.Need-same-length
+same-length c = search needs
+
+returns-2 : tie.Need-returns-2
+returns-2 c =
+    let s = c .before .before .before .before .before .before .before .before .before in
+    let g = c .before .before .before .before .before .before .gather in
+    all-placed (now (s .args .reply)) (g .result) (g .ensures) (now (s .args .cache)) (s .pre .1) (omega arith) (c .before .before .put-domains .ensures)
+
+pub replace-spec : {M : Type 1} → statement M
+replace-spec =
+    tie.close (tie.spec gather-requires returns put-domains-requires same-length returns-2)

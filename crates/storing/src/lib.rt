@@ -6,7 +6,7 @@ ghost use Prim.Native.Nat.{_+_, _/_, _≤_, _<_};
 ghost use lib.ListN.{length, take};
 ghost use Rattle.laws.specs.Lists.{every};
 ghost use Rattle.spans.specs.Spans.{spanned, Inside};
-ghost use Rattle.places.specs.Layout.{changed, placeAt, putUnit};
+ghost use Rattle.places.specs.Layout.{changed, placeAt, putUnit, putSettings};
 ghost use Rattle.caches.specs.Memory.{referrals, decode};
 ghost use Rattle.lookup.specs.Keys.{keyIs};
 ghost use Rattle.lookup.specs.Lookup.{entryAt, withKey};
@@ -16,7 +16,7 @@ ghost use Rattle.caches.specs.Memory.{encode, inOrder};
 ghost use Rattle.storing.specs.Stored.{stored, storePlace};
 ghost use Rattle.caches.specs.Memory.{referralUnits};
 ghost use Rattle.referral.specs.Found.{referralShown};
-ghost use Rattle.entries.specs.Writing.{heldTarget, keptFits};
+ghost use Rattle.entries.specs.Writing.{heldTarget, keptFits, settings};
 ghost use Rattle.storing.specs.Writing.{Storable, Held};
 use lookup::Found;
 use places::PLACE;
@@ -76,13 +76,13 @@ fn given_place(cache: &[u16], i: usize, reply: &[u8], kept: [Kept; 8], count: us
 {
     let hint = lookup::target_hint(cache, i) as usize;
     let path = lookup::target(cache, i, hint);
-    let mut j = 0;
-    while j < count {
-        let k = kept[j];
+    let mut n = 0;
+    while n < count {
+        let k = kept[n];
         if spans::same_span(reply, k.path, path) {
-            return j;
+            return n;
         }
-        j += 1;
+        n += 1;
     }
     0
 }
@@ -118,6 +118,22 @@ fn put_hint(cache: &mut [u16], i: usize, hint: usize, failback: bool)
     places::put_unit(cache, i, 10, 0);
 }
 
+// The settings of the reply, and the time taken, into place i.
+fn settle(cache: &mut [u16], i: usize, found: ReferralFound, interlink: bool, clock: u32)
+    requires { ⌜ i < length (now cache) / 2336 ⌝ }
+    ensures { λ r. ⌜ now (cache .exit) ≡ changed i (putSettings (settings (found .root) interlink (found .failback) (found .ttl) clock)) (now (cache .entry)) ⌝ }
+{
+    entries::put_settings(
+        cache,
+        i,
+        found.root,
+        interlink,
+        found.failback,
+        found.ttl,
+        clock,
+    );
+}
+
 // A new entry into place i.
 fn insert(
     cache: &mut [u16],
@@ -135,15 +151,7 @@ fn insert(
     let count = found.targets;
     entries::begin_entry(cache, i, reply, prefix);
     entries::add_targets(cache, i, reply, kept, count);
-    entries::put_settings(
-        cache,
-        i,
-        found.root,
-        interlink,
-        found.failback,
-        found.ttl,
-        clock,
-    );
+    settle(cache, i, found, interlink, clock);
 }
 
 // The entry at place i refreshed by a reply with an equivalent list: its targets stay.
@@ -159,15 +167,7 @@ fn refresh_held(
     ensures { λ r. ⌜ now (cache .exit) ≡ changed i (λ q. referralUnits (refreshed (entryAt referrals i (now (cache .entry))) (referralShown (now (reply .entry)) found) interlink clock)) (now (cache .entry)) ⌝ }
 {
     let hint = held_place(cache, i);
-    entries::put_settings(
-        cache,
-        i,
-        found.root,
-        interlink,
-        found.failback,
-        found.ttl,
-        clock,
-    );
+    settle(cache, i, found, interlink, clock);
     put_hint(cache, i, hint, found.failback);
 }
 
@@ -188,15 +188,7 @@ fn refresh_given(
     let hint = given_place(cache, i, reply, kept, count);
     places::keep_key(cache, i);
     entries::add_targets(cache, i, reply, kept, count);
-    entries::put_settings(
-        cache,
-        i,
-        found.root,
-        interlink,
-        found.failback,
-        found.ttl,
-        clock,
-    );
+    settle(cache, i, found, interlink, clock);
     put_hint(cache, i, hint, found.failback);
 }
 
@@ -210,7 +202,7 @@ fn refresh(
     clock: u32,
 )
     requires { ⌜ Held i (now cache) × Storable (now reply) found ⌝ }
-    ensures { λ r. ⌜ now (cache .exit) ≡ changed i (λ q. referralUnits (refreshed (entryAt referrals i (now (cache .entry))) (referralShown (now (reply .entry)) found) interlink clock)) (now (cache .entry)) ⌝ }
+    ensures entry { λ r. ⌜ now (cache .exit) ≡ changed i (λ q. referralUnits (refreshed (entryAt referrals i (now (cache .entry))) (referralShown (now (reply .entry)) found) interlink clock)) (now (cache .entry)) ⌝ }
 {
     let kept = found.kept;
     let count = found.targets;

@@ -15,12 +15,12 @@ use Rattle.storing.proofs.given_place.Statement.{statement}
 use Rattle.storing.proofs.given_place.Tie as tie
 
 abbrev Inv-loop : tie.InvT-loop
-Inv-loop cache i reply count kept hint path j₀ j =
-    (j ≤ count)
-    × (firstEqual 0 (hinted (entryAt referrals i cache)) (map (heldTarget reply) (take count kept)) ≡ firstEqual j (hinted (entryAt referrals i cache)) (drop j (map (heldTarget reply) (take count kept))))
+Inv-loop cache i reply count kept hint path n₀ n =
+    (n ≤ count)
+    × (firstEqual 0 (hinted (entryAt referrals i cache)) (map (heldTarget reply) (take count kept)) ≡ firstEqual n (hinted (entryAt referrals i cache)) (drop n (map (heldTarget reply) (take count kept))))
 
 abbrev μ-loop : tie.MeasureT-loop
-μ-loop cache i reply count kept hint path j₀ j = count - j
+μ-loop cache i reply count kept hint path n₀ n = count - n
 
 target-hint-requires : tie.Need-target-hint-requires Inv-loop μ-loop
 target-hint-requires c κs = search needs
@@ -43,19 +43,19 @@ array-copy-out-k c = search needs
 same-span-requires : tie.Need-same-span-requires Inv-loop μ-loop
 same-span-requires c κs =
     let l : length (c .before .before .before .before .before .before .before .args .t4) ≡ 8 = search needs in
-    kept-inside (now (c .before .before .before .before .before .before .before .args .reply)) _ (kept-at (c .before .before .before .before .before .before .before .args .t4) (c .before .before .before .before .before .before .before .args .count) (c .before .before .loop .j) _ (omega arith) (omega arith) (keptFits (now (c .before .before .before .before .before .before .before .args .reply))) (c .before .before .before .before .before .before .before .pre .1 .1 .1))
+    kept-inside (now (c .before .before .before .before .before .before .before .args .reply)) _ (kept-at (c .before .before .before .before .before .before .before .args .t4) (c .before .before .before .before .before .before .before .args .count) (c .before .before .loop .n) _ (omega arith) (omega arith) (keptFits (now (c .before .before .before .before .before .before .before .args .reply))) (c .before .before .before .before .before .before .before .pre .1 .1 .1))
 
 returns : tie.Need-returns Inv-loop μ-loop
 returns c =
     let l : length (c .before .before .before .before .before .before .before .before .before .args .t4) ≡ 8 = search needs in
     let m = length-shown (heldTarget (now (c .before .before .before .before .before .before .before .before .before .args .reply))) (c .before .before .before .before .before .before .before .before .before .args .t4) (c .before .before .before .before .before .before .before .before .before .args .count) (omega arith) in
     sym (c .before .before .before .before .loop .inv .1
-    ∙ equal-hit (hinted (entryAt referrals (c .before .before .before .before .before .before .before .before .before .args .i) (now (c .before .before .before .before .before .before .before .before .before .args .cache)))) (map (heldTarget (now (c .before .before .before .before .before .before .before .before .before .args .reply))) (take (c .before .before .before .before .before .before .before .before .before .args .count) (c .before .before .before .before .before .before .before .before .before .args .t4))) (c .before .before .before .before .loop .j) nowhere (omega arith)
-    (path-at (now (c .before .before .before .before .before .before .before .before .before .args .reply)) (c .before .before .before .before .before .before .before .before .before .args .t4) (c .before .before .before .before .before .before .before .before .before .args .count) (c .before .before .before .before .loop .j) _ nowhere (omega arith) (omega arith))
+    ∙ equal-hit (hinted (entryAt referrals (c .before .before .before .before .before .before .before .before .before .args .i) (now (c .before .before .before .before .before .before .before .before .before .args .cache)))) (map (heldTarget (now (c .before .before .before .before .before .before .before .before .before .args .reply))) (take (c .before .before .before .before .before .before .before .before .before .args .count) (c .before .before .before .before .before .before .before .before .before .args .t4))) (c .before .before .before .before .loop .n) nowhere (omega arith)
+    (path-at (now (c .before .before .before .before .before .before .before .before .before .args .reply)) (c .before .before .before .before .before .before .before .before .before .args .t4) (c .before .before .before .before .before .before .before .before .before .args .count) (c .before .before .before .before .loop .n) _ nowhere (omega arith) (omega arith))
     (hinted-is (entryAt referrals (c .before .before .before .before .before .before .before .before .before .args .i) (now (c .before .before .before .before .before .before .before .before .before .args .cache))) _ (c .before .before .before .before .before .target .ensures) (c .before .before .before .before .before .before .target-hint .ensures) (omega arith)) (c .before .same-span .ensures) (c .if1 .taken))
 
-add-j : tie.Need-add-j Inv-loop μ-loop
-add-j c = search needs
+add-n : tie.Need-add-n Inv-loop μ-loop
+add-n c = search needs
 
 loop-less : tie.Need-loop-less Inv-loop μ-loop
 loop-less c = search needs
@@ -66,8 +66,8 @@ loop-again c =
     let m = length-shown (heldTarget (now (c .before .before .before .before .before .before .before .before .before .args .reply))) (c .before .before .before .before .before .before .before .before .before .args .t4) (c .before .before .before .before .before .before .before .before .before .args .count) (omega arith) in (
       omega arith,
       c .before .before .before .before .loop .inv .1
-          ∙ equal-miss (hinted (entryAt referrals (c .before .before .before .before .before .before .before .before .before .args .i) (now (c .before .before .before .before .before .before .before .before .before .args .cache)))) (map (heldTarget (now (c .before .before .before .before .before .before .before .before .before .args .reply))) (take (c .before .before .before .before .before .before .before .before .before .args .count) (c .before .before .before .before .before .before .before .before .before .args .t4))) (c .before .before .before .before .loop .j) nowhere (omega arith)
-          (path-at (now (c .before .before .before .before .before .before .before .before .before .args .reply)) (c .before .before .before .before .before .before .before .before .before .args .t4) (c .before .before .before .before .before .before .before .before .before .args .count) (c .before .before .before .before .loop .j) _ nowhere (omega arith) (omega arith))
+          ∙ equal-miss (hinted (entryAt referrals (c .before .before .before .before .before .before .before .before .before .args .i) (now (c .before .before .before .before .before .before .before .before .before .args .cache)))) (map (heldTarget (now (c .before .before .before .before .before .before .before .before .before .args .reply))) (take (c .before .before .before .before .before .before .before .before .before .args .count) (c .before .before .before .before .before .before .before .before .before .args .t4))) (c .before .before .before .before .loop .n) nowhere (omega arith)
+          (path-at (now (c .before .before .before .before .before .before .before .before .before .args .reply)) (c .before .before .before .before .before .before .before .before .before .args .t4) (c .before .before .before .before .before .before .before .before .before .args .count) (c .before .before .before .before .loop .n) _ nowhere (omega arith) (omega arith))
           (hinted-is (entryAt referrals (c .before .before .before .before .before .before .before .before .before .args .i) (now (c .before .before .before .before .before .before .before .before .before .args .cache))) _ (c .before .before .before .before .before .target .ensures) (c .before .before .before .before .before .before .target-hint .ensures) (omega arith)) (c .before .same-span .ensures) (c .if1 .left),
     )
 
@@ -91,7 +91,7 @@ given-place-spec =
     array-copy-out-k
     same-span-requires
     returns
-    add-j
+    add-n
     loop-less
     loop-again
     returns-2)

@@ -15,8 +15,8 @@ add-targets-requires c κs =
     let s = c .before .before .before .before .before .before .before .before .before .pre .1 in
     (omega arith, (s .few, s .kept))
 
-put-settings-requires : tie.Need-put-settings-requires
-put-settings-requires c κs = search needs
+settle-requires : tie.Need-settle-requires
+settle-requires c κs = search needs
 
 same-length : tie.Need-same-length
 same-length c = search needs
@@ -25,9 +25,9 @@ returns : tie.Need-returns
 returns c =
     let a = c .before .before .before .before .before .before .before .before .before .before .before .before .before .before .before .before .args in
     inserted (now (a .cache)) (a .i) (omega (arith, c .before .before .before .before .before .before .before .before .before .before .before .before .before .before .before .before .pre .0)) (now (a .reply)) (a .found) (c .before .before .before .before .before .before .before .before .before .before .before .before .before .before .before .before .pre .1) (a .interlink) (a .clock)
-    (c .before .before .before .before .before .before .before .before .before .before .begin-entry .ensures) (c .before .before .before .before .before .before .add-targets .ensures) (c .before .before .put-settings .ensures)
+    (c .before .before .before .before .before .before .before .before .before .before .begin-entry .ensures) (c .before .before .before .before .before .before .add-targets .ensures) (c .before .before .settle .ensures)
 
 pub insert-spec : {M : Type 1} → statement M
 insert-spec =
     tie.close
-    (tie.spec begin-entry-requires add-targets-requires put-settings-requires same-length returns)
+    (tie.spec begin-entry-requires add-targets-requires settle-requires same-length returns)

@@ -17,7 +17,7 @@ same-length : tie.Need-same-length
 same-length c = search needs
 
 returns : tie.Need-returns
-returns c = search needs
+returns c = c .before .before .refresh-held .ensures
 
 refresh-given-requires : tie.Need-refresh-given-requires
 refresh-given-requires c κs =
@@ -27,7 +27,7 @@ same-length-2 : tie.Need-same-length-2
 same-length-2 c = search needs
 
 returns-2 : tie.Need-returns-2
-returns-2 c = search needs
+returns-2 c = c .before .before .refresh-given .ensures
 
 pub refresh-spec : {M : Type 1} → statement M
 refresh-spec =

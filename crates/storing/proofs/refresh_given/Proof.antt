@@ -19,19 +19,19 @@ add-targets-requires c κs =
     let s = c .before .before .before .before .before .before .before .before .before .before .pre .1 .0 in
     (search needs, (s .few, s .kept))
 
-put-settings-requires : tie.Need-put-settings-requires
-put-settings-requires c κs = search needs
+settle-requires : tie.Need-settle-requires
+settle-requires c κs = search needs
 
 put-hint-requires : tie.Need-put-hint-requires
 put-hint-requires c κs =
-    given-ready (now (c .before .before .before .before .before .before .before .before .before .before .before .before .before .before .before .before .before .before .args .cache)) (c .before .before .before .before .before .before .before .before .before .before .before .before .before .before .before .before .before .before .args .i) (c .before .before .before .before .before .before .before .before .before .before .before .before .before .before .before .before .before .before .pre .0) (now (c .before .before .before .before .before .before .before .before .before .before .before .before .before .before .before .before .before .before .args .reply)) (c .before .before .before .before .before .before .before .before .before .before .before .before .before .before .before .before .before .before .args .found) (c .before .before .before .before .before .before .before .before .before .before .before .before .before .before .before .before .before .before .args .interlink) (c .before .before .before .before .before .before .before .before .before .before .before .before .before .before .before .before .before .before .args .clock) (c .before .before .before .before .before .before .before .before .before .before .before .before .before .before .before .before .before .before .pre .1 .0) _ _ _ (c .before .before .before .before .before .before .before .before .before .before .before .keep-key .ensures) (c .before .before .before .before .before .before .before .add-targets .ensures) (c .before .before .before .put-settings .ensures) _ (c .before .before .before .before .before .before .before .before .before .before .before .before .before .given-place .ensures)
+    given-ready (now (c .before .before .before .before .before .before .before .before .before .before .before .before .before .before .before .before .before .before .args .cache)) (c .before .before .before .before .before .before .before .before .before .before .before .before .before .before .before .before .before .before .args .i) (c .before .before .before .before .before .before .before .before .before .before .before .before .before .before .before .before .before .before .pre .0) (now (c .before .before .before .before .before .before .before .before .before .before .before .before .before .before .before .before .before .before .args .reply)) (c .before .before .before .before .before .before .before .before .before .before .before .before .before .before .before .before .before .before .args .found) (c .before .before .before .before .before .before .before .before .before .before .before .before .before .before .before .before .before .before .args .interlink) (c .before .before .before .before .before .before .before .before .before .before .before .before .before .before .before .before .before .before .args .clock) (c .before .before .before .before .before .before .before .before .before .before .before .before .before .before .before .before .before .before .pre .1 .0) _ _ _ (c .before .before .before .before .before .before .before .before .before .before .before .keep-key .ensures) (c .before .before .before .before .before .before .before .add-targets .ensures) (c .before .before .before .settle .ensures) _ (c .before .before .before .before .before .before .before .before .before .before .before .before .before .given-place .ensures)
 
 same-length : tie.Need-same-length
 same-length c = search needs
 
 returns : tie.Need-returns
 returns c =
-    given-done (now (c .before .before .before .before .before .before .before .before .before .before .before .before .before .before .before .before .before .before .before .before .before .args .cache)) (c .before .before .before .before .before .before .before .before .before .before .before .before .before .before .before .before .before .before .before .before .before .args .i) (c .before .before .before .before .before .before .before .before .before .before .before .before .before .before .before .before .before .before .before .before .before .pre .0) (now (c .before .before .before .before .before .before .before .before .before .before .before .before .before .before .before .before .before .before .before .before .before .args .reply)) (c .before .before .before .before .before .before .before .before .before .before .before .before .before .before .before .before .before .before .before .before .before .args .found) (c .before .before .before .before .before .before .before .before .before .before .before .before .before .before .before .before .before .before .before .before .before .args .interlink) (c .before .before .before .before .before .before .before .before .before .before .before .before .before .before .before .before .before .before .before .before .before .args .clock) (c .before .before .before .before .before .before .before .before .before .before .before .before .before .before .before .before .before .before .before .before .before .pre .1 .0) _ _ _ (c .before .before .before .before .before .before .before .before .before .before .before .before .before .before .keep-key .ensures) (c .before .before .before .before .before .before .before .before .before .before .add-targets .ensures) (c .before .before .before .before .before .before .put-settings .ensures) _ (c .before .before .before .before .before .before .before .before .before .before .before .before .before .before .before .before .given-place .ensures)
+    given-done (now (c .before .before .before .before .before .before .before .before .before .before .before .before .before .before .before .before .before .before .before .before .before .args .cache)) (c .before .before .before .before .before .before .before .before .before .before .before .before .before .before .before .before .before .before .before .before .before .args .i) (c .before .before .before .before .before .before .before .before .before .before .before .before .before .before .before .before .before .before .before .before .before .pre .0) (now (c .before .before .before .before .before .before .before .before .before .before .before .before .before .before .before .before .before .before .before .before .before .args .reply)) (c .before .before .before .before .before .before .before .before .before .before .before .before .before .before .before .before .before .before .before .before .before .args .found) (c .before .before .before .before .before .before .before .before .before .before .before .before .before .before .before .before .before .before .before .before .before .args .interlink) (c .before .before .before .before .before .before .before .before .before .before .before .before .before .before .before .before .before .before .before .before .before .args .clock) (c .before .before .before .before .before .before .before .before .before .before .before .before .before .before .before .before .before .before .before .before .before .pre .1 .0) _ _ _ (c .before .before .before .before .before .before .before .before .before .before .before .before .before .before .keep-key .ensures) (c .before .before .before .before .before .before .before .before .before .before .add-targets .ensures) (c .before .before .before .before .before .before .settle .ensures) _ (c .before .before .before .before .before .before .before .before .before .before .before .before .before .before .before .before .given-place .ensures)
     (c .before .before .before .before .before .before .before .before .before .before .before .before .before .before .before .before .before .before .before .before .before .pre .1 .1) (c .before .before .put-hint .ensures)
 
 pub refresh-given-spec : {M : Type 1} → statement M
@@ -41,7 +41,7 @@ refresh-given-spec =
     given-place-requires
     keep-key-requires
     add-targets-requires
-    put-settings-requires
+    settle-requires
     put-hint-requires
     same-length
     returns)

@@ -3,7 +3,7 @@ use mathlib.Core.Path.{_≡_, refl, sym, ap, _∙_}
 use mathlib.Core.Bool.{true}
 use mathlib.Core.List.{List, []}
 use mathlib.Core.Logic.{inr}
-use Prim.Native.Nat.{ℕ, _+_, _-_, _/_, _<_}
+use Prim.Native.Nat.{ℕ, _+_, _/_, _<_}
 use native.Mathlib.Omega.{arith}
 use lib.ListN.{length, getD, set}
 use lib.Dec.{eqb}
@@ -109,7 +109,7 @@ module _ {E : Type 0} (k : Kind E) (law : Lawful k) (raw : List ℕ) (i : ℕ) (
       ∙ kept-in-order k law raw i order fits (entryAt k i raw) entry-here (to (entryAt k i raw)) g q
 
 -- a hint below the number of targets (or DCs)
-target-hint-good : (h : ℕ) (e : Referral) → goodReferral e ≡ true → h < length (e .targets) → goodReferral (targetHintTo h e) ≡ true
+pub target-hint-good : (h : ℕ) (e : Referral) → goodReferral e ≡ true → h < length (e .targets) → goodReferral (targetHintTo h e) ≡ true
 unfolding targetHintTo
 target-hint-good h e g u =
     let t : GoodReferral e = referral-told e g in
@@ -121,7 +121,7 @@ dc-hint-good h d g u =
     let t : GoodDomain d = domain-told d g in
     good-domain _ (record { named = t .named; few = t .few; each = t .each; hinted = hint-good (d .dcs) h (inr u) })
 
-target-hint-units : (h : ℕ) (e : Referral) → goodReferral e ≡ true → putUnit 10 h (referralUnits e) ≡ referralUnits (targetHintTo h e)
+pub target-hint-units : (h : ℕ) (e : Referral) → goodReferral e ≡ true → putUnit 10 h (referralUnits e) ≡ referralUnits (targetHintTo h e)
 unfolding referralUnits referralSettings targetHintTo
 target-hint-units h e g = put-hint _ (e .hint) _ _ (referral-shape e g) h
 
@@ -129,36 +129,60 @@ dc-hint-units : (h : ℕ) (d : Domain) → goodDomain d ≡ true → putUnit 10 
 unfolding domainUnits dcHintTo
 dc-hint-units h d g = put-hint _ (d .hint) _ _ (domain-shape d g) h
 
-module _ (raw : List ℕ) (i h : ℕ) (order : inOrder referrals raw ≡ true) (fits : i < length raw / 2336) (below : h < length (entryAt referrals i raw .targets)) where
-  some-targets : 0 < listCount (placeAt i raw)
-  some-targets = let n : length (entryAt referrals i raw .targets) ≡ listCount (placeAt i raw) = count-targets raw i in omega arith
+-- what the laws ask of a hint: how long its list is, and that setting it leaves the entry good and its key
+record Hint {E : Type 0} (k : Kind E) : Type 0 where
+  count : E → ℕ
+  counts : (raw : List ℕ) (i : ℕ) → count (entryAt k i raw) ≡ listCount (placeAt i raw)
+  to : ℕ → E → E
+  good : (h : ℕ) (e : E) → k .good e ≡ true → h < count e → k .good (to h e) ≡ true
+  units : (h : ℕ) (e : E) → k .good e ≡ true → putUnit 10 h (k .writes e) ≡ k .writes (to h e)
+  key : (h : ℕ) (e : E) → k .key (to h e) ≡ k .key e
 
+target-hint : Hint referrals
+unfolding targetHintTo
+target-hint = record {
+  count = λ e. length (e .targets);
+  counts = count-targets;
+  to = targetHintTo;
+  good = target-hint-good;
+  units = target-hint-units;
+  key = λ h e. refl;
+}
+
+dc-hint : Hint domains
+unfolding dcHintTo
+dc-hint = record { count = λ d. length (d .dcs); counts = count-dcs; to = dcHintTo; good = dc-hint-good; units = dc-hint-units; key = λ h d. refl }
+
+-- the hint of an entry of memory in order set, and the memory still in order
+module _ {E : Type 0} (k : Kind E) (law : Lawful k) (hint : Hint k) (raw : List ℕ) (i h : ℕ) (order : inOrder k raw ≡ true) (fits : i < length raw / 2336)
+    (below : h < hint .count (entryAt k i raw)) where
+  some : 0 < listCount (placeAt i raw)
+  some = let n : hint .count (entryAt k i raw) ≡ listCount (placeAt i raw) = hint .counts raw i in omega arith
+
+  well : k .good (hint .to h (entryAt k i raw)) ≡ true
+  well = hint .good h (entryAt k i raw) (entry-well k law raw i order fits some) below
+
+  hint-set : {m : List ℕ} → m ≡ changed i (putUnit 10 h) raw → m ≡ encode k (set (decode k raw) i (onEntry (hint .to h) (getD (decode k raw) i free)))
+  hint-set =
+      on-entry k law raw i order fits some (hint .to h) (putUnit 10 h) (hint .units h (entryAt k i raw) (entry-well k law raw i order fits some)) well
+
+  hint-order : inOrder k (encode k (set (decode k raw) i (onEntry (hint .to h) (getD (decode k raw) i free)))) ≡ true
+  hint-order = on-entry-order k law raw i order fits some (hint .to h) well (hint .key h (entryAt k i raw))
+
+module _ (raw : List ℕ) (i h : ℕ) (order : inOrder referrals raw ≡ true) (fits : i < length raw / 2336) (below : h < length (entryAt referrals i raw .targets)) where
   pub target-hint-set : {m : List ℕ} → m ≡ changed i (putUnit 10 h) raw → m ≡ encode referrals (targetHinted i h (decode referrals raw))
-  unfolding targetHinted
-  target-hint-set =
-      let g : goodReferral (entryAt referrals i raw) ≡ true = entry-well referrals referrals-lawful raw i order fits some-targets in
-      on-entry referrals referrals-lawful raw i order fits some-targets (targetHintTo h) (putUnit 10 h)
-      (target-hint-units h (entryAt referrals i raw) g) (target-hint-good h (entryAt referrals i raw) g below)
+  unfolding targetHinted target-hint
+  target-hint-set = hint-set referrals referrals-lawful target-hint raw i h order fits below
 
   pub target-hint-order : inOrder referrals (encode referrals (targetHinted i h (decode referrals raw))) ≡ true
-  unfolding targetHinted targetHintTo
-  target-hint-order =
-      on-entry-order referrals referrals-lawful raw i order fits some-targets (targetHintTo h)
-      (target-hint-good h (entryAt referrals i raw) (entry-well referrals referrals-lawful raw i order fits some-targets) below) refl
+  unfolding targetHinted target-hint
+  target-hint-order = hint-order referrals referrals-lawful target-hint raw i h order fits below
 
 module _ (raw : List ℕ) (i h : ℕ) (order : inOrder domains raw ≡ true) (fits : i < length raw / 2336) (below : h < length (entryAt domains i raw .dcs)) where
-  some-dcs : 0 < listCount (placeAt i raw)
-  some-dcs = let n : length (entryAt domains i raw .dcs) ≡ listCount (placeAt i raw) = count-dcs raw i in omega arith
-
   pub dc-hint-set : {m : List ℕ} → m ≡ changed i (putUnit 10 h) raw → m ≡ encode domains (dcHinted i h (decode domains raw))
-  unfolding dcHinted
-  dc-hint-set =
-      let g : goodDomain (entryAt domains i raw) ≡ true = entry-well domains domains-lawful raw i order fits some-dcs in
-      on-entry domains domains-lawful raw i order fits some-dcs (dcHintTo h) (putUnit 10 h)
-      (dc-hint-units h (entryAt domains i raw) g) (dc-hint-good h (entryAt domains i raw) g below)
+  unfolding dcHinted dc-hint
+  dc-hint-set = hint-set domains domains-lawful dc-hint raw i h order fits below
 
   pub dc-hint-order : inOrder domains (encode domains (dcHinted i h (decode domains raw))) ≡ true
-  unfolding dcHinted dcHintTo
-  dc-hint-order =
-      on-entry-order domains domains-lawful raw i order fits some-dcs (dcHintTo h)
-      (dc-hint-good h (entryAt domains i raw) (entry-well domains domains-lawful raw i order fits some-dcs) below) refl
+  unfolding dcHinted dc-hint
+  dc-hint-order = hint-order domains domains-lawful dc-hint raw i h order fits below

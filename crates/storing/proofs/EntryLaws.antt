@@ -8,8 +8,8 @@ use lib.ListN.{length}
 use borrow.Author.Tests.{le-leb}
 use Rattle.laws.specs.Lists.{every}
 use Rattle.laws.proofs.Choices.{and-left, and-right, and-both}
-use Rattle.places.specs.Layout.{written, putUnit, putSettings, keyOnly}
-use Rattle.places.proofs.PutLaws.{put-hint, put-settings, key-only}
+use Rattle.places.specs.Layout.{written, putSettings, keyOnly}
+use Rattle.places.proofs.PutLaws.{put-settings, key-only}
 use Rattle.caches.specs.Entries.{Target, Referral}
 use Rattle.caches.specs.Order.{goodPrefix, goodTarget, goodReferral}
 use Rattle.caches.specs.Memory.{referralSettings, referralUnits}
@@ -74,21 +74,3 @@ entry-settled e f h k p q r =
     })
     (omega arith)
     ∙ (λ i. written (p i ∷ pathsOf (q i)) (r i) (marksOf (q i)) (referralSettings f))
-
--- an entry of which the hint alone changes
-abbrev pub withHint : ℕ → Referral → Referral
-withHint h e = record {
-  prefix = e .prefix;
-  root = e .root;
-  interlink = e .interlink;
-  failback = e .failback;
-  ttl = e .ttl;
-  taken = e .taken;
-  targets = e .targets;
-  hint = h;
-}
-
-pub entry-hinted : (e : Referral) → goodReferral e ≡ true → (h : ℕ) → putUnit 10 h (referralUnits e) ≡ referralUnits (withHint h e)
-unfolding referralUnits referralSettings
-entry-hinted e good h =
-    put-hint (e .prefix ∷ pathsOf (e .targets)) (e .hint) (marksOf (e .targets)) (referralSettings e) (referral-shape e good) h

@@ -17,7 +17,8 @@ use Rattle.caches.specs.Entries.{Target, Referral}
 use Rattle.caches.specs.Order.{goodReferral}
 use Rattle.caches.specs.Memory.{referrals, referralUnits, referralOf}
 use Rattle.caches.proofs.KindLaws.{referral-told, good-referral, referrals-lawful}
-use Rattle.lookup.specs.Lookup.{entryAt}
+use Rattle.lookup.specs.Lookup.{entryAt, targetHintTo}
+use Rattle.lookup.proofs.EntryLaws.{target-hint-units}
 use Rattle.referral.specs.Replies as replies
 use Rattle.equivalence.specs.Equivalence.{equivalent}
 use Rattle.storing.specs.Stored.{targetsIn, targetsAfter, firstEqual, hinted, failedBack, refreshed, fresh}
@@ -26,7 +27,7 @@ use Rattle.referral.specs.declared.ReferralFound.{ReferralFound}
 use Rattle.entries.specs.Writing.{addAll, addTarget, settings, heldTarget}
 use Rattle.storing.specs.Writing.{Storable, Held}
 use Rattle.entries.proofs.WritingLaws.{Keeps, keeps-unit, keeps-pasted, keeps-both, then-changed, changed-same}
-use Rattle.storing.proofs.EntryLaws.{withHint, entry-hinted, entry-settled, entry-replaced}
+use Rattle.storing.proofs.EntryLaws.{entry-settled, entry-replaced}
 use Rattle.storing.proofs.StoreLaws.{targets-in, keeps-settled, keeps-kept}
 
 -- the first equal target is one of the list
@@ -53,12 +54,6 @@ back-within failback ts h k = go _
         either (inl e) = rw (choose-yes 0 h e) (omega arith)
         either (inr e) = rw (choose-no 0 h e) k
 
--- an entry with another hint is good
-pub hint-good : (e : Referral) → goodReferral e ≡ true → (h : ℕ) → h < length (e .targets) → goodReferral (withHint h e) ≡ true
-hint-good e good h k =
-    let g = referral-told e good in
-    good-referral (withHint h e) (record { prefixed = g .prefixed; some = g .some; few = g .few; each = g .each; first = g .first; hinted = k })
-
 -- a place that holds an entry, and then its hint
 module _ (raw : List ℕ) (i : ℕ) (fits : i < length raw / 2336) (e : Referral) (good : goodReferral e ≡ true) (m : List ℕ) (h : m ≡ changed i (λ q. referralUnits e) raw) where
   long : length (referralUnits e) ≡ 2336
@@ -72,12 +67,12 @@ module _ (raw : List ℕ) (i : ℕ) (fits : i < length raw / 2336) (e : Referral
   held-entry = ap (λ (x : List ℕ). referralOf (placeAt i x)) h ∙ (ap referralOf (place-changed raw i fits (λ q. referralUnits e) long) ∙ referrals-lawful .back e good)
 
   pub held-hinted : (failback : Bool) (hint : ℕ) {o : List ℕ} → o ≡ changed i (putUnit 10 (failedBack failback (entryAt referrals i m .targets) hint)) m
-      → o ≡ changed i (λ q. referralUnits (withHint (failedBack failback (e .targets) hint) e)) raw
+      → o ≡ changed i (λ q. referralUnits (targetHintTo (failedBack failback (e .targets) hint) e)) raw
   held-hinted failback hint {o} c =
       then-changed raw i fits (λ q. referralUnits e) (putUnit 10 (failedBack failback (e .targets) hint)) (λ q l. long) (keeps-unit 10 _ (omega arith)) h
       (c ∙ ap (λ (x : Referral). changed i (putUnit 10 (failedBack failback (x .targets) hint)) m) held-entry)
-      ∙ changed-same raw i fits (λ q. putUnit 10 (failedBack failback (e .targets) hint) (referralUnits e)) (λ q. referralUnits (withHint (failedBack failback (e .targets) hint) e))
-      (entry-hinted e good (failedBack failback (e .targets) hint))
+      ∙ changed-same raw i fits (λ q. putUnit 10 (failedBack failback (e .targets) hint) (referralUnits e)) (λ q. referralUnits (targetHintTo (failedBack failback (e .targets) hint) e))
+      (target-hint-units (failedBack failback (e .targets) hint) e good)
 
 -- the entry as a refresh leaves it before its hint is set
 abbrev pub based : Referral → replies.Referral → Bool → ℕ → List Target → ℕ → Referral
@@ -94,13 +89,13 @@ based e q interlink clock ts hint = record {
 
 module _ (e : Referral) (q : replies.Referral) (interlink : Bool) (clock : ℕ) where
   pub refreshed-held : {r : Bool} → r ≡ equivalent (q .version) (e .targets) (targetsIn q) → r ≡ true → (h : ℕ)
-      → withHint (failedBack (q .failback) (e .targets) (firstEqual 0 (hinted e) (e .targets))) (based e q interlink clock (e .targets) h) ≡ refreshed e q interlink clock
-  unfolding refreshed targetsAfter
+      → targetHintTo (failedBack (q .failback) (e .targets) (firstEqual 0 (hinted e) (e .targets))) (based e q interlink clock (e .targets) h) ≡ refreshed e q interlink clock
+  unfolding refreshed targetsAfter targetHintTo
   refreshed-held f g h = rw (choose-yes (e .targets) (targetsIn q) (sym f ∙ g))
 
   pub refreshed-given : {r : Bool} → r ≡ equivalent (q .version) (e .targets) (targetsIn q) → r ≡ false → (h : ℕ)
-      → withHint (failedBack (q .failback) (targetsIn q) (firstEqual 0 (hinted e) (targetsIn q))) (based e q interlink clock (targetsIn q) h) ≡ refreshed e q interlink clock
-  unfolding refreshed targetsAfter
+      → targetHintTo (failedBack (q .failback) (targetsIn q) (firstEqual 0 (hinted e) (targetsIn q))) (based e q interlink clock (targetsIn q) h) ≡ refreshed e q interlink clock
+  unfolding refreshed targetsAfter targetHintTo
   refreshed-given f g h = rw (choose-no (e .targets) (targetsIn q) (sym f ∙ g))
 
   pub held-good : goodReferral e ≡ true → goodReferral (based e q interlink clock (e .targets) (e .hint)) ≡ true
@@ -158,7 +153,7 @@ module _ (raw : List ℕ) (i : ℕ) (place : Held i raw) (r : List ℕ) (f : Ref
     unfolding referralShown
     held-done v c =
         held-hinted raw i (place .fits) _ good-held m (held-settled a) (f .failback) hint c
-        ∙ (ap (λ (x : ℕ). changed i (λ p. referralUnits (withHint (failedBack (f .failback) (entryAt referrals i raw .targets) x)
+        ∙ (ap (λ (x : ℕ). changed i (λ p. referralUnits (targetHintTo (failedBack (f .failback) (entryAt referrals i raw .targets) x)
         (based (entryAt referrals i raw) (referralShown r f) interlink clock (entryAt referrals i raw .targets) (entryAt referrals i raw .hint)))) raw) h
         ∙ ap (λ (x : Referral). changed i (λ p. referralUnits x) raw) (refreshed-held (entryAt referrals i raw) (referralShown r f) interlink clock refl v (entryAt referrals i raw .hint)))
 
@@ -196,6 +191,6 @@ module _ (raw : List ℕ) (i : ℕ) (place : Held i raw) (r : List ℕ) (f : Ref
       unfolding referralShown
       given-done v d =
           held-hinted raw i (place .fits) _ good-given m (given-settled a b c) (f .failback) hint d
-          ∙ (ap (λ (x : ℕ). changed i (λ p. referralUnits (withHint (failedBack (f .failback) (targetsIn (referralShown r f)) x) (based (entryAt referrals i raw) (referralShown r f) interlink clock (targetsIn (referralShown r f)) 0))) raw)
+          ∙ (ap (λ (x : ℕ). changed i (λ p. referralUnits (targetHintTo (failedBack (f .failback) (targetsIn (referralShown r f)) x) (based (entryAt referrals i raw) (referralShown r f) interlink clock (targetsIn (referralShown r f)) 0))) raw)
           (h ∙ ap (firstEqual 0 (hinted (entryAt referrals i raw))) (sym (targets-in r f)))
           ∙ ap (λ (x : Referral). changed i (λ p. referralUnits x) raw) (refreshed-given (entryAt referrals i raw) (referralShown r f) interlink clock refl v 0))

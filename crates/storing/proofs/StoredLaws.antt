@@ -21,6 +21,7 @@ use Rattle.lookup.specs.Lookup.{entryAt, withKey, newPlace, foundOr}
 use Rattle.lookup.specs.declared.Found.{Found}
 use Rattle.lookup.specs.declared.Found.the-variants.{At, Nothing}
 use Rattle.lookup.proofs.LookupLaws.{KeyAt, key-found, used-inside, new-inside}
+use Rattle.lookup.proofs.EntryLaws.{target-hint-good}
 use Rattle.lookup.proofs.StoreLaws.{entry-good, entry-units, entry-is, kept-in-order, new-in-order}
 use Rattle.equivalence.specs.Equivalence.{equivalent}
 use Rattle.equivalence.specs.Compared.{heldTargets, givenTargets}
@@ -33,7 +34,7 @@ use Rattle.storing.specs.Stored.{targetsIn, hinted, refreshed, fresh, st
 use Rattle.entries.specs.Writing.{keptFits}
 use Rattle.storing.specs.Writing.{Storable, Held}
 use Rattle.storing.proofs.StoreLaws.{fresh-good}
-use Rattle.storing.proofs.RefreshLaws.{based, hint-good, back-within, first-within, held-good, given-good, refreshed-held, refreshed-given}
+use Rattle.storing.proofs.RefreshLaws.{based, back-within, first-within, held-good, given-good, refreshed-held, refreshed-given}
 
 -- kept targets that fit lie inside the reply
 kept-in : (r : List ℕ) (k : Kept) → keptFits r k ≡ true → keptInside r k ≡ true
@@ -63,11 +64,11 @@ refreshed-good e q interlink clock h k = go (told (equivalent (q .version) (e .t
         → goodReferral (refreshed e q interlink clock) ≡ true
     go (inl t) =
         ap goodReferral (sym (refreshed-held e q interlink clock refl t (e .hint)))
-        ∙ hint-good (based e q interlink clock (e .targets) (e .hint)) (held-good e q interlink clock h) _
+        ∙ target-hint-good _ (based e q interlink clock (e .targets) (e .hint)) (held-good e q interlink clock h)
         (back-within (q .failback) (e .targets) _ (first-within (hinted e) (e .targets) (referral-told e h .some)))
     go (inr t) =
         ap goodReferral (sym (refreshed-given e q interlink clock refl t 0))
-        ∙ hint-good (based e q interlink clock (targetsIn q) 0) (given-good e q interlink clock h k) _
+        ∙ target-hint-good _ (based e q interlink clock (targetsIn q) 0) (given-good e q interlink clock h k)
         (back-within (q .failback) (targetsIn q) _ (first-within (hinted e) (targetsIn q) (referral-told (fresh q false 0) k .some)))
 
 -- the place of a store

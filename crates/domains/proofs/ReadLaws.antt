@@ -8,6 +8,7 @@ use native.Mathlib.Omega.{arith}
 use lib.ListN.{length, length-map, length-take}
 use lib.Seq.{take-all}
 use lib.Dec.{leb, eqb}
+use denote.Enum.Declared.{tagOf}
 use borrow.Author.Tests.{leb-true, le-leb, lt-leb, ne-eqb}
 use Rattle.laws.specs.Choice.{choose}
 use Rattle.laws.specs.Lists.{every}
@@ -20,7 +21,8 @@ use Rattle.caches.specs.Memory.{domains, rightSize, encode, inOrder}
 use Rattle.caches.proofs.MemoryLaws.{RightSize, size-told}
 use Rattle.referral.specs.Replies.{Reply, malformed, nothing, says, entries, versionAt, entryFlag, fits}
 use Rattle.referral.specs.declared.Answer.{Answer}
-use Rattle.referral.specs.declared.Answer.the-variants.{Malformed, Nothing, Says}
+use Rattle.referral.specs.declared.Answer.the-variants.{Says}
+use Rattle.referral.proofs.Answer.{the-type}
 use Rattle.namelists.specs.NameLists.{readDomains, domainAt, goodDomain}
 use Rattle.namelists.specs.Found.{answerOf}
 use Rattle.namelists.proofs.SaysLaws.{SoundDomains, says-domains, domain-name-good}
@@ -131,12 +133,10 @@ module _ (size : ℕ) (r raw : List ℕ) where
             let n : refusalNumber v ≡ domainsNumber size r raw = p ∙ (ap (namesNumber (placeCount raw)) (sym (sound .is)) ∙ sym number-is) in
             (n, q ∙ (λ i. cacheAfter (n i) (namesIn (sym (sound .is) i)) raw))
 
--- an answer is one of three
-pub malformed-says : {a : Answer} → a ≡ Malformed → a ≡ Says → ⊥
-malformed-says h k = let z : _≡_ {A = ℕ} 0 1 = cc in omega arith
-
-pub nothing-says : {a : Answer} → a ≡ Nothing → a ≡ Says → ⊥
-nothing-says h k = let z : _≡_ {A = ℕ} 0 1 = cc in omega arith
+-- an answer that is the first or the second of the three
+pub not-says : (a : Answer) → (tagOf the-type a ≡ 0) ⊎ (tagOf the-type a ≡ 1) → a ≡ Says → ⊥
+not-says a (inl p) h = let t : tagOf the-type a ≡ 2 = ap (tagOf the-type) h in omega arith
+not-says a (inr p) h = let t : tagOf the-type a ≡ 2 = ap (tagOf the-type) h in omega arith
 
 -- a domain reply that was read: its names are good
 names-good : (r : List ℕ) (es : List ℕ) → every (goodDomain r) es ≡ true → every goodName (map (domainAt r) es) ≡ true

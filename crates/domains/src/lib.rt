@@ -170,12 +170,10 @@ pub fn read_domains(reply: &[u8], size: u32, cache: &mut [u16]) -> DomainsRead
     if MOST_SIZE < size {
         return DomainsRead::BadSize;
     }
-    let a = namelists::read_domains(reply, size);
-    match a {
-        Answer::Malformed => DomainsRead::Unreadable,
-        Answer::Nothing => DomainsRead::Unreadable,
-        Answer::Says => replace(reply, cache),
-    }
+    let Answer::Says = namelists::read_domains(reply, size) else {
+        return DomainsRead::Unreadable;
+    };
+    replace(reply, cache)
 }
 
 // The request for domains, whose name is empty, into a lent buffer.

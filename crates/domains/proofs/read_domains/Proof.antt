@@ -6,7 +6,7 @@ use native.Mathlib.Omega.{arith}
 use borrow.Author.Tests.{not-true, not-false}
 use Rattle.caches.specs.Memory.{rightSize}
 use Rattle.domains.specs.Domains.{goodSize}
-use Rattle.domains.proofs.ReadLaws.{size-small, size-large, size-fine, not-in-order, bad-size, unreadable, malformed-says, nothing-says, well-formed, was-read}
+use Rattle.domains.proofs.ReadLaws.{size-small, size-large, size-fine, not-in-order, bad-size, unreadable, not-says, well-formed, was-read}
 use borrow.Author.Needs.{needs}
 use Rattle.domains.proofs.read_domains.Statement.{statement}
 use Rattle.domains.proofs.read_domains.Tie as tie
@@ -44,48 +44,32 @@ read-domains-requires c κs = search needs
 enum-told : tie.Need-enum-told
 enum-told c = search needs
 
-enum-told-2 : tie.Need-enum-told-2
-enum-told-2 c = search needs
+same-length-4 : tie.Need-same-length-4
+same-length-4 c = search needs
 
-enum-told-3 : tie.Need-enum-told-3
-enum-told-3 c = search needs
+returns-4 : tie.Need-returns-4
+returns-4 c =
+    let s = c .before .before .before .before .before .before .before .before .before in
+    let right : rightSize (now (s .args .cache)) ≡ true = sym (c .before .before .before .before .before .right-size .ensures) ∙ not-false _ (c .before .before .before .before .if1 .left) in
+    let fine : goodSize (s .args .size) ≡ true = size-fine (s .args .size) (omega (arith, c .before .before .before .if2 .left)) (omega (arith, c .before .before .if3 .left)) in
+    unreadable (s .args .size) (now (s .args .reply)) (now (s .args .cache)) right fine (c .before .read-domains .ensures) (not-says _ (c .match .keys2))
 
 replace-requires : tie.Need-replace-requires
 replace-requires c κs =
     let s = c .before .before .before .before .before .before .before .before .before .before .before in
     let right : rightSize (now (s .args .cache)) ≡ true = sym (c .before .before .before .before .before .before .before .right-size .ensures) ∙ not-false _ (c .before .before .before .before .before .before .if1 .left) in
     let fine : goodSize (s .args .size) ≡ true = size-fine (s .args .size) (omega (arith, c .before .before .before .before .before .if2 .left)) (omega (arith, c .before .before .before .before .if3 .left)) in
-    (well-formed (s .args .size) (now (s .args .reply)) (now (s .args .cache)) right fine (c .before .before .before .read-domains .ensures) (c .before .enum-told3 .given .1) (omega (arith, c .before .before .before .before .if3 .left)), right)
-
-same-length-4 : tie.Need-same-length-4
-same-length-4 c = search needs
-
-returns-4 : tie.Need-returns-4
-returns-4 c =
-    let s = c .before .before .before .before .before .before .before .before .before .before in
-    let right : rightSize (now (s .args .cache)) ≡ true = sym (c .before .before .before .before .before .before .right-size .ensures) ∙ not-false _ (c .before .before .before .before .before .if1 .left) in
-    let fine : goodSize (s .args .size) ≡ true = size-fine (s .args .size) (omega (arith, c .before .before .before .before .if2 .left)) (omega (arith, c .before .before .before .if3 .left)) in
-    unreadable (s .args .size) (now (s .args .reply)) (now (s .args .cache)) right fine (c .before .before .read-domains .ensures) (malformed-says (c .enum-told .given .1))
+    (well-formed (s .args .size) (now (s .args .reply)) (now (s .args .cache)) right fine (c .before .before .before .read-domains .ensures) (c .before .enum-told .given .1) (omega (arith, c .before .before .before .before .if3 .left)), right)
 
 same-length-5 : tie.Need-same-length-5
 same-length-5 c = search needs
 
 returns-5 : tie.Need-returns-5
 returns-5 c =
-    let s = c .before .before .before .before .before .before .before .before .before .before in
-    let right : rightSize (now (s .args .cache)) ≡ true = sym (c .before .before .before .before .before .before .right-size .ensures) ∙ not-false _ (c .before .before .before .before .before .if1 .left) in
-    let fine : goodSize (s .args .size) ≡ true = size-fine (s .args .size) (omega (arith, c .before .before .before .before .if2 .left)) (omega (arith, c .before .before .before .if3 .left)) in
-    unreadable (s .args .size) (now (s .args .reply)) (now (s .args .cache)) right fine (c .before .before .read-domains .ensures) (nothing-says (c .enum-told2 .given .1))
-
-same-length-6 : tie.Need-same-length-6
-same-length-6 c = search needs
-
-returns-6 : tie.Need-returns-6
-returns-6 c =
     let s = c .before .before .before .before .before .before .before .before .before .before .before .before .before .before in
     let right : rightSize (now (s .args .cache)) ≡ true = sym (c .before .before .before .before .before .before .before .before .before .before .right-size .ensures) ∙ not-false _ (c .before .before .before .before .before .before .before .before .before .if1 .left) in
     let fine : goodSize (s .args .size) ≡ true = size-fine (s .args .size) (omega (arith, c .before .before .before .before .before .before .before .before .if2 .left)) (omega (arith, c .before .before .before .before .before .before .before .if3 .left)) in
-    was-read (s .args .size) (now (s .args .reply)) (now (s .args .cache)) right fine (c .before .before .before .before .before .before .read-domains .ensures) (c .before .before .before .before .enum-told3 .given .1) (c .before .before .replace .result) (c .before .before .replace .ensures .0) (c .before .before .replace .ensures .1)
+    was-read (s .args .size) (now (s .args .reply)) (now (s .args .cache)) right fine (c .before .before .before .before .before .before .read-domains .ensures) (c .before .before .before .before .enum-told .given .1) (c .before .before .replace .result) (c .before .before .replace .ensures .0) (c .before .before .replace .ensures .1)
 
 pub read-domains-spec : {M : Type 1} → statement M
 read-domains-spec =
@@ -100,12 +84,8 @@ read-domains-spec =
     returns-3
     read-domains-requires
     enum-told
-    enum-told-2
-    enum-told-3
-    replace-requires
     same-length-4
     returns-4
+    replace-requires
     same-length-5
-    returns-5
-    same-length-6
-    returns-6)
+    returns-5)

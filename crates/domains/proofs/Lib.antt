@@ -5,3 +5,4 @@ pub mod GatherLaws
 pub mod NamesLaws
 pub mod ReadLaws
 pub mod RequestLaws
+pub mod Examples

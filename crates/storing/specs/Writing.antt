@@ -1,19 +1,20 @@
 -- What is known of a reply and of a place where an entry is written.
 use Prim.Native.Nat.{ℕ, _/_, _≤_, _<_}
 use mathlib.Core.Path.{_≡_}
-use mathlib.Core.Bool.{true, false}
+use mathlib.Core.Bool.{Bool, true, false}
 use mathlib.Core.List.{List}
 use lib.ListN.{length, take}
 use Rattle.laws.specs.Lists.{every}
-use Rattle.places.specs.Layout.{placeAt}
+use Rattle.places.specs.Layout.{placeAt, changed}
 use Rattle.spans.specs.Spans.{Inside}
 use Rattle.caches.specs.Order.{goodReferral}
 use Rattle.caches.specs.Memory.{referrals, referralUnits}
 use Rattle.lookup.specs.Lookup.{entryAt}
 use Rattle.referral.specs.Found.{referralShown}
 use Rattle.referral.specs.declared.ReferralFound.{ReferralFound}
+use Rattle.equivalence.specs.Equivalence.{equivalent}
 use Rattle.entries.specs.Writing.{keptFits}
-use Rattle.storing.specs.Stored.{fresh}
+use Rattle.storing.specs.Stored.{targetsIn, refreshed, fresh}
 
 -- what a reply must be to be stored: its spans lie inside it, and the entry that it makes is good
 pub record Storable (r : List ℕ) (f : ReferralFound) : Type 0 where
@@ -27,3 +28,15 @@ pub record Held (i : ℕ) (raw : List ℕ) : Type 0 where
   pub fits : i < length raw / 2336
   pub good : goodReferral (entryAt referrals i raw) ≡ true
   pub units : placeAt i raw ≡ referralUnits (entryAt referrals i raw)
+
+-- whether the targets of the entry at place i are equivalent to those of the reply
+abbrev pub equivalentAt : ℕ → List ℕ → List ℕ → ReferralFound → Bool
+equivalentAt i raw r f = equivalent (f .version) (entryAt referrals i raw .targets) (targetsIn (referralShown r f))
+
+-- the memory with the entry at place i refreshed, and with a new entry there
+abbrev pub refreshedAt : ℕ → List ℕ → ReferralFound → Bool → ℕ → List ℕ → List ℕ
+refreshedAt i r f interlink clock raw =
+    changed i (λ q. referralUnits (refreshed (entryAt referrals i raw) (referralShown r f) interlink clock)) raw
+
+abbrev pub insertedAt : ℕ → List ℕ → ReferralFound → Bool → ℕ → List ℕ → List ℕ
+insertedAt i r f interlink clock raw = changed i (λ q. referralUnits (fresh (referralShown r f) interlink clock)) raw

@@ -7,17 +7,13 @@ ghost use lib.ListN.{length, take};
 ghost use Rattle.laws.specs.Lists.{every};
 ghost use Rattle.spans.specs.Spans.{spanned, Inside};
 ghost use Rattle.places.specs.Layout.{changed, placeAt, putUnit, putSettings};
-ghost use Rattle.caches.specs.Memory.{referrals, decode};
+ghost use Rattle.caches.specs.Memory.{referrals, decode, encode, inOrder};
 ghost use Rattle.lookup.specs.Keys.{keyIs};
 ghost use Rattle.lookup.specs.Lookup.{entryAt, withKey};
-ghost use Rattle.storing.specs.Stored.{firstEqual, hinted, inFirstSet, failedBack, fresh, refreshed, targetsIn};
-ghost use Rattle.equivalence.specs.Equivalence.{equivalent};
-ghost use Rattle.caches.specs.Memory.{encode, inOrder};
-ghost use Rattle.storing.specs.Stored.{stored, storePlace};
-ghost use Rattle.caches.specs.Memory.{referralUnits};
+ghost use Rattle.storing.specs.Stored.{firstEqual, hinted, inFirstSet, failedBack, stored, storePlace};
 ghost use Rattle.referral.specs.Found.{referralShown};
 ghost use Rattle.entries.specs.Writing.{heldTarget, keptFits, settings};
-ghost use Rattle.storing.specs.Writing.{Storable, Held};
+ghost use Rattle.storing.specs.Writing.{Storable, Held, equivalentAt, refreshedAt, insertedAt};
 use lookup::Found;
 use places::PLACE;
 use referral::Kept;
@@ -144,7 +140,7 @@ fn insert(
     clock: u32,
 )
     requires { ⌜ (i < length (now cache) / 2336) × Storable (now reply) found ⌝ }
-    ensures { λ r. ⌜ now (cache .exit) ≡ changed i (λ q. referralUnits (fresh (referralShown (now (reply .entry)) found) interlink clock)) (now (cache .entry)) ⌝ }
+    ensures { λ r. ⌜ now (cache .exit) ≡ insertedAt i (now (reply .entry)) found interlink clock (now (cache .entry)) ⌝ }
 {
     let prefix = found.prefix;
     let kept = found.kept;
@@ -163,8 +159,8 @@ fn refresh_held(
     interlink: bool,
     clock: u32,
 )
-    requires { ⌜ Held i (now cache) × (equivalent (found .version) (entryAt referrals i (now cache) .targets) (targetsIn (referralShown (now reply) found)) ≡ true) ⌝ }
-    ensures { λ r. ⌜ now (cache .exit) ≡ changed i (λ q. referralUnits (refreshed (entryAt referrals i (now (cache .entry))) (referralShown (now (reply .entry)) found) interlink clock)) (now (cache .entry)) ⌝ }
+    requires { ⌜ Held i (now cache) × (equivalentAt i (now cache) (now reply) found ≡ true) ⌝ }
+    ensures { λ r. ⌜ now (cache .exit) ≡ refreshedAt i (now (reply .entry)) found interlink clock (now (cache .entry)) ⌝ }
 {
     let hint = held_place(cache, i);
     settle(cache, i, found, interlink, clock);
@@ -180,8 +176,8 @@ fn refresh_given(
     interlink: bool,
     clock: u32,
 )
-    requires { ⌜ Held i (now cache) × (Storable (now reply) found × (equivalent (found .version) (entryAt referrals i (now cache) .targets) (targetsIn (referralShown (now reply) found)) ≡ false)) ⌝ }
-    ensures { λ r. ⌜ now (cache .exit) ≡ changed i (λ q. referralUnits (refreshed (entryAt referrals i (now (cache .entry))) (referralShown (now (reply .entry)) found) interlink clock)) (now (cache .entry)) ⌝ }
+    requires { ⌜ Held i (now cache) × (Storable (now reply) found × (equivalentAt i (now cache) (now reply) found ≡ false)) ⌝ }
+    ensures { λ r. ⌜ now (cache .exit) ≡ refreshedAt i (now (reply .entry)) found interlink clock (now (cache .entry)) ⌝ }
 {
     let kept = found.kept;
     let count = found.targets;
@@ -202,7 +198,7 @@ fn refresh(
     clock: u32,
 )
     requires { ⌜ Held i (now cache) × Storable (now reply) found ⌝ }
-    ensures entry { λ r. ⌜ now (cache .exit) ≡ changed i (λ q. referralUnits (refreshed (entryAt referrals i (now (cache .entry))) (referralShown (now (reply .entry)) found) interlink clock)) (now (cache .entry)) ⌝ }
+    ensures entry { λ r. ⌜ now (cache .exit) ≡ refreshedAt i (now (reply .entry)) found interlink clock (now (cache .entry)) ⌝ }
 {
     let kept = found.kept;
     let count = found.targets;

@@ -1,0 +1,12 @@
+use Rattle.rounds.proofs.RoundLaws.{round-past, round-on}
+use Rattle.rounds.proofs.in_round.Statement.{statement}
+use Rattle.rounds.proofs.in_round.Tie as tie
+
+returns : tie.Need-returns
+returns c = round-past _ _ _ (c .if1 .taken)
+
+returns-2 : tie.Need-returns-2
+returns-2 c = round-on _ _ _ (c .if1 .left)
+
+pub in-round-spec : {M : Type 1} → statement M
+in-round-spec = tie.close (tie.spec returns returns-2)

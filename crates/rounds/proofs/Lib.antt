@@ -1,2 +1,3 @@
 -- Laws.
 pub mod RoundLaws
+pub mod FailLaws

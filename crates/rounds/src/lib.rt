@@ -9,8 +9,8 @@ ghost use Rattle.unc.specs.Paths.{components};
 ghost use Rattle.caches.specs.Memory.{domains, decode};
 ghost use Rattle.caches.specs.Order.{goodPrefix};
 ghost use Rattle.lookup.specs.Lookup.{withKey};
-ghost use Rattle.steps.specs.Steps.{inUse, nextPlace, failedHost, failed, referralFails};
-ghost use Rattle.steps.specs.Rested.{cachesOf, coreOf, restedOf};
+ghost use Rattle.steps.specs.Steps.{inUse, nextPlace, doubled, failedHost, failed, referralFails};
+ghost use Rattle.steps.specs.Rested.{cachesOf, coreOf, askingOf, restedOf, askedAt};
 ghost use Rattle.rounds.specs.Rounds.{questionOf, restsAt, domainThere, dcsNamed, targetsUnder, inRound, again, failedDc, failedRoot, failedLink};
 use lookup::Found;
 use steps::Asking;
@@ -108,4 +108,164 @@ pub fn next_place(n: usize, place: u16) -> u16
         return 0;
     }
     next as u16
+}
+
+fn asks_again(status: u32, size: u32) -> bool
+    ensures { λ r. ⌜ r ≡ again status size ⌝ }
+{
+    if status != OVERFLOW {
+        return false;
+    }
+    size < MOST
+}
+
+fn doubled(size: u32) -> u32
+    requires { ⌜ size < 57344 ⌝ }
+    ensures { λ r. ⌜ r ≡ min (2 * size) 57344 ⌝ }
+{
+    let twice = 2 * size;
+    if MOST < twice {
+        return MOST;
+    }
+    twice
+}
+
+// The same party again, with the size doubled.
+fn ask_again(path: usize, left: u16, hit: bool, q: Asking) -> Rested
+    requires { ⌜ (path ≤ 256) × (q .size < 57344) ⌝ }
+    ensures { λ r. ⌜ r ≡ askedAt (askingOf (doubled (questionOf q []))) path left hit ⌝ }
+{
+    let kind = q.kind;
+    let more = Asking {
+        kind,
+        entry: q.entry,
+        party: q.party,
+        began: q.began,
+        size: doubled(q.size),
+        covered: q.covered,
+    };
+    steps::ask(more, path, left, hit)
+}
+
+// A root request to a host has one party.
+fn failed_host(path: &[u16], left: u16, hit: bool, size: u32, status: u32) -> Rested
+    requires { ⌜ length (now path) ≤ 256 ⌝ }
+    ensures { λ r. ⌜ r ≡ restedOf (restsAt left (coreOf (now (path .entry)) size hit) (failedHost (coreOf (now (path .entry)) size hit) status)) ⌝ }
+{
+    if hit {
+        return steps::end_at(End::Failed, status, path.len(), left, hit);
+    }
+    steps::end_at(End::NotDfs, 0, path.len(), left, hit)
+}
+
+// The next DC, from the given size.
+fn failed_dc(doms: &[u16], path: &[u16], left: u16, hit: bool, size: u32, q: Asking) -> Rested
+    requires { ⌜ goodPrefix (now path) ≡ true ⌝ }
+    ensures { λ r. ⌜ r ≡ restedOf (restsAt left (coreOf (now (path .entry)) size hit) (failedDc (dcsNamed (now (path .entry)) (now (doms .entry))) (coreOf (now (path .entry)) size hit) (questionOf q []))) ⌝ }
+{
+    let next = next_place(dcs(doms, path), q.party);
+    if next == q.began {
+        return steps::end_at(End::NoDc, NOT_FOUND, path.len(), left, hit);
+    }
+    let n = unc::first_end(path, 1);
+    let asked = Asking {
+        kind: Kind::Root,
+        entry: n as u16,
+        party: next,
+        began: q.began,
+        size,
+        covered: false,
+    };
+    steps::ask(asked, path.len(), left, hit)
+}
+
+fn failed_root(
+    doms: &[u16],
+    path: &[u16],
+    left: u16,
+    hit: bool,
+    size: u32,
+    q: Asking,
+    status: u32,
+) -> Rested
+    requires { ⌜ goodPrefix (now path) ≡ true ⌝ }
+    ensures { λ r. ⌜ r ≡ restedOf (restsAt left (coreOf (now (path .entry)) size hit) (failedRoot (dcsNamed (now (path .entry)) (now (doms .entry))) (coreOf (now (path .entry)) size hit) (questionOf q []) status)) ⌝ }
+{
+    if q.entry == 0 {
+        return failed_host(path, left, hit, size, status);
+    }
+    failed_dc(doms, path, left, hit, size, q)
+}
+
+// The next target, from the given size.
+fn failed_link(
+    refs: &[u16],
+    path: &[u16],
+    left: u16,
+    hit: bool,
+    size: u32,
+    q: Asking,
+    status: u32,
+) -> Rested
+    requires { ⌜ (length (now path) ≤ 256) × (q .entry ≤ length (now path)) ⌝ }
+    ensures { λ r. ⌜ r ≡ restedOf (restsAt left (coreOf (now (path .entry)) size hit) (failedLink (targetsUnder (take (q .entry) (now (path .entry))) (now (refs .entry))) (coreOf (now (path .entry)) size hit) (questionOf q []) status)) ⌝ }
+{
+    let entry = q.entry as usize;
+    let next = next_place(targets(refs, &path[..entry]), q.party);
+    if next == q.began {
+        return steps::end_at(End::Failed, status, path.len(), left, hit);
+    }
+    let asked = Asking {
+        kind: Kind::Link,
+        entry: q.entry,
+        party: next,
+        began: q.began,
+        size,
+        covered: q.covered,
+    };
+    steps::ask(asked, path.len(), left, hit)
+}
+
+// What comes after the party, by the kind of the question.
+fn failed(
+    refs: &[u16],
+    doms: &[u16],
+    path: &[u16],
+    left: u16,
+    hit: bool,
+    size: u32,
+    q: Asking,
+    status: u32,
+) -> Rested
+    requires { ⌜ (goodPrefix (now path) ≡ true) × (q .entry ≤ length (now path)) ⌝ }
+    ensures { λ r. ⌜ r ≡ restedOf (restsAt left (coreOf (now (path .entry)) size hit) (failed (cachesOf (now (refs .entry)) (now (doms .entry))) (coreOf (now (path .entry)) size hit) (questionOf q []) status)) ⌝ }
+{
+    let kind = q.kind;
+    match kind {
+        Kind::Dc => steps::end_at(End::NoDc, status, path.len(), left, hit),
+        Kind::Root => failed_root(doms, path, left, hit, size, q, status),
+        Kind::Link => failed_link(refs, path, left, hit, size, q, status),
+        Kind::Sysvol => steps::end_at(End::NoDc, status, path.len(), left, hit),
+        Kind::Io => steps::end_at(End::Failed, status, path.len(), left, hit),
+    }
+}
+
+// A referral request failed: severity 2 or 3.
+pub fn referral_fails(
+    refs: &[u16],
+    doms: &[u16],
+    path: &[u16],
+    left: u16,
+    hit: bool,
+    size: u32,
+    q: Asking,
+    status: u32,
+) -> Rested
+    requires { ⌜ (goodPrefix (now path) ≡ true) × (q .entry ≤ length (now path)) ⌝ }
+    ensures { λ r. ⌜ r ≡ restedOf (restsAt left (coreOf (now (path .entry)) size hit) (referralFails (cachesOf (now (refs .entry)) (now (doms .entry))) (coreOf (now (path .entry)) size hit) (questionOf q []) status)) ⌝ }
+{
+    if asks_again(status, q.size) {
+        return ask_again(path.len(), left, hit, q);
+    }
+    failed(refs, doms, path, left, hit, size, q, status)
 }

@@ -1,0 +1,70 @@
+use Rattle.rounds.proofs.FailLaws.{failed-dc, failed-root, failed-link, failed-sysvol, failed-io}
+use Rattle.caches.proofs.KindLaws.{prefix-short}
+use borrow.Author.Needs.{needs}
+use Rattle.rounds.proofs.failed.Statement.{statement}
+use Rattle.rounds.proofs.failed.Tie as tie
+
+enum-told : tie.Need-enum-told
+enum-told c = search needs
+
+end-at-requires : tie.Need-end-at-requires
+end-at-requires c κs = prefix-short _ (c .before .before .before .before .before .pre .0)
+
+enum-told-2 : tie.Need-enum-told-2
+enum-told-2 c = search needs
+
+failed-root-requires : tie.Need-failed-root-requires
+failed-root-requires c κs = search needs
+
+enum-told-3 : tie.Need-enum-told-3
+enum-told-3 c = search needs
+
+failed-link-requires : tie.Need-failed-link-requires
+failed-link-requires c κs = (prefix-short _ (c .before .before .before .before .before .pre .0), c .before .before .before .before .before .pre .1)
+
+enum-told-4 : tie.Need-enum-told-4
+enum-told-4 c = search needs
+
+end-at-requires-2 : tie.Need-end-at-requires-2
+end-at-requires-2 c κs = prefix-short _ (c .before .before .before .before .before .pre .0)
+
+enum-told-5 : tie.Need-enum-told-5
+enum-told-5 c = search needs
+
+end-at-requires-3 : tie.Need-end-at-requires-3
+end-at-requires-3 c κs = prefix-short _ (c .before .before .before .before .before .pre .0)
+
+returns : tie.Need-returns
+returns c = failed-dc _ _ _ _ _ _ (c .before .enum-told .given .1) (c .end-at .ensures)
+
+returns-2 : tie.Need-returns-2
+returns-2 c = failed-root _ _ _ _ _ _ (c .before .enum-told2 .given .1) (c .failed-root .ensures)
+
+returns-3 : tie.Need-returns-3
+returns-3 c = failed-link _ _ _ _ _ _ (c .before .enum-told3 .given .1) (c .failed-link .ensures)
+
+returns-4 : tie.Need-returns-4
+returns-4 c = failed-sysvol _ _ _ _ _ _ (c .before .enum-told4 .given .1) (c .end-at2 .ensures)
+
+returns-5 : tie.Need-returns-5
+returns-5 c = failed-io _ _ _ _ _ _ (c .before .enum-told5 .given .1) (c .end-at3 .ensures)
+
+pub failed-spec : {M : Type 1} → statement M
+failed-spec =
+    tie.close
+    (tie.spec
+    enum-told
+    end-at-requires
+    enum-told-2
+    failed-root-requires
+    enum-told-3
+    failed-link-requires
+    enum-told-4
+    end-at-requires-2
+    enum-told-5
+    end-at-requires-3
+    returns
+    returns-2
+    returns-3
+    returns-4
+    returns-5)

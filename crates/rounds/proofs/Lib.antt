@@ -1,3 +1,4 @@
 -- Laws.
 pub mod RoundLaws
 pub mod FailLaws
+pub mod QuietLaws

@@ -2,3 +2,4 @@
 pub mod RoundLaws
 pub mod FailLaws
 pub mod QuietLaws
+pub mod TableLaws

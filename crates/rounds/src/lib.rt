@@ -9,7 +9,7 @@ ghost use Rattle.unc.specs.Paths.{components};
 ghost use Rattle.caches.specs.Memory.{domains, decode};
 ghost use Rattle.caches.specs.Order.{goodPrefix};
 ghost use Rattle.lookup.specs.Lookup.{withKey};
-ghost use Rattle.steps.specs.Steps.{inUse, nextPlace, doubled, failedHost, failed, referralFails};
+ghost use Rattle.steps.specs.Steps.{inUse, nextPlace, doubled, failedHost, failed, referralFails, isOneOf, nextTargetStatuses};
 ghost use Rattle.steps.specs.Rested.{cachesOf, coreOf, askingOf, restedOf, askedAt};
 ghost use Rattle.rounds.specs.Rounds.{questionOf, restsAt, domainThere, dcsNamed, targetsUnder, inRound, again, failedDc, failedRoot, failedLink};
 use lookup::Found;
@@ -23,6 +23,16 @@ const OVERFLOW: u32 = 0x80000005;
 const NOT_FOUND: u32 = 0xC000003A;
 
 const MOST: u32 = 57344;
+
+// The statuses on which an I/O goes on to the next target.
+const NEXT: [u32; 6] = [
+    0xC00000B5,
+    0xC00000BE,
+    0xC00000C9,
+    0xC00000CC,
+    0xC0000236,
+    0xC000023D,
+];
 
 // The place of the domain of the path's first component.
 fn domain_place(doms: &[u16], path: &[u16]) -> Found
@@ -268,4 +278,25 @@ pub fn referral_fails(
         return ask_again(path.len(), left, hit, q);
     }
     failed(refs, doms, path, left, hit, size, q, status)
+}
+
+fn is_one_of(status: u32, table: &[u32]) -> bool
+    ensures { λ r. ⌜ r ≡ isOneOf status (now (table .entry)) ⌝ }
+{
+    let mut i = 0;
+    while i < table.len() {
+        if status == table[i] {
+            return true;
+        }
+        i += 1;
+    }
+    false
+}
+
+// Whether an I/O that fails with this status goes on to the next target.
+pub fn is_next(status: u32) -> bool
+    ensures { λ r. ⌜ r ≡ isOneOf status nextTargetStatuses ⌝ }
+{
+    let next = NEXT;
+    is_one_of(status, &next)
 }

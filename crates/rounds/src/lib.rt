@@ -1,10 +1,10 @@
 // Rounds over DCs and targets: whether the entry in use still has its parties, and what comes after a failure.
 ghost use mathlib.Core.Path.{_≡_};
-ghost use mathlib.Core.Bool.{true, _||_, _&&_};
+ghost use mathlib.Core.Bool.{true, _||_};
 ghost use mathlib.Core.List.{[]};
 ghost use Prim.Native.Nat.{_≤_, _<_, _*_, min};
 ghost use lib.ListN.{length, getD, take};
-ghost use lib.Dec.{eqb, ltb};
+ghost use lib.Dec.{eqb};
 ghost use Rattle.unc.specs.Paths.{components};
 ghost use Rattle.caches.specs.Memory.{domains, decode};
 ghost use Rattle.caches.specs.Order.{goodPrefix};
@@ -173,15 +173,15 @@ fn failed_dc(doms: &[u16], path: &[u16], left: u16, hit: bool, size: u32, q: Ask
     requires { ⌜ goodPrefix (now path) ≡ true ⌝ }
     ensures { λ r. ⌜ r ≡ restedOf (restsAt left (coreOf (now (path .entry)) size hit) (failedDc (dcsNamed (now (path .entry)) (now (doms .entry))) (coreOf (now (path .entry)) size hit) (questionOf q []))) ⌝ }
 {
-    let next = next_place(dcs(doms, path), q.party);
-    if next == q.began {
+    let dc = next_place(dcs(doms, path), q.party);
+    if dc == q.began {
         return steps::end_at(End::NoDc, NOT_FOUND, path.len(), left, hit);
     }
-    let n = unc::first_end(path, 1);
+    let entry = unc::first_end(path, 1) as u16;
     let asked = Asking {
         kind: Kind::Root,
-        entry: n as u16,
-        party: next,
+        entry,
+        party: dc,
         began: q.began,
         size,
         covered: false,
@@ -221,14 +221,14 @@ fn failed_link(
     ensures { λ r. ⌜ r ≡ restedOf (restsAt left (coreOf (now (path .entry)) size hit) (failedLink (targetsUnder (take (q .entry) (now (path .entry))) (now (refs .entry))) (coreOf (now (path .entry)) size hit) (questionOf q []) status)) ⌝ }
 {
     let entry = q.entry as usize;
-    let next = next_place(targets(refs, &path[..entry]), q.party);
-    if next == q.began {
+    let target = next_place(targets(refs, &path[..entry]), q.party);
+    if target == q.began {
         return steps::end_at(End::Failed, status, path.len(), left, hit);
     }
     let asked = Asking {
         kind: Kind::Link,
         entry: q.entry,
-        party: next,
+        party: target,
         began: q.began,
         size,
         covered: q.covered,

@@ -23,8 +23,8 @@ returns c = dc-exhausted _ _ _ (c .before .before .before .next-place .ensures) 
 first-end-requires : tie.Need-first-end-requires
 first-end-requires c κs = search needs
 
-cast-t15 : tie.Need-cast-t15
-cast-t15 c = omega (arith, first-within 1 _ (c .first-end .ensures), prefix-short _ (c .before .before .before .before .before .before .before .pre))
+cast-entry : tie.Need-cast-entry
+cast-entry c = omega (arith, first-within 1 _ (c .first-end .ensures), prefix-short _ (c .before .before .before .before .before .before .before .pre))
 
 ask-requires : tie.Need-ask-requires
 ask-requires c κs = prefix-short _ (c .before .before .before .before .before .before .before .pre)
@@ -41,6 +41,6 @@ failed-dc-spec =
     end-at-requires
     returns
     first-end-requires
-    cast-t15
+    cast-entry
     ask-requires
     returns-2)

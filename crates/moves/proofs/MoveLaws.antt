@@ -228,7 +228,7 @@ tried-size (suc n) p a z hit e j b = go (told (leb (length (replaced (targetPath
     go (inl h) = same n (waits q) (choose-yes _ _ h) (choose-yes _ _ h)
     go (inr h) = same (suc n) (ended ends.TooLong 0 []) (choose-no _ _ h) (choose-no _ _ h)
 
-goes-asks : (n : ℕ) (c : Caches) (clock : ℕ) (w : Core) (q : Question) → goes n c clock w (asks q) ≡ asking n w q
+pub goes-asks : (n : ℕ) (c : Caches) (clock : ℕ) (w : Core) (q : Question) → goes n c clock w (asks q) ≡ asking n w q
 unfolding goes
 goes-asks zero c clock w q = refl
 goes-asks (suc n) c clock w q = refl

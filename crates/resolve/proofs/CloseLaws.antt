@@ -25,17 +25,18 @@ use Rattle.laws.proofs.Orders.{told}
 use Rattle.texts.specs.Texts.{textsOf, Standing}
 use Rattle.caches.specs.Order.{goodPrefix}
 use Rattle.caches.specs.Memory.{referrals, domains, inOrder}
-use Rattle.steps.specs.Steps.{Caches, Core, Question, Called, stops, ends, asks, replaces, Turn, Rest, Resting, waits, ended, rests, asking, started, fromStep2, goes, hitAt, withHit, withPath, step2}
-use Rattle.steps.specs.Rested.{cachesOf, coreOf, triedOf, restedOf, endedAt}
+use Rattle.steps.specs.Steps.{Caches, Core, stops, ends, Turn, Rest, Resting, ended, rests, started, fromStep2, goes, hitAt, withHit, step2, turned}
+use Rattle.steps.specs.Rested.{cachesOf, coreOf, restedOf, endedAt}
 use Rattle.steps.specs.declared.End.{End}
-use Rattle.steps.specs.declared.End.the-variants.{NotDfs, TooLong}
+use Rattle.steps.specs.declared.End.the-variants.{NotDfs}
 use Rattle.steps.specs.declared.Rested.{Rested}
 use Rattle.moves.specs.Moves.{Packed, joined, packed, stepsFrom, Ready}
 use Rattle.moves.proofs.MoveLaws.{standing-path, packed-end}
 use Rattle.questions.specs.Questions.{nameFits, withRequest, nextUnits, named}
 use Rattle.questions.proofs.NameLaws.{rest-fits, rest-out}
+use Rattle.answers.proofs.RestLaws.{Kept, kept-goes, rested-is, rooms-are, path-is, rest-left, rest-path}
 use Rattle.walks.specs.declared.Walk.{Walk}
-use Rattle.resolve.specs.Calls.{Left, refused, turned, closes, startRest, startCall}
+use Rattle.resolve.specs.Calls.{Left, refused, closes, startRest, startCall}
 use Rattle.walks.specs.Walks.{goodSettings, lent, walkOf, textsAfter}
 use Rattle.resolve.specs.Closing.{left, walkWith, closedStart, pathRooms, startAt, Begun}
 use Rattle.resolve.specs.declared.Verdict.the-variants.{Taken, BadPath, LongPath, BadSettings, NotInOrder, OutOfForm, ShortBuffer}
@@ -277,47 +278,6 @@ module _ (refs doms texts : List ℕ) (walk : Walk) (path boot : List ℕ) (limi
   unfolding startAt
   at-taken u v d = d ∙ sym (choose-yes _ _ (sym p ∙ u) ∙ choose-yes _ _ (eq-eqb _ 768 v))
 
--- what the steps keep: the size given, the moves that were left at most, a path that fits its room
-pub record Kept (n : ℕ) (w : Core) (x : Resting) : Type 0 where
-  pub size-kept : x .core .size ≡ w .size
-  pub left-kept : x .left ≤ n
-  pub path-kept : length (x .core .path) ≤ 256
-
-kept-same : (n : ℕ) (w : Core) (r : Rest) → length (w .path) ≤ 256 → Kept n w (rests w n r)
-unfolding rests
-kept-same n w r h = record { size-kept = refl; left-kept = omega arith; path-kept = h }
-
-kept-less : (n : ℕ) (w : Core) (r : Rest) → length (w .path) ≤ 256 → Kept (suc n) w (rests w n r)
-unfolding rests
-kept-less n w r h = record { size-kept = refl; left-kept = omega arith; path-kept = h }
-
-kept-asking : (n : ℕ) (w : Core) (q : Question) → length (w .path) ≤ 256 → Kept n w (asking n w q)
-unfolding asking
-kept-asking zero w q h = kept-same zero w _ h
-kept-asking (suc n) w q h = go (told (leb (length (q .tried)) pathUnits))
-  where
-    go : (leb (length (q .tried)) pathUnits ≡ true) ⊎ (leb (length (q .tried)) pathUnits ≡ false)
-        → Kept (suc n) w (choose (leb (length (q .tried)) pathUnits) (rests w n (waits q)) (rests w (suc n) (ended TooLong 0 [])))
-    go (inl t) = subst (Kept (suc n) w) (sym (choose-yes _ _ t)) (kept-less n w (waits q) h)
-    go (inr t) = subst (Kept (suc n) w) (sym (choose-no _ _ t)) (kept-same (suc n) w (ended TooLong 0 []) h)
-
-pub kept-goes : (n : ℕ) (c : Caches) (clock : ℕ) (w : Core) (a : Called) → length (w .path) ≤ 256 → Kept n w (goes n c clock w a)
-unfolding goes withHit withPath
-kept-goes zero c clock w (stops e status tried) h = kept-same zero w _ h
-kept-goes zero c clock w (asks q) h = kept-asking zero w q h
-kept-goes zero c clock w (replaces p) h = kept-same zero w _ h
-kept-goes (suc n) c clock w (stops e status tried) h = kept-same (suc n) w _ h
-kept-goes (suc n) c clock w (asks q) h = kept-asking (suc n) w q h
-kept-goes (suc n) c clock w (replaces p) h = go (told (leb (length p) pathUnits)) (kept-goes n c clock (withHit (hitAt c (withPath p w)) (withPath p w)) (step2 c (withPath p w) clock))
-  where
-    go : (leb (length p) pathUnits ≡ true) ⊎ (leb (length p) pathUnits ≡ false)
-        → (length p ≤ 256 → Kept n (withHit (hitAt c (withPath p w)) (withPath p w)) (goes n c clock (withHit (hitAt c (withPath p w)) (withPath p w)) (step2 c (withPath p w) clock)))
-        → Kept (suc n) w (choose (leb (length p) pathUnits) (goes n c clock (withHit (hitAt c (withPath p w)) (withPath p w)) (step2 c (withPath p w) clock)) (rests w (suc n) (ended TooLong 0 [])))
-    go (inl t) f =
-        let k = f (leb-true _ _ t) in
-        subst (Kept (suc n) w) (sym (choose-yes _ _ t)) (record { size-kept = k .size-kept; left-kept = omega (arith, k .left-kept); path-kept = k .path-kept })
-    go (inr t) f = subst (Kept (suc n) w) (sym (choose-no _ _ t)) (kept-same (suc n) w (ended TooLong 0 []) h)
-
 pub kept-started : (n : ℕ) (c : Caches) (clock : ℕ) (w : Core) → length (w .path) ≤ 256 → Kept n w (turned n clock (started c w clock))
 unfolding turned started fromStep2 withHit
 kept-started n c clock w h = go (told (eqb (componentCount (w .path)) 1))
@@ -332,37 +292,17 @@ kept-started n c clock w h = go (told (eqb (componentCount (w .path)) 1))
 
 -- a rest that a call closes
 module _ (x : Resting) (r : Rested) (rooms : List ℕ) (e : joined r rooms ≡ packed x) where
-  rested-is : r ≡ restedOf x
-  unfolding packed
-  rested-is = ap (λ (p : Packed). p .rested) e
-
-  rooms-are : rooms ≡ textsOf (x .core .path) (triedOf (x .rest))
-  unfolding packed
-  rooms-are = ap (λ (p : Packed). p .texts) e
-
-  path-is : take (r .path) rooms ≡ x .core .path
-  unfolding restedOf
-  path-is = (λ j. take (rested-is j .path) (rooms-are j)) ∙ path-in (x .core .path) (triedOf (x .rest))
-
-  pub rest-left : (n : ℕ) (w : Core) → Kept n w x → r .left ≤ n
-  unfolding restedOf
-  rest-left n w k = subst (λ (y : Rested). y .left ≤ n) (sym rested-is) (k .left-kept)
-
-  pub rest-path : (n : ℕ) (w : Core) → Kept n w x → r .path ≤ 256
-  unfolding restedOf
-  rest-path n w k = subst (λ (y : Rested). y .path ≤ 256) (sym rested-is) (k .path-kept)
-
   pub closed-start : (limit size : ℕ) (boot : List ℕ) (walk : Walk) (texts out : List ℕ) → x .core .size ≡ size
       → closedStart limit size boot r rooms walk texts out ≡ closes limit boot x walk texts out
   unfolding closedStart closes walkWith walkOf textsAfter lent restedOf
   closed-start limit size boot walk texts out s =
       λ j.
-      choose (((λ k. nameFits (length out) (named (nextUnits (rested-is k .next) (path-is k)) (path-is k))) ∙ rest-fits x (length out) refl) j)
+      choose (((λ k. nameFits (length out) (named (nextUnits (rested-is x r rooms e k .next) (path-is x r rooms e k)) (path-is x r rooms e k))) ∙ rest-fits x (length out) refl) j)
       (record {
         verdict = Taken;
-        walk = walkWith limit (sym s j) (length boot) (rested-is j);
-        texts = rooms-are j ++ roomed 256 boot;
-        out = ((λ k. withRequest (named (nextUnits (rested-is k .next) (path-is k)) (path-is k)) out) ∙ rest-out x out refl) j;
+        walk = walkWith limit (sym s j) (length boot) (rested-is x r rooms e j);
+        texts = rooms-are x r rooms e j ++ roomed 256 boot;
+        out = ((λ k. withRequest (named (nextUnits (rested-is x r rooms e k .next) (path-is x r rooms e k)) (path-is x r rooms e k)) out) ∙ rest-out x out refl) j;
       })
       (refused ShortBuffer walk texts out)
 

@@ -7,7 +7,7 @@ use lib.Dec.{eqb, leb}
 use Rattle.laws.specs.Choice.{choose}
 use Rattle.unc.specs.Paths.{goodPath, normalised, pathUnits}
 use Rattle.caches.specs.Memory.{referrals, domains, inOrder}
-use Rattle.steps.specs.Steps.{Resting, Turn, started, goes}
+use Rattle.steps.specs.Steps.{Resting, started, turned}
 use Rattle.steps.specs.Rested.{cachesOf, coreOf}
 use Rattle.questions.specs.Questions.{restFits, outAfter}
 use Rattle.walks.specs.Walks.{goodSettings, walkOf, textsAfter}
@@ -44,11 +44,7 @@ closes limit boot x walk texts out =
     (record { verdict = Taken; walk = walkOf limit boot x; texts = textsAfter boot x; out = outAfter x out })
     (refused ShortBuffer walk texts out)
 
--- where the steps rest after an event, with so many moves left
-unfoldable pub turned : ℕ → ℕ → Turn → Resting
-turned left clock t = goes left (t .caches) clock (t .core) (t .called)
-
--- where they rest after a start
+-- where the steps rest after a start
 unfoldable pub startRest : List ℕ → List ℕ → List ℕ → ℕ → ℕ → ℕ → Resting
 startRest refs doms path limit size clock =
     turned limit clock (started (cachesOf refs doms) (coreOf (normalised path) size false) clock)

@@ -10,13 +10,13 @@ use Rattle.laws.specs.Lists.{roomed}
 use Rattle.unc.specs.Paths.{isNormalised, componentCount, roomAfter}
 use Rattle.texts.specs.Texts.{Standing}
 use Rattle.caches.specs.Memory.{referrals, inOrder}
-use Rattle.steps.specs.Steps.{started}
+use Rattle.steps.specs.Steps.{started, turned}
 use Rattle.steps.specs.Rested.{cachesOf, coreOf}
 use Rattle.steps.specs.declared.Rested.{Rested}
 use Rattle.questions.specs.Questions.{nameFits, withRequest, nextUnits, named}
 use Rattle.walks.specs.Walks.{goodSettings}
 use Rattle.walks.specs.declared.Walk.{Walk}
-use Rattle.resolve.specs.Calls.{Left, refused, turned, closes}
+use Rattle.resolve.specs.Calls.{Left, refused, closes}
 use Rattle.resolve.specs.declared.Outcome.{Outcome}
 use Rattle.resolve.specs.declared.Verdict.the-variants.{Taken, BadSettings, OutOfForm, ShortBuffer}
 

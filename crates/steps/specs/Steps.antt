@@ -449,3 +449,7 @@ goes (suc n) c clock w (replaces p) =
     choose (leb (length p) pathUnits)
     (goes n c clock (withHit (hitAt c (withPath p w)) (withPath p w)) (step2 c (withPath p w) clock))
     (rests w (suc n) (ended TooLong 0 []))
+
+-- where they rest after an event, with so many moves left
+unfoldable pub turned : ℕ → ℕ → Turn → Resting
+turned left clock t = goes left (t .caches) clock (t .core) (t .called)

@@ -1,0 +1,2 @@
+-- Answers that store.
+pub mod Answers

@@ -1,0 +1,197 @@
+// Answers that store a reply and go on. Where the request that then waits does not fit the buffer the cache is put back.
+ghost use mathlib.Core.Path.{_≡_};
+ghost use mathlib.Core.List.{map, []};
+ghost use mathlib.Core.Bool.{true};
+ghost use Prim.Native.Nat.{_≤_};
+ghost use lib.ListN.{length, take, getD};
+ghost use Rattle.unc.specs.Paths.{components};
+ghost use Rattle.spans.specs.Spans.{spanned};
+ghost use Rattle.caches.specs.Memory.{domains, decode, inOrder};
+ghost use Rattle.lookup.specs.Lookup.{withKey};
+ghost use Rattle.lookup.specs.declared.Found.the-variants.{At};
+ghost use Rattle.namelists.specs.NameLists.{readDcs};
+ghost use Rattle.steps.specs.Steps.{dcAnswer, turned};
+ghost use Rattle.steps.specs.Rested.{cachesOf, coreOf};
+ghost use Rattle.storing.specs.Stored.{dcsStored};
+ghost use Rattle.domains.specs.Domains.{DomainAt, StorableDcs};
+ghost use Rattle.questions.specs.Questions.{nameFits, nextUnits, named};
+ghost use Rattle.moves.specs.Moves.{joined, packed, Ready};
+ghost use Rattle.answers.specs.Answers.{dcsRest, dcsLeft, domainsLeft};
+use lookup::Found;
+use namelists::DcsFound;
+use referral::Answer;
+use steps::End;
+use steps::Rested;
+
+const PATH_NOT_FOUND: u32 = 0xC000003A;
+
+// The bytes of the longest request.
+const LONGEST: usize = 516;
+
+// Whether the request of a rest fits a buffer of `room` bytes.
+pub fn rest_fits(r: Rested, rooms: &[u16], room: usize) -> bool
+    requires { ⌜ (r .path ≤ 256) × (256 ≤ length (now rooms)) ⌝ }
+    ensures { λ b. ⌜ b ≡ nameFits room (named (nextUnits (r .next) (take (r .path) (now (rooms .entry)))) (take (r .path) (now (rooms .entry)))) ⌝ }
+{
+    let n = r.path as usize;
+    let next = r.next;
+    questions::fits(next, &rooms[..n], room)
+}
+
+// DCs into the entry at place i, and on with step 5.2; the place is saved, to be put back.
+fn dcs_saved(
+    refs: &[u16],
+    doms: &mut [u16],
+    rooms: &mut [u16],
+    len: usize,
+    left: u16,
+    size: u32,
+    clock: u32,
+    i: usize,
+    reply: &[u8],
+    found: DcsFound,
+    room: usize,
+) -> Rested
+    requires { ⌜ Ready (now refs) (now rooms) len × (DomainAt i (now doms) × StorableDcs (now reply) found) ⌝ }
+    ensures rest { λ r. ⌜ joined r (now (rooms .exit)) ≡ packed (dcsRest left (take len (now (rooms .entry))) size (dcsStored i (map (spanned (now (reply .entry))) (take (found .count) (found .kept))) (decode domains (now (doms .entry))))) ⌝ }
+    ensures cache { λ r. ⌜ now (doms .exit) ≡ dcsLeft room left (take len (now (rooms .entry))) size (dcsStored i (map (spanned (now (reply .entry))) (take (found .count) (found .kept))) (decode domains (now (doms .entry)))) (now (doms .entry)) ⌝ }
+{
+    let mut saved = [0; 2336];
+    places::save_place(doms, i, &mut saved);
+    domains::store_dcs(doms, i, reply, found);
+    let r = moves::domain(
+        refs,
+        doms,
+        rooms,
+        len,
+        left,
+        true,
+        size,
+        clock,
+        Found::Nothing,
+    );
+    if rest_fits(r, rooms, room) {
+        return r;
+    }
+    places::put_place(doms, i, &saved);
+    r
+}
+
+// The same where every request fits.
+fn dcs_stored(
+    refs: &[u16],
+    doms: &mut [u16],
+    rooms: &mut [u16],
+    len: usize,
+    left: u16,
+    size: u32,
+    clock: u32,
+    i: usize,
+    reply: &[u8],
+    found: DcsFound,
+    room: usize,
+) -> Rested
+    requires { ⌜ (516 ≤ room) × (Ready (now refs) (now rooms) len × (DomainAt i (now doms) × StorableDcs (now reply) found)) ⌝ }
+    ensures rest { λ r. ⌜ joined r (now (rooms .exit)) ≡ packed (dcsRest left (take len (now (rooms .entry))) size (dcsStored i (map (spanned (now (reply .entry))) (take (found .count) (found .kept))) (decode domains (now (doms .entry))))) ⌝ }
+    ensures cache { λ r. ⌜ now (doms .exit) ≡ dcsLeft room left (take len (now (rooms .entry))) size (dcsStored i (map (spanned (now (reply .entry))) (take (found .count) (found .kept))) (decode domains (now (doms .entry)))) (now (doms .entry)) ⌝ }
+{
+    domains::store_dcs(doms, i, reply, found);
+    moves::domain(
+        refs,
+        doms,
+        rooms,
+        len,
+        left,
+        true,
+        size,
+        clock,
+        Found::Nothing,
+    )
+}
+
+fn dcs_put(
+    refs: &[u16],
+    doms: &mut [u16],
+    rooms: &mut [u16],
+    len: usize,
+    left: u16,
+    size: u32,
+    clock: u32,
+    i: usize,
+    reply: &[u8],
+    found: DcsFound,
+    room: usize,
+) -> Rested
+    requires { ⌜ Ready (now refs) (now rooms) len × (DomainAt i (now doms) × StorableDcs (now reply) found) ⌝ }
+    ensures rest { λ r. ⌜ joined r (now (rooms .exit)) ≡ packed (dcsRest left (take len (now (rooms .entry))) size (dcsStored i (map (spanned (now (reply .entry))) (take (found .count) (found .kept))) (decode domains (now (doms .entry))))) ⌝ }
+    ensures cache { λ r. ⌜ now (doms .exit) ≡ dcsLeft room left (take len (now (rooms .entry))) size (dcsStored i (map (spanned (now (reply .entry))) (take (found .count) (found .kept))) (decode domains (now (doms .entry)))) (now (doms .entry)) ⌝ }
+{
+    if room < LONGEST {
+        return dcs_saved(
+            refs,
+            doms,
+            rooms,
+            len,
+            left,
+            size,
+            clock,
+            i,
+            reply,
+            found,
+            room,
+        );
+    }
+    dcs_stored(
+        refs,
+        doms,
+        rooms,
+        len,
+        left,
+        size,
+        clock,
+        i,
+        reply,
+        found,
+        room,
+    )
+}
+
+// The answer to a DC request: the reply's DCs into the entry at place i, that of the path's first component.
+pub fn dc_answer(
+    refs: &[u16],
+    doms: &mut [u16],
+    rooms: &mut [u16],
+    len: usize,
+    left: u16,
+    hit: bool,
+    size: u32,
+    clock: u32,
+    i: usize,
+    asked: u32,
+    reply: &[u8],
+    room: usize,
+) -> Rested
+    requires { ⌜ Ready (now refs) (now rooms) len × ((inOrder domains (now doms) ≡ true) × (withKey domains (getD (components (take len (now rooms))) 0 []) (decode domains (now doms)) ≡ At i)) ⌝ }
+    ensures rest { λ r. ⌜ joined r (now (rooms .exit)) ≡ packed (turned left clock (dcAnswer (cachesOf (now (refs .entry)) (now (doms .entry))) (coreOf (take len (now (rooms .entry))) size hit) (readDcs asked (now (reply .entry))))) ⌝ }
+    ensures cache { λ r. ⌜ now (doms .exit) ≡ domainsLeft room left clock (dcAnswer (cachesOf (now (refs .entry)) (now (doms .entry))) (coreOf (take len (now (rooms .entry))) size hit) (readDcs asked (now (reply .entry)))) (now (doms .entry)) ⌝ }
+{
+    let found = namelists::read_dcs(reply, asked);
+    let answer = found.answer;
+    match answer {
+        Answer::Malformed => steps::end_at(End::Malformed, 0, len, left, hit),
+        Answer::Nothing => steps::end_at(End::NoDc, PATH_NOT_FOUND, len, left, hit),
+        Answer::Says => dcs_put(
+            refs,
+            doms,
+            rooms,
+            len,
+            left,
+            size,
+            clock,
+            i,
+            reply,
+            found,
+            room,
+        ),
+    }
+}

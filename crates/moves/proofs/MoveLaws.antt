@@ -14,8 +14,9 @@ use Rattle.laws.specs.Lists.{part, pasted}
 use Rattle.laws.proofs.Choices.{choose-yes, choose-no, and-left, and-right, and-both}
 use Rattle.laws.proofs.Orders.{told}
 use Rattle.unc.specs.Paths.{components, componentCount, isNormalised, normalisedCount, matches, isSysvol, replaced, written, pathUnits}
-use Rattle.unc.proofs.MatchLaws.{matches-units}
-use Rattle.unc.proofs.NameLaws.{sameName-length}
+use Rattle.unc.specs.Names.{sameName}
+use Rattle.unc.proofs.MatchLaws.{atEnd, matches-units}
+use Rattle.unc.proofs.NameLaws.{sameName-trans, sameName-length}
 use Rattle.caches.proofs.KindLaws.{referral-told, prefix-some}
 use Rattle.unc.proofs.WholeLaws.{replaced-normalised, replaced-count}
 use Rattle.laws.specs.Lists.{every}
@@ -120,6 +121,16 @@ matched-inside p s h =
     let l : length (take (length p) s) ≤ length s = simp length-take (omega arith) in
     omega arith
 
+-- an equal name matches what the other matches
+pub matches-same : (a b s : List ℕ) → sameName a b ≡ true → matches b s ≡ true → matches a s ≡ true
+matches-same a b s h m =
+    let u : (sameName b (take (length b) s) && atEnd (drop (length b) s)) ≡ true = sym (matches-units b s) ∙ m in
+    let l : length b ≡ length a = sym (sameName-length a b h) in
+    matches-units a s
+    ∙ and-both
+    (subst (λ (n : ℕ). sameName a (take n s) ≡ true) l (sameName-trans a b (take (length b) s) h (and-left _ _ u)))
+    (subst (λ (n : ℕ). atEnd (drop n s) ≡ true) l (and-right (sameName b (take (length b) s)) _ u))
+
 -- the new path of steps 3 and 11, by what the functions read
 module _ (refs texts : List ℕ) (len i : ℕ) (s : Standing len texts) (u : Usable refs (take len texts) i) where
   pub prefix-inside : {p : List ℕ} → p ≡ entryAt referrals i refs .prefix → length p ≤ len
@@ -210,7 +221,7 @@ pub hinted-try : (left : ℕ) (w : Core) (i : ℕ) (refs : List ℕ) {h : ℕ} {
 hinted-try left w i refs e g = e ∙ ap (λ (k : ℕ). packed (asking left w (step8 w (entryAt referrals i refs) k k))) g
 
 -- the size given plays no part in an I/O try
-tried-size : (left : ℕ) (p : List ℕ) (a z : ℕ) (hit : Bool) (e : Referral) (j b : ℕ)
+pub tried-size : (left : ℕ) (p : List ℕ) (a z : ℕ) (hit : Bool) (e : Referral) (j b : ℕ)
     → packed (asking left (coreOf p a hit) (step8 (coreOf p a hit) e j b)) ≡ packed (asking left (coreOf p z hit) (step8 (coreOf p z hit) e j b))
 unfolding packed asking rests restedOf nextOf triedOf step8
 tried-size zero p a z hit e j b = refl

@@ -1,0 +1,2 @@
+-- A reply stored, and on.
+pub mod Stores

@@ -1,0 +1,97 @@
+// A root, link or SYSVOL reply into the referral cache, and on with the steps. Where the request that then waits does not fit the buffer
+// the cache is put back.
+ghost use mathlib.Core.Path.{_≡_};
+ghost use mathlib.Core.Bool.{true};
+ghost use Prim.Native.Nat.{_≤_};
+ghost use lib.ListN.{length, take};
+ghost use Rattle.unc.specs.Paths.{matches};
+ghost use Rattle.spans.specs.Spans.{spanned};
+ghost use Rattle.referral.specs.Found.{referralShown};
+ghost use Rattle.caches.specs.Memory.{referrals, domains, decode};
+ghost use Rattle.lookup.specs.Lookup.{entryAt};
+ghost use Rattle.storing.specs.Writing.{Storable};
+ghost use Rattle.steps.specs.Rested.{coreOf};
+ghost use Rattle.moves.specs.Moves.{joined, packed, stepsFrom, Ready, Usable};
+ghost use Rattle.stores.specs.Stores.{calledAfter, storedRest, storedLeft};
+use lookup::Found;
+use referral::ReferralFound;
+use steps::Rested;
+
+// On from the entry just stored at a place.
+fn after_store(
+    refs: &[u16],
+    doms: &[u16],
+    rooms: &mut [u16],
+    len: usize,
+    left: u16,
+    size: u32,
+    clock: u32,
+    place: usize,
+    sysvol: bool,
+) -> Rested
+    requires { ⌜ Ready (now refs) (now rooms) len × Usable (now refs) (take len (now rooms)) place ⌝ }
+    ensures { λ r. ⌜ joined r (now (rooms .exit)) ≡ stepsFrom left (now (refs .entry)) (now (doms .entry)) clock (coreOf (take len (now (rooms .entry))) size true) (calledAfter sysvol (coreOf (take len (now (rooms .entry))) size true) (entryAt referrals place (now (refs .entry)))) ⌝ }
+{
+    if sysvol {
+        let hint = lookup::target_hint(refs, place);
+        return moves::step8(refs, rooms, len, left, true, place, hint, hint);
+    }
+    moves::domain(refs, doms, rooms, len, left, true, size, clock, Found::At(place))
+}
+
+// A reply stored, and on; the place is saved, to be put back.
+fn store_saved(
+    refs: &mut [u16],
+    doms: &[u16],
+    rooms: &mut [u16],
+    len: usize,
+    left: u16,
+    size: u32,
+    clock: u32,
+    reply: &[u8],
+    found: ReferralFound,
+    interlink: bool,
+    sysvol: bool,
+    room: usize,
+) -> Rested
+    requires { ⌜ Ready (now refs) (now rooms) len × (Storable (now reply) found × (matches (spanned (now reply) (found .prefix)) (take len (now rooms)) ≡ true)) ⌝ }
+    ensures rest { λ r. ⌜ joined r (now (rooms .exit)) ≡ packed (storedRest left clock (take len (now (rooms .entry))) size sysvol (referralShown (now (reply .entry)) found) interlink (decode referrals (now (refs .entry))) (decode domains (now (doms .entry)))) ⌝ }
+    ensures cache { λ r. ⌜ now (refs .exit) ≡ storedLeft room (storedRest left clock (take len (now (rooms .entry))) size sysvol (referralShown (now (reply .entry)) found) interlink (decode referrals (now (refs .entry))) (decode domains (now (doms .entry)))) (referralShown (now (reply .entry)) found) interlink clock (now (refs .entry)) ⌝ }
+{
+    let prefix = found.prefix;
+    let place = storing::store_place(refs, reply, prefix, clock);
+    let mut saved = [0; 2336];
+    places::save_place(refs, place, &mut saved);
+    storing::store(refs, reply, found, interlink, clock);
+    let r = after_store(refs, doms, rooms, len, left, size, clock, place, sysvol);
+    if answers::rest_fits(r, rooms, room) {
+        return r;
+    }
+    places::put_place(refs, place, &saved);
+    r
+}
+
+// The same where every request fits.
+fn store_plain(
+    refs: &mut [u16],
+    doms: &[u16],
+    rooms: &mut [u16],
+    len: usize,
+    left: u16,
+    size: u32,
+    clock: u32,
+    reply: &[u8],
+    found: ReferralFound,
+    interlink: bool,
+    sysvol: bool,
+    room: usize,
+) -> Rested
+    requires { ⌜ (516 ≤ room) × (Ready (now refs) (now rooms) len × (Storable (now reply) found × (matches (spanned (now reply) (found .prefix)) (take len (now rooms)) ≡ true))) ⌝ }
+    ensures rest { λ r. ⌜ joined r (now (rooms .exit)) ≡ packed (storedRest left clock (take len (now (rooms .entry))) size sysvol (referralShown (now (reply .entry)) found) interlink (decode referrals (now (refs .entry))) (decode domains (now (doms .entry)))) ⌝ }
+    ensures cache { λ r. ⌜ now (refs .exit) ≡ storedLeft room (storedRest left clock (take len (now (rooms .entry))) size sysvol (referralShown (now (reply .entry)) found) interlink (decode referrals (now (refs .entry))) (decode domains (now (doms .entry)))) (referralShown (now (reply .entry)) found) interlink clock (now (refs .entry)) ⌝ }
+{
+    let prefix = found.prefix;
+    let place = storing::store_place(refs, reply, prefix, clock);
+    storing::store(refs, reply, found, interlink, clock);
+    after_store(refs, doms, rooms, len, left, size, clock, place, sysvol)
+}

@@ -24,8 +24,7 @@ use Rattle.rounds.specs.Rounds.{inRound, restsAt}
 unfoldable pub triedIn : ℕ → List ℕ → List ℕ
 triedIn tried rooms = take tried (drop 256 rooms)
 
--- a walk that waits for an I/O answer: the referral cache is in order, the path and the path tried stand in their rooms, and the
--- question names a prefix that matches the path
+-- a walk waits for an I/O answer: the cache is in order, both texts stand in their rooms, the prefix in use matches the path
 pub record Trying (refs rooms : List ℕ) (len tried : ℕ) (q : Asking) : Type 0 where
   pub order : inOrder referrals refs ≡ true
   pub few : len ≤ 256

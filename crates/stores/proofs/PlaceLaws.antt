@@ -1,45 +1,41 @@
 -- Laws of a reply that is stored: the entry at its place, where the steps rest, and the place put back.
 use mathlib.Core.Path.{_≡_, refl, sym, ap, _∙_, subst}
-use mathlib.Core.Bool.{Bool, true, false, _&&_}
-use mathlib.Core.List.{List, [], _∷_}
+use mathlib.Core.Bool.{Bool, true, false}
+use mathlib.Core.List.{List}
 use mathlib.Core.Option.{Option, none, some}
 use Prim.Native.Nat.{ℕ, _/_, _≤_, _<_}
-use native.Mathlib.Omega.{arith}
-use lib.ListN.{length, getD, take, drop, set, length-take, length-set}
+use lib.ListN.{length, getD, take, set}
 use lib.Seq.{getD-set-same}
 use Rattle.laws.specs.Choice.{choose}
 use Rattle.laws.specs.Lists.{every}
-use Rattle.laws.proofs.Choices.{choose-yes, choose-no, and-left, and-right, and-both}
+use Rattle.laws.proofs.Choices.{choose-yes, choose-no}
 use Rattle.laws.proofs.Listed.{every-set}
 use Rattle.unc.specs.Names.{sameName}
 use Rattle.unc.specs.Paths.{matches}
-use Rattle.unc.proofs.MatchLaws.{atEnd, matches-units}
-use Rattle.unc.proofs.NameLaws.{sameName-trans, sameName-length}
-use Rattle.texts.specs.Texts.{Standing}
 use Rattle.spans.specs.Spans.{spanned}
 use Rattle.places.specs.Layout.{placeAt, changed}
 use Rattle.caches.specs.Entries.{Referral, Place, free, used}
 use Rattle.caches.specs.Order.{goodReferral}
 use Rattle.caches.specs.Memory.{referrals, domains, decode, encode, inOrder, goodPlace}
-use Rattle.caches.proofs.KindLaws.{referrals-lawful, referral-told}
-use Rattle.caches.proofs.MemoryLaws.{GoodCache, cache-told, order-good, length-decode, decode-encode}
-use Rattle.lookup.specs.Lookup.{withKey, newPlace, foundOr, entryAt}
+use Rattle.caches.proofs.KindLaws.{referrals-lawful}
+use Rattle.caches.proofs.MemoryLaws.{cache-told, order-good, length-decode, decode-encode}
+use Rattle.lookup.specs.Lookup.{withKey, entryAt}
 use Rattle.lookup.specs.declared.Found.{Found}
 use Rattle.lookup.specs.declared.Found.the-variants.{At, Nothing}
-use Rattle.lookup.proofs.LookupLaws.{KeyAt, key-found, used-inside}
+use Rattle.lookup.proofs.LookupLaws.{key-found}
 use Rattle.referral.specs.Found.{referralShown}
 use Rattle.referral.specs.declared.ReferralFound.{ReferralFound}
-use Rattle.storing.specs.Stored.{fresh, refreshed, held, heldAt, prefixed, storePlace, stored, storedEntry}
-use Rattle.storing.specs.Writing.{Storable, Held}
+use Rattle.storing.specs.Stored.{fresh, refreshed, held, prefixed, storePlace, stored, storedEntry}
+use Rattle.storing.specs.Writing.{Storable}
 use Rattle.storing.proofs.StoreLaws.{fresh-good}
 use Rattle.storing.proofs.StoredLaws.{refreshed-good, place-found, place-new, new-fits, held-there, store-in-order}
-use Rattle.steps.specs.Steps.{Caches, Core, Question, Called, asks, Resting, asking, goes, step3, step7, step8}
+use Rattle.steps.specs.Steps.{asks, asking, goes, step3, step8}
 use Rattle.steps.specs.Rested.{cachesOf, coreOf}
 use Rattle.steps.specs.declared.Rested.{Rested}
 use Rattle.steps.proofs.HeldLaws.{none-held, key-held, key-fits, used-fits, used-is}
 use Rattle.moves.specs.Moves.{Packed, joined, packed, stepsFrom, calledAt, Ready, Usable}
 use Rattle.moves.proofs.MoveLaws.{goes-asks, tried-size, matches-same}
-use Rattle.questions.specs.Questions.{nameFits, restFits, nextUnits, named}
+use Rattle.questions.specs.Questions.{nameFits, nextUnits, named}
 use Rattle.answers.proofs.RestLaws.{Kept, kept-goes, rest-path, rest-tested, put-again, always-fits}
 use Rattle.stores.specs.Stores.{calledAfter, storedRest, storedLeft}
 

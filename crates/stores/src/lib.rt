@@ -17,6 +17,9 @@ use lookup::Found;
 use referral::ReferralFound;
 use steps::Rested;
 
+// The bytes of the longest request.
+const LONGEST: usize = 516;
+
 // On from the entry just stored at a place.
 fn after_store(
     refs: &[u16],
@@ -36,7 +39,17 @@ fn after_store(
         let hint = lookup::target_hint(refs, place);
         return moves::step8(refs, rooms, len, left, true, place, hint, hint);
     }
-    moves::domain(refs, doms, rooms, len, left, true, size, clock, Found::At(place))
+    moves::domain(
+        refs,
+        doms,
+        rooms,
+        len,
+        left,
+        true,
+        size,
+        clock,
+        Found::At(place),
+    )
 }
 
 // A reply stored, and on; the place is saved, to be put back.
@@ -94,4 +107,55 @@ fn store_plain(
     let place = storing::store_place(refs, reply, prefix, clock);
     storing::store(refs, reply, found, interlink, clock);
     after_store(refs, doms, rooms, len, left, size, clock, place, sysvol)
+}
+
+// A reply stored, and on with the steps, if the request that then waits fits a buffer of `room` bytes.
+pub fn store_reply(
+    refs: &mut [u16],
+    doms: &[u16],
+    rooms: &mut [u16],
+    len: usize,
+    left: u16,
+    size: u32,
+    clock: u32,
+    reply: &[u8],
+    found: ReferralFound,
+    interlink: bool,
+    sysvol: bool,
+    room: usize,
+) -> Rested
+    requires { ⌜ Ready (now refs) (now rooms) len × (Storable (now reply) found × (matches (spanned (now reply) (found .prefix)) (take len (now rooms)) ≡ true)) ⌝ }
+    ensures rest { λ r. ⌜ joined r (now (rooms .exit)) ≡ packed (storedRest left clock (take len (now (rooms .entry))) size sysvol (referralShown (now (reply .entry)) found) interlink (decode referrals (now (refs .entry))) (decode domains (now (doms .entry)))) ⌝ }
+    ensures cache { λ r. ⌜ now (refs .exit) ≡ storedLeft room (storedRest left clock (take len (now (rooms .entry))) size sysvol (referralShown (now (reply .entry)) found) interlink (decode referrals (now (refs .entry))) (decode domains (now (doms .entry)))) (referralShown (now (reply .entry)) found) interlink clock (now (refs .entry)) ⌝ }
+{
+    if room < LONGEST {
+        return store_saved(
+            refs,
+            doms,
+            rooms,
+            len,
+            left,
+            size,
+            clock,
+            reply,
+            found,
+            interlink,
+            sysvol,
+            room,
+        );
+    }
+    store_plain(
+        refs,
+        doms,
+        rooms,
+        len,
+        left,
+        size,
+        clock,
+        reply,
+        found,
+        interlink,
+        sysvol,
+        room,
+    )
 }

@@ -4,7 +4,7 @@ use mathlib.Core.Bool.{Bool, true, false}
 use mathlib.Core.List.{List, []}
 use mathlib.Core.Logic.{_⊎_, inl, inr}
 use mathlib.Core.Option.{Option, none, some}
-use Prim.Native.Nat.{ℕ, zero, suc, _+_, _-_, _/_, _≤_, _<_}
+use Prim.Native.Nat.{ℕ, _+_, _-_, _/_, _≤_, _<_}
 use native.Mathlib.Omega.{arith}
 use lib.ListN.{length, take, drop, replicate, length-drop}
 use lib.Seq.{length-take-le, take-take}
@@ -12,13 +12,10 @@ use lib.Dec.{leb, ltb, eqb}
 use borrow.Author.Tests.{eq-eqb, ne-eqb, lt-ltb, le-ltb, leb-false, ltb-true}
 use Rattle.laws.specs.Choice.{choose}
 use Rattle.laws.specs.Lists.{pasted, roomed}
-use Rattle.laws.proofs.Choices.{choose-yes, choose-no, and-left, and-right, and-both}
+use Rattle.laws.proofs.Choices.{choose-yes, choose-no, and-left}
 use Rattle.laws.proofs.Orders.{told}
 use Rattle.laws.proofs.Tests.{eq-or-ne}
-use Rattle.unc.specs.Names.{sameName}
-use Rattle.unc.specs.Paths.{matches, replaced, pathUnits}
-use Rattle.unc.proofs.NameLaws.{sameName-trans, sameName-length}
-use Rattle.unc.proofs.MatchLaws.{atEnd, matches-units}
+use Rattle.unc.specs.Paths.{matches}
 use Rattle.texts.specs.Texts.{textsOf, Standing}
 use Rattle.texts.proofs.TextLaws.{path-in, tried-put}
 use Rattle.caches.specs.Entries.{Referral}
@@ -26,25 +23,25 @@ use Rattle.caches.specs.Order.{goodReferral}
 use Rattle.caches.specs.Memory.{referrals, domains, decode, encode, inOrder}
 use Rattle.caches.proofs.MemoryLaws.{encode-decode}
 use Rattle.caches.proofs.KindLaws.{referrals-lawful, referral-told}
-use Rattle.lookup.specs.Lookup.{withKey, entryAt, targetPath, targetHinted}
+use Rattle.lookup.specs.Lookup.{withKey, entryAt, targetHinted}
 use Rattle.lookup.specs.declared.Found.{Found}
 use Rattle.lookup.specs.declared.Found.the-variants.{At, Nothing}
 use Rattle.lookup.proofs.LookupLaws.{KeyAt, key-found}
 use Rattle.lookup.proofs.StoreLaws.{entry-good}
 use Rattle.lookup.proofs.EntryLaws.{target-hint-order}
 use Rattle.storing.specs.Stored.{prefixed}
-use Rattle.steps.specs.Steps.{Caches, Core, Question, Called, stops, ends, asks, Turn, Rest, Resting, waits, ended, rests, asking, goes, inUse, referralInUse, hintSet, targetHintSet, withReferrals, nextPlace, onward, step8, linkRequest, severity, isOneOf, nextTargetStatuses, pathNotCovered, ioFails, ioWith, ioAnswered}
+use Rattle.steps.specs.Steps.{Caches, Core, Question, Called, stops, ends, asks, Turn, Rest, waits, ended, rests, asking, goes, inUse, referralInUse, hintSet, targetHintSet, withReferrals, nextPlace, onward, step8, linkRequest, severity, isOneOf, nextTargetStatuses, pathNotCovered, ioFails, ioWith, ioAnswered}
 use Rattle.steps.specs.Rested.{cachesOf, coreOf, askingOf, nextOf, triedOf, restedOf, endedAt, askedAt}
 use Rattle.steps.specs.declared.Kind.{Kind}
 use Rattle.steps.specs.declared.Kind.the-variants.{Link, Io}
-use Rattle.steps.specs.declared.End.the-variants.{Done, Failed, Gone, TooLong}
+use Rattle.steps.specs.declared.End.the-variants.{Done, Failed, Gone}
 use Rattle.steps.specs.declared.Next.the-variants.{Ends}
 use Rattle.steps.specs.declared.Asking.{Asking}
 use Rattle.steps.specs.declared.Rested.{Rested}
 use Rattle.steps.proofs.HeldLaws.{key-held, key-fits, used-is}
 use Rattle.steps.proofs.StepLaws.{asked-as}
 use Rattle.moves.specs.Moves.{Packed, joined, packed, Usable}
-use Rattle.moves.proofs.MoveLaws.{standing-path, packed-end, packed-asked}
+use Rattle.moves.proofs.MoveLaws.{standing-path, packed-end, packed-asked, tried-size, matches-same}
 use Rattle.rounds.specs.Rounds.{questionOf, restsAt, targetsUnder, inRound}
 use Rattle.rounds.proofs.RoundLaws.{round-past, round-on, targets-gone, targets-held, in-use-same, in-use-io}
 use Rattle.rounds.proofs.FailLaws.{onward-end, onward-next}
@@ -108,14 +105,6 @@ module _ (prefix raw : List ℕ) (party began : ℕ) where
               → inRound (targetsUnder prefix raw) party began ≡ false
           at (inl t) = absurd (let z : _≡_ {A = ℕ} 0 1 = cc (choose-yes (At j) Nothing t) in omega arith)
           at (inr t) = ap (λ (n : ℕ). inRound n party began) (sym (targets-held prefix raw refl j h refl)) ∙ t
-
--- a prefix of an equal name matches too
-pub matches-same : (a b s : List ℕ) → sameName a b ≡ true → matches b s ≡ true → matches a s ≡ true
-matches-same a b s h k =
-    let m = sym (matches-units b s) ∙ k in
-    let l : length b ≡ length a = sym (sameName-length a b h) in
-    matches-units a s
-    ∙ and-both (sameName-trans a b (take (length a) s) h (ap (λ (n : ℕ). sameName b (take n s)) (sym l) ∙ and-left _ _ m)) (ap (λ (n : ℕ). atEnd (drop n s)) (sym l) ∙ and-right (sameName b (take (length b) s)) _ m)
 
 -- the entry in use
 module _ {prefix refs : List ℕ} {party began i : ℕ} (u : InUse prefix refs party began i) where
@@ -329,25 +318,6 @@ next-below n place h = go (told (leb n (place + 1)))
     go (inl t) = rw (choose-yes 0 (place + 1) t) h
     go (inr t) = rw (choose-no 0 (place + 1) t) (leb-false n (place + 1) t)
 
--- the size given plays no part in an I/O try
-try-size : (left : ℕ) (p : List ℕ) (a z : ℕ) (hit : Bool) (e : Referral) (j b : ℕ)
-    → packed (asking left (coreOf p a hit) (step8 (coreOf p a hit) e j b)) ≡ packed (asking left (coreOf p z hit) (step8 (coreOf p z hit) e j b))
-unfolding packed asking rests restedOf nextOf triedOf step8
-try-size zero p a z hit e j b = refl
-try-size (suc n) p a z hit e j b = go (told (leb (length (replaced (targetPath j e) (length (e .prefix)) p)) pathUnits))
-  where
-    q : Question
-    q = step8 (coreOf p a hit) e j b
-
-    same : {x y : Resting} → (m : ℕ) (r : Rest) → x ≡ rests (coreOf p a hit) m r → y ≡ rests (coreOf p z hit) m r → packed x ≡ packed y
-    same m r f g = ap packed f ∙ sym (ap packed g)
-
-    go : (leb (length (q .tried)) pathUnits ≡ true) ⊎ (leb (length (q .tried)) pathUnits ≡ false)
-        → packed (choose (leb (length (q .tried)) pathUnits) (rests (coreOf p a hit) n (waits q)) (rests (coreOf p a hit) (suc n) (ended TooLong 0 [])))
-        ≡ packed (choose (leb (length (q .tried)) pathUnits) (rests (coreOf p z hit) n (waits q)) (rests (coreOf p z hit) (suc n) (ended TooLong 0 [])))
-    go (inl h) = same n (waits q) (choose-yes _ _ h) (choose-yes _ _ h)
-    go (inr h) = same (suc n) (ended TooLong 0 []) (choose-no _ _ h) (choose-no _ _ h)
-
 next-size : (left : ℕ) (p : List ℕ) (size : ℕ) (hit : Bool) (q : Question) (status : ℕ) (e : Referral)
     → packed (restsAt left (coreOf p 0 hit) (nextTarget (coreOf p 0 hit) q status e)) ≡ packed (restsAt left (coreOf p size hit) (nextTarget (coreOf p size hit) q status e))
 unfolding nextTarget onward restsAt packed rests restedOf nextOf triedOf
@@ -364,7 +334,7 @@ next-size left p size hit q status e = go (told (eqb (nextPlace (length (e .targ
     go (inl t) = ap (from 0) (choose-yes (ends Failed status) _ t) ∙ sym (ap (from size) (choose-yes (ends Failed status) _ t))
     go (inr t) =
         ap (from 0) (choose-no (ends Failed status) _ t)
-        ∙ (try-size left p 0 size hit e (nextPlace (length (e .targets)) (q .party)) (q .began) ∙ sym (ap (from size) (choose-no (ends Failed status) _ t)))
+        ∙ (tried-size left p 0 size hit e (nextPlace (length (e .targets)) (q .party)) (q .began) ∙ sym (ap (from size) (choose-no (ends Failed status) _ t)))
 
 -- after a failed try
 module _ (refs rooms : List ℕ) (len i left size : ℕ) (hit : Bool) (q : Asking) (status : ℕ) (f : Failing refs rooms len i) where

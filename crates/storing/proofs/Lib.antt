@@ -4,3 +4,4 @@ pub mod EntryLaws
 pub mod StoreLaws
 pub mod RefreshLaws
 pub mod StoredLaws
+pub mod Examples

@@ -189,8 +189,8 @@ shows s (ended e status tried) = done (endNumber e) status (endPath (endNumber e
 abbrev pub rested : List ℕ → ℕ → Caches → Resting → State
 rested boot limit c r = record { caches = c; core = r .core; boot = boot; limit = limit; left = r .left; rest = r .rest }
 
-abbrev pub turned : List ℕ → ℕ → ℕ → Turn → ℕ → State
-turned boot limit left t clock = rested boot limit (t .caches) (goes left (t .caches) clock (t .core) (t .called))
+abbrev pub settled : List ℕ → ℕ → ℕ → Turn → ℕ → State
+settled boot limit left t clock = rested boot limit (t .caches) (turned left clock t)
 
 abbrev pub startCore : List ℕ → ℕ → Core
 startCore path size = record { path = normalised path; size = size; hit = false }
@@ -206,10 +206,10 @@ abbrev pub refusing : State → Stepped
 refusing s = record { state = s; out = refused 5 }
 
 abbrev pub answering : State → ℕ → List ℕ → ℕ → Question → Kind → Stepped
-answering s status reply clock q Dc = shown (turned (s .boot) (s .limit) (s .left) (referralAnswered (s .caches) (s .core) q status reply clock) clock)
-answering s status reply clock q Root = shown (turned (s .boot) (s .limit) (s .left) (referralAnswered (s .caches) (s .core) q status reply clock) clock)
-answering s status reply clock q Link = shown (turned (s .boot) (s .limit) (s .left) (referralAnswered (s .caches) (s .core) q status reply clock) clock)
-answering s status reply clock q Sysvol = shown (turned (s .boot) (s .limit) (s .left) (referralAnswered (s .caches) (s .core) q status reply clock) clock)
+answering s status reply clock q Dc = shown (settled (s .boot) (s .limit) (s .left) (referralAnswered (s .caches) (s .core) q status reply clock) clock)
+answering s status reply clock q Root = shown (settled (s .boot) (s .limit) (s .left) (referralAnswered (s .caches) (s .core) q status reply clock) clock)
+answering s status reply clock q Link = shown (settled (s .boot) (s .limit) (s .left) (referralAnswered (s .caches) (s .core) q status reply clock) clock)
+answering s status reply clock q Sysvol = shown (settled (s .boot) (s .limit) (s .left) (referralAnswered (s .caches) (s .core) q status reply clock) clock)
 answering s status reply clock q Io = refusing s
 
 abbrev pub trying : State → ℕ → ℕ → Question → Kind → Stepped
@@ -217,7 +217,7 @@ trying s status clock q Dc = refusing s
 trying s status clock q Root = refusing s
 trying s status clock q Link = refusing s
 trying s status clock q Sysvol = refusing s
-trying s status clock q Io = shown (turned (s .boot) (s .limit) (s .left) (ioAnswered (s .caches) (s .core) q status) clock)
+trying s status clock q Io = shown (settled (s .boot) (s .limit) (s .left) (ioAnswered (s .caches) (s .core) q status) clock)
 
 abbrev pub answersAt : State → ℕ → List ℕ → ℕ → Rest → Stepped
 answersAt s status reply clock (waits q) = answering s status reply clock q (q .kind)
@@ -246,7 +246,7 @@ learning s (replies.says names) = domainsIn s names
 abbrev pub step : State → Event → Stepped
 step s (learns reply size) =
     choose (lib.Dec.leb 1024 size && lib.Dec.leb size 57344) (learning s (readDomains size reply)) (record { state = s; out = refused 3 })
-step s (launch path limit size boot clock) = shown (turned boot limit limit (started (s .caches) (startCore path size) clock) clock)
+step s (launch path limit size boot clock) = shown (settled boot limit limit (started (s .caches) (startCore path size) clock) clock)
 step s (answers status reply clock) = answersAt s status reply clock (s .rest)
 step s (tries status clock) = triesAt s status clock (s .rest)
 step s (puts c) = record { state = record { caches = c; core = s .core; boot = s .boot; limit = s .limit; left = s .left; rest = s .rest }; out = silent }

@@ -30,7 +30,8 @@ use Rattle.steps.specs.declared.Asking.{Asking}
 use Rattle.steps.specs.declared.Next.{Next}
 use Rattle.steps.specs.declared.Next.the-variants.{Asks, Ends}
 use Rattle.walks.specs.declared.Walk.{Walk}
-use Rattle.walks.specs.Walks.{lent, pathIn, triedIn, bootIn, goodLimit, goodSize, goodSettings, namesDomain, namesPrefix, noParty, oneParty, askedInForm}
+use Rattle.domains.specs.Domains.{goodSize}
+use Rattle.walks.specs.Walks.{lent, pathIn, triedIn, bootIn, goodLimit, goodSettings, namesDomain, namesPrefix, noParty, oneParty, askedInForm}
 use Rattle.walks.specs.Walks.{hasTried, endTried, goodTried, nextInForm, inForm, walkOf, textsAfter}
 use Rattle.walks.proofs.RoomLaws.{lent-path, lent-tried}
 

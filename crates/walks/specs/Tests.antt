@@ -8,7 +8,8 @@ use Rattle.places.specs.Layout.{zeros}
 use Rattle.steps.specs.declared.End.{End}
 use Rattle.steps.specs.declared.Asking.{Asking}
 use Rattle.steps.specs.declared.Next.the-variants.{Asks, Ends}
-use Rattle.walks.specs.Walks.{goodSize, nextInForm}
+use Rattle.domains.specs.Domains.{goodSize}
+use Rattle.walks.specs.Walks.{nextInForm}
 
 -- a good size, and not of PATH_NOT_COVERED
 unfoldable pub plainSize : Asking → Bool

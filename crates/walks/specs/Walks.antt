@@ -11,6 +11,7 @@ use Rattle.laws.specs.Listed.{sameList}
 use Rattle.unc.specs.Names.{goodName}
 use Rattle.unc.specs.Paths.{firstOf, matches, normalisedCount}
 use Rattle.texts.specs.Texts.{textsOf}
+use Rattle.domains.specs.Domains.{goodSize}
 use Rattle.steps.specs.Steps.{Core, Resting}
 use Rattle.steps.specs.Rested.{nextOf, triedOf}
 use Rattle.steps.specs.declared.Kind.{Kind}
@@ -39,9 +40,6 @@ bootIn w texts = take (w .boot) (drop 512 texts)
 -- "limit not 1 to 64, size not 1,024 to 57,344, or bootstrap DC not one good component"
 unfoldable pub goodLimit : ℕ → Bool
 goodLimit limit = leb 1 limit && leb limit 64
-
-unfoldable pub goodSize : ℕ → Bool
-goodSize size = leb 1024 size && leb size 57344
 
 unfoldable pub goodSettings : ℕ → ℕ → List ℕ → Bool
 goodSettings limit size boot = goodLimit limit && (goodSize size && goodName boot)

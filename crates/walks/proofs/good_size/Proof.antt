@@ -1,5 +1,5 @@
 -- The size asked.
-use Rattle.walks.specs.Walks.{goodSize}
+use Rattle.domains.specs.Domains.{goodSize}
 use Rattle.laws.proofs.Choices.{and-yes-left, and-no-left}
 use borrow.Author.Tests.{le-leb, lt-leb}
 use mathlib.Core.Path.{sym}

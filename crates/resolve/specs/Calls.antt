@@ -2,15 +2,19 @@
 use Prim.Native.Nat.{ℕ, _-_}
 use mathlib.Core.Bool.{Bool, true, false, _&&_, not}
 use mathlib.Core.List.{List}
+use mathlib.Core.Option.{Option, none, some}
 use lib.ListN.{length}
 use lib.Dec.{eqb, leb}
 use Rattle.laws.specs.Choice.{choose}
 use Rattle.unc.specs.Paths.{goodPath, normalised, pathUnits}
-use Rattle.caches.specs.Memory.{referrals, domains, inOrder}
-use Rattle.steps.specs.Steps.{Resting, started, turned}
+use Rattle.caches.specs.Memory.{referrals, domains, encode, inOrder}
+use Rattle.steps.specs.Steps.{Caches, Core, Rest, waits, ended, Turn, Resting, started, referralAnswered, ioAnswered, turned}
 use Rattle.steps.specs.Rested.{cachesOf, coreOf}
+use Rattle.steps.specs.declared.Next.{Next}
+use Rattle.steps.specs.declared.Next.the-variants.{Asks, Ends}
+use Rattle.rounds.specs.Rounds.{questionOf}
 use Rattle.questions.specs.Questions.{restFits, outAfter}
-use Rattle.walks.specs.Walks.{goodSettings, walkOf, textsAfter}
+use Rattle.walks.specs.Walks.{goodSettings, hasTried, inForm, pathIn, triedIn, bootIn, walkOf, textsAfter}
 use Rattle.walks.specs.declared.Walk.{Walk}
 use Rattle.resolve.specs.declared.Verdict.{Verdict}
 use Rattle.resolve.specs.declared.Verdict.the-variants.{Taken, BadPath, LongPath, BadSettings, NotInOrder, OutOfForm, ShortBuffer}
@@ -63,3 +67,63 @@ startCall refs doms texts walk path boot limit size clock out =
     (refused LongPath walk texts out))
     (refused BadPath walk texts out))
     (refused NotInOrder walk texts out)
+
+-- what an answer leaves: that, and both caches
+pub record Answered : Type 0 where
+  pub left : Left
+  pub refs : List ℕ
+  pub doms : List ℕ
+
+abbrev pub refusedAnswer : Verdict → Walk → List ℕ → List ℕ → List ℕ → List ℕ → Answered
+refusedAnswer v walk texts out refs doms = record { left = refused v walk texts out; refs = refs; doms = doms }
+
+-- what the steps use of a walk that is held, and where it rests
+unfoldable pub coreIn : Walk → List ℕ → Core
+coreIn w texts = coreOf (pathIn w texts) (w .size) (w .hit)
+
+unfoldable pub restAt : List ℕ → Next → Rest
+restAt tried (Asks q) = waits (questionOf q tried)
+restAt tried (Ends e status) = ended e status tried
+
+unfoldable pub restIn : Walk → List ℕ → Rest
+restIn w texts = restAt (triedIn w texts) (w .next)
+
+-- the event of an answer: to a referral request, and to an I/O try, which is the question that has a path tried; none where the walk has ended or
+-- waits for an answer of the other kind
+unfoldable pub referralEvent : Caches → Core → Rest → ℕ → List ℕ → ℕ → Option Turn
+referralEvent c w (ended e s tried) status reply clock = none
+referralEvent c w (waits q) status reply clock = choose (hasTried (q .kind)) none (some (referralAnswered c w q status reply clock))
+
+unfoldable pub ioEvent : Caches → Core → Rest → ℕ → Option Turn
+ioEvent c w (ended e s tried) status = none
+ioEvent c w (waits q) status = choose (hasTried (q .kind)) (some (ioAnswered c w q status)) none
+
+-- an event whose steps come to rest: both caches are as the event left them; 10 leaves them as they were
+unfoldable pub answers : Option Turn → ℕ → Walk → List ℕ → List ℕ → List ℕ → List ℕ → Answered
+answers none clock walk texts out refs doms = refusedAnswer OutOfForm walk texts out refs doms
+answers (some t) clock walk texts out refs doms =
+    choose (restFits (length out) (turned (walk .limit - walk .moves) clock t))
+    (record {
+      left = closes (walk .limit) (bootIn walk texts) (turned (walk .limit - walk .moves) clock t) walk texts out;
+      refs = encode referrals (t .caches .referrals);
+      doms = encode domains (t .caches .domains);
+    })
+    (refusedAnswer ShortBuffer walk texts out refs doms)
+
+-- an answer's refusals: 4, 5, then 10
+unfoldable pub answerCall : Option Turn → ℕ → Walk → List ℕ → List ℕ → List ℕ → List ℕ → Answered
+answerCall event clock walk texts out refs doms =
+    choose (inOrder referrals refs && inOrder domains doms)
+    (choose (inForm walk texts)
+    (answers event clock walk texts out refs doms)
+    (refusedAnswer OutOfForm walk texts out refs doms))
+    (refusedAnswer NotInOrder walk texts out refs doms)
+
+-- `answer_referral` and `answer_io`
+unfoldable pub referralCall : List ℕ → List ℕ → List ℕ → Walk → ℕ → List ℕ → ℕ → List ℕ → Answered
+referralCall refs doms texts walk status reply clock out =
+    answerCall (referralEvent (cachesOf refs doms) (coreIn walk texts) (restIn walk texts) status reply clock) clock walk texts out refs doms
+
+unfoldable pub ioCall : List ℕ → List ℕ → List ℕ → Walk → ℕ → ℕ → List ℕ → Answered
+ioCall refs doms texts walk status clock out =
+    answerCall (ioEvent (cachesOf refs doms) (coreIn walk texts) (restIn walk texts) status) clock walk texts out refs doms

@@ -1,2 +1,4 @@
 -- Laws.
-pub mod CloseLaws
+pub mod StartLaws
+pub mod TurnLaws
+pub mod AnswerLaws

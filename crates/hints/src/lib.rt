@@ -101,11 +101,35 @@ fn store_link(
 {
     let entry = q.entry as usize;
     let Found::At(i) = lookup::find_prefix(refs, &rooms[..entry]) else {
-        return store(refs, doms, rooms, len, left, size, clock, q, reply, found, room);
+        return store(
+            refs,
+            doms,
+            rooms,
+            len,
+            left,
+            size,
+            clock,
+            q,
+            reply,
+            found,
+            room,
+        );
     };
     let old = lookup::target_hint(refs, i);
     lookup::set_target_hint(refs, i, q.party);
-    let r = store(refs, doms, rooms, len, left, size, clock, q, reply, found, room);
+    let r = store(
+        refs,
+        doms,
+        rooms,
+        len,
+        left,
+        size,
+        clock,
+        q,
+        reply,
+        found,
+        room,
+    );
     if answers::rest_fits(r, rooms, room) {
         return r;
     }
@@ -133,11 +157,35 @@ fn store_through(
     ensures doms { λ r. ⌜ now (doms .exit) ≡ domainsLeft room left clock (storedTurn (dcHintSet (cachesOf (now (refs .entry)) (now (doms .entry))) (coreOf (take len (now (rooms .entry))) size true) (q .party)) (coreOf (take len (now (rooms .entry))) size true) (questionOf q []) (referralShown (now (reply .entry)) found) clock) (now (doms .entry)) ⌝ }
 {
     let Found::At(i) = lookup::find_domain(doms, steps::host(&rooms[..len])) else {
-        return store(refs, doms, rooms, len, left, size, clock, q, reply, found, room);
+        return store(
+            refs,
+            doms,
+            rooms,
+            len,
+            left,
+            size,
+            clock,
+            q,
+            reply,
+            found,
+            room,
+        );
     };
     let old = lookup::dc_hint(doms, i);
     lookup::set_dc_hint(doms, i, q.party);
-    let r = store(refs, doms, rooms, len, left, size, clock, q, reply, found, room);
+    let r = store(
+        refs,
+        doms,
+        rooms,
+        len,
+        left,
+        size,
+        clock,
+        q,
+        reply,
+        found,
+        room,
+    );
     if answers::rest_fits(r, rooms, room) {
         return r;
     }
@@ -165,9 +213,33 @@ fn store_root(
     ensures doms { λ r. ⌜ now (doms .exit) ≡ domainsLeft room left clock (storedTurn (choose (eqb (q .entry) 0) (cachesOf (now (refs .entry)) (now (doms .entry))) (dcHintSet (cachesOf (now (refs .entry)) (now (doms .entry))) (coreOf (take len (now (rooms .entry))) size true) (q .party))) (coreOf (take len (now (rooms .entry))) size true) (questionOf q []) (referralShown (now (reply .entry)) found) clock) (now (doms .entry)) ⌝ }
 {
     if q.entry == 0 {
-        return store(refs, doms, rooms, len, left, size, clock, q, reply, found, room);
+        return store(
+            refs,
+            doms,
+            rooms,
+            len,
+            left,
+            size,
+            clock,
+            q,
+            reply,
+            found,
+            room,
+        );
     }
-    store_through(refs, doms, rooms, len, left, size, clock, q, reply, found, room)
+    store_through(
+        refs,
+        doms,
+        rooms,
+        len,
+        left,
+        size,
+        clock,
+        q,
+        reply,
+        found,
+        room,
+    )
 }
 
 // The reply to a question, with the hint of the party that answered. DC replies and I/O have hints of their own.
@@ -191,10 +263,70 @@ pub fn store_answer(
 {
     let kind = q.kind;
     match kind {
-        Kind::Dc => store(refs, doms, rooms, len, left, size, clock, q, reply, found, room),
-        Kind::Root => store_root(refs, doms, rooms, len, left, size, clock, q, reply, found, room),
-        Kind::Link => store_link(refs, doms, rooms, len, left, size, clock, q, reply, found, room),
-        Kind::Sysvol => store_through(refs, doms, rooms, len, left, size, clock, q, reply, found, room),
-        Kind::Io => store_link(refs, doms, rooms, len, left, size, clock, q, reply, found, room),
+        Kind::Dc => store(
+            refs,
+            doms,
+            rooms,
+            len,
+            left,
+            size,
+            clock,
+            q,
+            reply,
+            found,
+            room,
+        ),
+        Kind::Root => store_root(
+            refs,
+            doms,
+            rooms,
+            len,
+            left,
+            size,
+            clock,
+            q,
+            reply,
+            found,
+            room,
+        ),
+        Kind::Link => store_link(
+            refs,
+            doms,
+            rooms,
+            len,
+            left,
+            size,
+            clock,
+            q,
+            reply,
+            found,
+            room,
+        ),
+        Kind::Sysvol => store_through(
+            refs,
+            doms,
+            rooms,
+            len,
+            left,
+            size,
+            clock,
+            q,
+            reply,
+            found,
+            room,
+        ),
+        Kind::Io => store_link(
+            refs,
+            doms,
+            rooms,
+            len,
+            left,
+            size,
+            clock,
+            q,
+            reply,
+            found,
+            room,
+        ),
     }
 }

@@ -1,4 +1,3 @@
 -- Laws.
 pub mod StartLaws
-pub mod TurnLaws
 pub mod AnswerLaws

@@ -1,25 +1,20 @@
--- Words of the functions that the calls are made of: what they are given, and the parts of what a call leaves.
+-- Words of the functions that a start is made of.
 use Prim.Native.Nat.{ℕ, _≤_}
 use mathlib.Core.Path.{_≡_}
-use mathlib.Core.Bool.{Bool, true, false}
+use mathlib.Core.Bool.{true, false}
 use lib.Dec.{eqb}
-use mathlib.Core.List.{List, [], _++_}
+use mathlib.Core.List.{List, _++_}
 use lib.ListN.{length, take, replicate}
 use Rattle.laws.specs.Choice.{choose}
 use Rattle.unc.specs.Paths.{isNormalised, componentCount, roomAfter}
 use Rattle.texts.specs.Texts.{Standing}
 use Rattle.caches.specs.Memory.{referrals, inOrder}
-use Rattle.steps.specs.Steps.{Turn, started, ioAnswered, turned}
+use Rattle.steps.specs.Steps.{started, turned}
 use Rattle.steps.specs.Rested.{cachesOf, coreOf}
-use Rattle.steps.specs.declared.Asking.{Asking}
-use Rattle.steps.specs.declared.Next.the-variants.{Asks}
-use Rattle.rounds.specs.Rounds.{questionOf}
-use Rattle.walks.specs.Walks.{goodSettings, hasTried, inForm, triedIn}
+use Rattle.walks.specs.Walks.{goodSettings}
 use Rattle.walks.specs.declared.Walk.{Walk}
-use Rattle.closing.specs.Closing.{Left, left, refused, closes}
-use Rattle.closing.specs.declared.Outcome.{Outcome}
+use Rattle.closing.specs.Closing.{Left, refused, closes}
 use Rattle.closing.specs.declared.Verdict.the-variants.{BadSettings, OutOfForm}
-use Rattle.resolve.specs.Calls.{Answered, coreIn}
 
 -- the rooms after a path was put: the path alone, or as they were but for the path tried
 unfoldable pub pathRooms : List ℕ → List ℕ → List ℕ
@@ -41,18 +36,3 @@ startAt refs doms texts walk path boot limit size clock out =
     (closes limit boot (turned limit clock (started (cachesOf refs doms) (coreOf path size false) clock)) walk texts out)
     (refused OutOfForm walk texts out))
     (refused BadSettings walk texts out)
-
--- an answer's outcome and what it leaves, as one
-abbrev pub answered : Outcome → List ℕ → List ℕ → List ℕ → List ℕ → Answered
-answered o texts out refs doms = record { left = left o texts out; refs = refs; doms = doms }
-
--- an answer is due: the referral cache is in order, the walk is in form and waits at q, which has a path tried or none
-pub record Due (refs : List ℕ) (walk : Walk) (texts : List ℕ) (q : Asking) (has : Bool) : Type 0 where
-  pub order : inOrder referrals refs ≡ true
-  pub form : inForm walk texts ≡ true
-  pub next : walk .next ≡ Asks q
-  pub kind : hasTried (q .kind) ≡ has
-
--- the turn of an I/O answer; the domain cache plays no part in it
-unfoldable pub ioTurn : List ℕ → List ℕ → Walk → Asking → ℕ → Turn
-ioTurn refs texts walk q status = ioAnswered (cachesOf refs []) (coreIn walk texts) (questionOf q (triedIn walk texts)) status

@@ -14,9 +14,11 @@ use Rattle.steps.specs.declared.Next.{Next}
 use Rattle.steps.specs.declared.Next.the-variants.{Asks, Ends}
 use Rattle.rounds.specs.Rounds.{questionOf}
 use Rattle.questions.specs.Questions.{restFits}
-use Rattle.walks.specs.Walks.{goodSettings, hasTried, inForm, pathIn, triedIn, bootIn}
+use Rattle.walks.specs.Walks.{goodSettings, hasTried, inForm, triedIn, bootIn}
 use Rattle.walks.specs.declared.Walk.{Walk}
-use Rattle.closing.specs.Closing.{Left, refused, closes}
+use Rattle.turns.specs.Turns.{coreIn}
+use Rattle.closing.specs.Closing.{Left, left, refused, closes}
+use Rattle.closing.specs.declared.Outcome.{Outcome}
 use Rattle.closing.specs.declared.Verdict.{Verdict}
 use Rattle.closing.specs.declared.Verdict.the-variants.{Taken, BadPath, LongPath, BadSettings, NotInOrder, OutOfForm, ShortBuffer}
 
@@ -57,13 +59,13 @@ pub record Answered : Type 0 where
   pub refs : List ℕ
   pub doms : List ℕ
 
+abbrev pub answered : Outcome → List ℕ → List ℕ → List ℕ → List ℕ → Answered
+answered o texts out refs doms = record { left = left o texts out; refs = refs; doms = doms }
+
 abbrev pub refusedAnswer : Verdict → Walk → List ℕ → List ℕ → List ℕ → List ℕ → Answered
 refusedAnswer v walk texts out refs doms = record { left = refused v walk texts out; refs = refs; doms = doms }
 
--- what the steps use of a walk that is held, and where it rests
-unfoldable pub coreIn : Walk → List ℕ → Core
-coreIn w texts = coreOf (pathIn w texts) (w .size) (w .hit)
-
+-- where a walk that is held rests
 unfoldable pub restAt : List ℕ → Next → Rest
 restAt tried (Asks q) = waits (questionOf q tried)
 restAt tried (Ends e status) = ended e status tried

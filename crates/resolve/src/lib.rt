@@ -1,29 +1,22 @@
 // The calls of a host: a start, and the answers to its questions.
 ghost use mathlib.Core.Path.{_≡_};
 ghost use mathlib.Core.Bool.{true, false, _&&_};
-ghost use mathlib.Core.List.{[]};
-ghost use Prim.Native.Nat.{_-_};
 ghost use lib.ListN.{length, take};
 ghost use Rattle.unc.specs.Paths.{formWithin, pathUnits};
-ghost use Rattle.caches.specs.Memory.{referrals, domains, encode, inOrder};
+ghost use Rattle.caches.specs.Memory.{referrals, domains, inOrder};
 ghost use Rattle.steps.specs.Steps.{started, turned};
 ghost use Rattle.steps.specs.Rested.{cachesOf, coreOf};
 ghost use Rattle.moves.specs.Moves.{joined, packed};
-ghost use Rattle.tries.specs.Tries.{restOf};
-ghost use Rattle.walks.specs.Walks.{bootIn};
-ghost use Rattle.closing.specs.Closing.{left, closes};
-ghost use Rattle.resolve.specs.Calls.{startCall, ioCall};
-ghost use Rattle.resolve.specs.Begun.{pathRooms, startAt, Begun, answered, Due, ioTurn};
+ghost use Rattle.closing.specs.Closing.{left};
+ghost use Rattle.resolve.specs.Calls.{answered, startCall, ioCall, referralCall};
+ghost use Rattle.resolve.specs.Begun.{pathRooms, startAt, Begun};
 use closing::Outcome;
 use closing::Verdict;
-use steps::Asking;
 use steps::End;
 use steps::Next;
 use steps::Rested;
 use unc::Form;
 use walks::Walk;
-
-const ROOMS: usize = 512;
 
 const ROOM: usize = 256;
 
@@ -151,43 +144,6 @@ pub fn start(
     }
 }
 
-// The rooms of the path and of the path tried. The steps of an answer run on a copy, so that a refusal leaves the texts.
-fn copy_rooms(texts: &[u16], rooms: &mut [u16])
-    requires { ⌜ (length (now texts) ≡ 768) × (length (now rooms) ≡ 512) ⌝ }
-    ensures { λ r. ⌜ now (rooms .exit) ≡ take 512 (now (texts .entry)) ⌝ }
-{
-    rooms::copy_units(rooms, 0, &texts[..ROOMS]);
-}
-
-// The answer to the I/O try q.
-fn io_at(
-    refs: &mut [u16],
-    walk: Walk,
-    texts: &mut [u16],
-    q: Asking,
-    status: u32,
-    out: &mut [u8],
-) -> Outcome
-    requires { ⌜ Due (now refs) walk (now texts) q true ⌝ }
-    ensures left { λ o. ⌜ left o (now (texts .exit)) (now (out .exit)) ≡ closes (walk .limit) (bootIn walk (now (texts .entry))) (restOf (walk .limit - walk .moves) (ioTurn (now (refs .entry)) (now (texts .entry)) walk q status)) walk (now (texts .entry)) (now (out .entry)) ⌝ }
-    ensures cache { λ o. ⌜ now (refs .exit) ≡ encode referrals (ioTurn (now (refs .entry)) (now (texts .entry)) walk q status .caches .referrals) ⌝ }
-{
-    let mut rooms = [0; 512];
-    copy_rooms(texts, &mut rooms);
-    let r = tries::io_answer(
-        refs,
-        &mut rooms,
-        walk.path as usize,
-        walk.limit as u16 - walk.moves,
-        walk.hit,
-        walk.size,
-        q,
-        walk.tried as usize,
-        status,
-    );
-    closing::close_answer(r, &rooms, walk, texts, out)
-}
-
 // The answer to an I/O try.
 pub fn answer_io(
     refs: &mut [u16],
@@ -226,5 +182,49 @@ pub fn answer_io(
             walk,
         };
     }
-    io_at(refs, walk, texts, q, status, out)
+    turns::io_turn(refs, walk, texts, q, status, out)
+}
+
+// The answer to a referral request.
+pub fn answer_referral(
+    refs: &mut [u16],
+    doms: &mut [u16],
+    walk: Walk,
+    texts: &mut [u16],
+    status: u32,
+    reply: &[u8],
+    clock: u32,
+    out: &mut [u8],
+) -> Outcome
+    ensures { λ o. ⌜ answered o (now (texts .exit)) (now (out .exit)) (now (refs .exit)) (now (doms .exit)) ≡ referralCall (now (refs .entry)) (now (doms .entry)) (now (texts .entry)) walk status (now (reply .entry)) clock (now (out .entry)) ⌝ }
+{
+    if !caches_in_order(refs, doms) {
+        return Outcome {
+            verdict: Verdict::NotInOrder,
+            walk,
+        };
+    }
+    if !walks::in_form(walk, texts) {
+        return Outcome {
+            verdict: Verdict::OutOfForm,
+            walk,
+        };
+    }
+    let next = walk.next;
+    let Next::Asks(q) = next else {
+        return Outcome {
+            verdict: Verdict::OutOfForm,
+            walk,
+        };
+    };
+    let kind = q.kind;
+    if walks::has_tried(kind) {
+        return Outcome {
+            verdict: Verdict::OutOfForm,
+            walk,
+        };
+    }
+    turns::referral_turn(
+        refs, doms, walk, texts, q, status, reply, clock, out,
+    )
 }

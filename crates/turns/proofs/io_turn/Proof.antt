@@ -1,10 +1,10 @@
 use denote.Ref.{now}
 use native.Mathlib.Omega.{arith}
 use mathlib.Core.Path.{refl}
-use Rattle.resolve.proofs.AnswerLaws.{due-texts, due-limit, due-moves, trying, io-rests, io-cache, io-kept, answer-left, answer-path, answer-closed}
+use Rattle.turns.proofs.DueLaws.{due-texts, due-limit, due-moves, trying, io-rests, io-cache, io-kept, answer-left, answer-path, answer-closed}
 use borrow.Author.Needs.{needs}
-use Rattle.resolve.proofs.io_at.Statement.{statement}
-use Rattle.resolve.proofs.io_at.Tie as tie
+use Rattle.turns.proofs.io_turn.Statement.{statement}
+use Rattle.turns.proofs.io_turn.Tie as tie
 
 slice-aggregate-copy-rooms : tie.Need-slice-aggregate-copy-rooms
 slice-aggregate-copy-rooms c = search needs
@@ -48,8 +48,8 @@ same-length-3 c = search needs
 returns : tie.Need-returns
 returns c = (answer-closed (c .before .before .before .before .before .before .before .before .before .before .before .before .before .before .before .before .before .before .before .before .before .before .before .before .before .pre) (io-rests (c .before .before .before .before .before .before .before .before .before .before .before .before .before .before .before .before .before .before .before .before .before .before .before .before .before .pre) (c .before .before .before .before .before .before .before .before .before .before .before .before .before .before .before .before .before .before .before .copy-rooms .ensures) _ (c .before .before .before .before .before .before .before .before .before .before .before .io-answer .ensures .0)) (io-kept (c .before .before .before .before .before .before .before .before .before .before .before .before .before .before .before .before .before .before .before .before .before .before .before .before .before .pre) _) _ (c .before .before .before .before .close-answer .ensures), io-cache (c .before .before .before .before .before .before .before .before .before .before .before .before .before .before .before .before .before .before .before .before .before .before .before .before .before .pre) (c .before .before .before .before .before .before .before .before .before .before .before .before .before .before .before .before .before .before .before .copy-rooms .ensures) _ (c .before .before .before .before .before .before .before .before .before .before .before .io-answer .ensures .1))
 
-pub io-at-spec : {M : Type 1} → statement M
-io-at-spec =
+pub io-turn-spec : {M : Type 1} → statement M
+io-turn-spec =
     tie.close
     (tie.spec
     slice-aggregate-copy-rooms

@@ -1,10 +1,10 @@
 use native.Mathlib.Omega.{arith}
 use mathlib.Core.Path.{sym}
 use lib.Seq.{length-take-le}
-use Rattle.resolve.proofs.AnswerLaws.{rooms-copied}
+use Rattle.turns.proofs.DueLaws.{rooms-copied}
 use borrow.Author.Needs.{needs}
-use Rattle.resolve.proofs.copy_rooms.Statement.{statement}
-use Rattle.resolve.proofs.copy_rooms.Tie as tie
+use Rattle.turns.proofs.copy_rooms.Statement.{statement}
+use Rattle.turns.proofs.copy_rooms.Tie as tie
 
 slice-aggregate-copy-units : tie.Need-slice-aggregate-copy-units
 slice-aggregate-copy-units c = sym (length-take-le 512 (c .before .before .before .before .args .texts .now) (omega arith))

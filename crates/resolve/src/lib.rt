@@ -224,7 +224,5 @@ pub fn answer_referral(
             walk,
         };
     }
-    turns::referral_turn(
-        refs, doms, walk, texts, q, status, reply, clock, out,
-    )
+    turns::referral_turn(refs, doms, walk, texts, q, status, reply, clock, out)
 }

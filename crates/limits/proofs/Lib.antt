@@ -1,0 +1,5 @@
+-- Demand 3, proved.
+pub mod Goes
+pub mod Once
+pub mod Classify
+pub mod CallLaws

@@ -3,3 +3,4 @@ pub mod Goes
 pub mod Once
 pub mod Classify
 pub mod CallLaws
+pub mod NoLimit

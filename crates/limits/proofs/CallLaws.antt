@@ -12,6 +12,7 @@ use borrow.Author.Tests.{le-leb}
 use Rattle.laws.specs.Choice.{choose}
 use Rattle.laws.proofs.Choices.{choose-yes, choose-no, and-left, and-right, and-both, and-yes-left}
 use Rattle.laws.proofs.Orders.{told}
+use Rattle.laws.proofs.Tests.{not-both}
 use Rattle.unc.specs.Names.{goodName}
 use Rattle.unc.specs.Paths.{goodPath, normalised, pathUnits, componentCount}
 use Rattle.caches.specs.Memory.{referrals, domains, decode, encode, inOrder}
@@ -37,7 +38,7 @@ pub record Back (l : ℕ) (boot : List ℕ) (x : Resting) : Type 0 where
   pub boot-is : bootIn (walkOf l boot x) (textsAfter boot x) ≡ boot
   pub form : inForm (walkOf l boot x) (textsAfter boot x) ≡ true
 
-abbrev Either : ℕ → ℕ → List ℕ → List ℕ → ℕ → Answered → Opening → Type 0
+abbrev pub Either : ℕ → ℕ → List ℕ → List ℕ → ℕ → Answered → Opening → Type 0
 Either l clock boot out n o p = Followed l clock boot out n o p ⊎ CutOff l clock boot n o p
 
 -- a call that is closed at a rest
@@ -102,11 +103,21 @@ BackAfter o a =
     (t : Turn) → (inOrder referrals (o .refs) && inOrder domains (o .doms)) ≡ true → inForm (o .left .walk) (o .left .texts) ≡ true → eventOf (seen o) a ≡ some t
     → Back (o .left .walk .limit) (bootIn (o .left .walk) (o .left .texts)) (turned (o .left .walk .limit - o .left .walk .moves) (answerClock a) t)
 
-no-taken : {v : Verdict} → v ≡ NotInOrder → v ≡ Taken → ⊥
-no-taken e f = let z : _≡_ {A = ℕ} 0 1 = cc in omega arith
+-- a number that the tests before the steps give
+abbrev early : Verdict → Bool
+early Taken = false
+early BadPath = true
+early LongPath = true
+early BadSettings = true
+early NotInOrder = true
+early OutOfForm = true
+early ShortBuffer = false
 
-out-taken : {v : Verdict} → v ≡ OutOfForm → v ≡ Taken → ⊥
-out-taken e f = let z : _≡_ {A = ℕ} 0 1 = cc in omega arith
+early-not : {v w : Verdict} → early v ≡ true → early w ≡ false → v ≡ w → ⊥
+early-not e f g = not-both (sym (ap early g) ∙ e) f
+
+pub turned-early : (l clock : ℕ) (boot out : List ℕ) (n : ℕ) (o : Answered) (v : Verdict) → o .left .verdict ≡ v → early v ≡ true → Followed l clock boot out n o (refuses v)
+turned-early l clock boot out n o v e h = turned-away l clock boot out n o v e (early-not h refl) (early-not h refl)
 
 module _ (o : Answered) (a : Answer) (form : inForm (o .left .walk) (o .left .texts) ≡ true) (few : o .left .walk .moves ≤ o .left .walk .limit) (back : BackAfter o a) where
   abbrev walk : Walk
@@ -131,14 +142,14 @@ module _ (o : Answered) (a : Answer) (form : inForm (o .left .walk) (o .left .te
   unfolding answerOpening seen answerCall
   answer-no-order h =
       let v : answered o a .left .verdict ≡ NotInOrder = ap (λ (x : Answered). x .left .verdict) (called o a ∙ choose-no _ _ h) in
-      subst This (sym (choose-no (eventOpening (eventOf (seen o) a)) (refuses NotInOrder) h)) (inl (turned-away _ _ _ _ _ _ NotInOrder v (no-taken refl)))
+      subst This (sym (choose-no (eventOpening (eventOf (seen o) a)) (refuses NotInOrder) h)) (inl (turned-early _ _ _ _ _ _ NotInOrder v refl))
 
   answer-none : (inOrder referrals (o .refs) && inOrder domains (o .doms)) ≡ true → eventOf (seen o) a ≡ none → This (answerOpening (seen o) a)
   unfolding eventOpening answers
   answer-none h e =
       let v : answered o a .left .verdict ≡ OutOfForm =
       ap (λ (x : Answered). x .left .verdict) (in-order h ∙ ap (λ (y : Option Turn). answers y (answerClock a) walk texts (answerOut a) (o .refs) (o .doms)) e) in
-      subst This (sym (opening-order h ∙ ap eventOpening e)) (inl (turned-away _ _ _ _ _ _ OutOfForm v (out-taken refl)))
+      subst This (sym (opening-order h ∙ ap eventOpening e)) (inl (turned-early _ _ _ _ _ _ OutOfForm v refl))
 
   answer-some : (inOrder referrals (o .refs) && inOrder domains (o .doms)) ≡ true → (t : Turn) → eventOf (seen o) a ≡ some t → This (answerOpening (seen o) a)
   unfolding eventOpening answers
@@ -191,9 +202,9 @@ module _ (l : ℕ) (h : Held) (s : Start) (limit : goodLimit l ≡ true) (back :
   -- the number that refuses a start
   away : (v : Verdict) → startOpening h s ≡ refuses v
       → startCall (h .refs) (h .doms) (h .texts) (h .walk) (s .path) (s .boot) l (s .size) (s .clock) (s .out) ≡ refused v (h .walk) (h .texts) (s .out)
-      → (v ≡ Taken → ⊥) → That (startOpening h s)
+      → early v ≡ true → That (startOpening h s)
   unfolding run
-  away v e f n = subst That (sym e) (inl (turned-away _ _ _ _ _ _ v (ap (λ (x : Left). x .verdict) f) n))
+  away v e f n = subst That (sym e) (inl (turned-early _ _ _ _ _ _ v (ap (λ (x : Left). x .verdict) f) n))
 
   module _ (a : Accepted h s) where
     abbrev turn : Turn
@@ -248,18 +259,18 @@ module _ (l : ℕ) (h : Held) (s : Start) (limit : goodLimit l ≡ true) (back :
     where
       go : Told (inOrder referrals (h .refs) && inOrder domains (h .doms)) → Told (goodPath (s .path)) → Told (leb (length (normalised (s .path))) pathUnits)
           → Told (goodSize (s .size) && goodName (s .boot)) → Told (eqb (length (h .texts)) 768) → That (startOpening h s)
-      go (inr a) p q r t = away NotInOrder (choose-no _ _ a) (choose-no _ _ a) (λ e. let z : _≡_ {A = ℕ} 0 1 = cc in omega arith)
+      go (inr a) p q r t = away NotInOrder (choose-no _ _ a) (choose-no _ _ a) refl
       go (inl a) (inr p) q r t =
-          away BadPath (choose-yes _ _ a ∙ choose-no _ _ p) (choose-yes _ _ a ∙ choose-no _ _ p) (λ e. let z : _≡_ {A = ℕ} 0 1 = cc in omega arith)
+          away BadPath (choose-yes _ _ a ∙ choose-no _ _ p) (choose-yes _ _ a ∙ choose-no _ _ p) refl
       go (inl a) (inl p) (inr q) r t =
           away LongPath (choose-yes _ _ a ∙ (choose-yes _ _ p ∙ choose-no _ _ q)) (choose-yes _ _ a ∙ (choose-yes _ _ p ∙ choose-no _ _ q))
-          (λ e. let z : _≡_ {A = ℕ} 0 1 = cc in omega arith)
+          refl
       go (inl a) (inl p) (inl q) (inr r) t =
           away BadSettings (choose-yes _ _ a ∙ (choose-yes _ _ p ∙ (choose-yes _ _ q ∙ choose-no _ _ r)))
           (choose-yes _ _ a ∙ (choose-yes _ _ p ∙ (choose-yes _ _ q ∙ choose-no _ _ (and-yes-left _ limit ∙ r))))
-          (λ e. let z : _≡_ {A = ℕ} 0 1 = cc in omega arith)
+          refl
       go (inl a) (inl p) (inl q) (inl r) (inr t) =
           away OutOfForm (choose-yes _ _ a ∙ (choose-yes _ _ p ∙ (choose-yes _ _ q ∙ (choose-yes _ _ r ∙ choose-no _ _ t))))
           (choose-yes _ _ a ∙ (choose-yes _ _ p ∙ (choose-yes _ _ q ∙ (choose-yes _ _ (and-yes-left _ limit ∙ r) ∙ choose-no _ _ t))))
-          (λ e. let z : _≡_ {A = ℕ} 0 1 = cc in omega arith)
+          refl
       go (inl a) (inl p) (inl q) (inl r) (inl t) = start-taken (record { order = a; path = p; short = q; settings = r; texts = t })

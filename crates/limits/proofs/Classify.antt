@@ -41,6 +41,7 @@ pub record Followed (l clock : ℕ) (boot out : List ℕ) (n : ℕ) (o : Answere
   pub same : Same l clock boot out n o p brings
   pub within : Within clock boot n l p
   pub fine : o .left .verdict ≡ Taken → Fine l boot o
+  pub early : p ≡ refuses ShortBuffer → ⊥
 
 pub record CutOff (l clock : ℕ) (boot : List ℕ) (n : ℕ) (o : Answered) (p : Opening) : Type 0 where
   pub calls : CallsFor p clock n (suc l)
@@ -49,16 +50,22 @@ pub record CutOff (l clock : ℕ) (boot : List ℕ) (n : ℕ) (o : Answered) (p 
   pub moves : Moved l clock boot n o p (madeIn (calls .turn .caches) (calls .moves))
   pub fine : Fine l boot o
 
-opens-same : {t u : Turn} → opens t ≡ opens u → t ≡ u
+pub opens-same : {t u : Turn} → opens t ≡ opens u → t ≡ u
 opens-same e = cc
 
-short-not : {v : Verdict} → v ≡ ShortBuffer → v ≡ Taken → ⊥
+pub short-not : {v : Verdict} → v ≡ ShortBuffer → v ≡ Taken → ⊥
 short-not e f = let z : _≡_ {A = ℕ} 0 1 = cc in omega arith
 
+pub not-refused : {v : Verdict} (t : Turn) → opens t ≡ refuses v → ⊥
+not-refused t e = let z : _≡_ {A = ℕ} 0 1 = cc in omega arith
+
+refused-same : {v w : Verdict} → refuses v ≡ refuses w → v ≡ w
+refused-same e = cc
+
 -- never both
-pub not-both : {p : Opening} {clock : ℕ} {boot : List ℕ} {n l : ℕ} → Within clock boot n l p → CallsFor p clock n (suc l) → ⊥
-not-both refused k = let z : _≡_ {A = ℕ} 0 1 = cc (k .opening) in omega arith
-not-both {clock = clock} (within-rests x few) k =
+pub never-both : {p : Opening} {clock : ℕ} {boot : List ℕ} {n l : ℕ} → Within clock boot n l p → CallsFor p clock n (suc l) → ⊥
+never-both refused k = let z : _≡_ {A = ℕ} 0 1 = cc (k .opening) in omega arith
+never-both {clock = clock} (within-rests x few) k =
     let m = subst (λ (u : Turn). CallsForMore u clock (k .moves) (k .core)) (sym (opens-same (k .opening))) (k .more) in
     let z = behind (x .made) (x .halts) (m .made) (m .move) in
     omega (arith, k .number)
@@ -110,6 +117,7 @@ module _ (l clock : ℕ) (boot out : List ℕ) (n : ℕ) (few : n ≤ l) (t : Tu
       same = same-rest (z .fits (fit-is ∙ h)) (sees-is h) (writes-is h) (to-rest way (z .fits (fit-is ∙ h)) (sees-is h));
       within = inside;
       fine = λ e. z .fine (fit-is ∙ h);
+      early = not-refused t;
     }
 
     followed-short : nameFits (length out) (requestName (x .core) (x .rest)) ≡ false → Followed l clock boot out n o (opens t)
@@ -121,6 +129,7 @@ module _ (l clock : ℕ) (boot out : List ℕ) (n : ℕ) (few : n ≤ l) (t : Tu
           same = same-number v (λ e. let y : _≡_ {A = ℕ} 0 1 = cc in omega arith) (no-move (short-not v));
           within = inside;
           fine = λ e. absurd (short-not v e);
+          early = not-refused t;
         }
 
     followed : Followed l clock boot out n o (opens t)
@@ -165,11 +174,13 @@ module _ (l clock : ℕ) (boot out : List ℕ) (n : ℕ) (few : n ≤ l) (t : Tu
       go (inr x) = inr (cut-off x)
 
 -- a call that is refused before any step
-pub turned-away : (l clock : ℕ) (boot out : List ℕ) (n : ℕ) (o : Answered) (v : Verdict) → o .left .verdict ≡ v → (v ≡ Taken → ⊥) → Followed l clock boot out n o (refuses v)
-turned-away l clock boot out n o v e h = record {
+pub turned-away : (l clock : ℕ) (boot out : List ℕ) (n : ℕ) (o : Answered) (v : Verdict) → o .left .verdict ≡ v → (v ≡ Taken → ⊥) → (v ≡ ShortBuffer → ⊥)
+    → Followed l clock boot out n o (refuses v)
+turned-away l clock boot out n o v e h g = record {
   brings = number v;
   call = refused;
   same = same-number e h (no-move (λ f. h (sym e ∙ f)));
   within = refused;
   fine = λ f. absurd (h (sym e ∙ f));
+  early = λ f. g (refused-same f);
 }

@@ -4,3 +4,4 @@ pub mod Once
 pub mod Classify
 pub mod CallLaws
 pub mod NoLimit
+pub mod ListLaws

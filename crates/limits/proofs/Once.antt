@@ -67,3 +67,25 @@ goes-further {ms = ms} here y e = (ms, refl)
 goes-further (goes-on f x) here e = absurd (omega arith)
 goes-further (goes-on {p = p} f x) (goes-on g y) e =
     let z = goes-further x y (omega arith) in (z .0, ap (λ (l : List Move). replacement p ∷ l) (z .1))
+
+-- a way of fewer moves, up to a move that is called for on the way
+pub record Shorter (c : Caches) (clock : ℕ) (w : Core) (a : Called) (k : ℕ) : Type 0 where
+  pub moves : List Move
+  pub core : Core
+  pub called : Called
+  pub made : Makes c clock w a moves core called
+  pub move : callsOne called ≡ 1
+  pub size : length moves ≡ k
+
+stop-here : {c : Caches} {clock : ℕ} {w v : Core} {a b : Called} {ms : List Move} → Makes c clock w a ms v b → callsOne b ≡ 1 → callsOne a ≡ 1
+unfolding callsOne
+stop-here here e = e
+stop-here (goes-on f x) e = refl
+
+pub cut-short : (k : ℕ) {c : Caches} {clock : ℕ} {w v : Core} {a b : Called} {ms : List Move} → Makes c clock w a ms v b → callsOne b ≡ 1 → k ≤ length ms
+    → Shorter c clock w a k
+cut-short zero {w = w} {a = a} m e h = record { moves = []; core = w; called = a; made = here; move = stop-here m e; size = refl }
+cut-short (suc k) here e h = absurd (omega arith)
+cut-short (suc k) (goes-on {p = p} f x) e h =
+    let z = cut-short k x e (omega arith) in
+    record { moves = replacement p ∷ z .moves; core = z .core; called = z .called; made = goes-on f (z .made); move = z .move; size = ap suc (z .size) }

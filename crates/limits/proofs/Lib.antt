@@ -5,3 +5,4 @@ pub mod Classify
 pub mod CallLaws
 pub mod NoLimit
 pub mod ListLaws
+pub mod Theorem

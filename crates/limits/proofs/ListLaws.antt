@@ -38,7 +38,7 @@ use Rattle.limits.proofs.CallLaws.{Back, BackAfter, BackStart, Accepted
 use Rattle.limits.proofs.NoLimit.{NoLimit, started-no, referral-event-no, io-event-no}
 
 -- what a call brings the unlimited walk is determined
-same-way : {t : Turn} {clock : ℕ} {boot : List ℕ} {ms ns : List Move} {w v : Core} {r s : Rest} → Rests t clock boot ms w r → Rests t clock boot ns v s
+pub same-way : {t : Turn} {clock : ℕ} {boot : List ℕ} {ms ns : List Move} {w v : Core} {r s : Rest} → Rests t clock boot ms w r → Rests t clock boot ns v s
     → (ms ≡ ns) × ((w ≡ v) × (r ≡ s))
 same-way {t} {boot = boot} x y =
     let z = rest-once (x .made) (x .halts) (y .made) (y .halts) in
@@ -100,11 +100,11 @@ unfolding answered answerOut
 answer-identity o (referral status reply clock out) n = referral-keeps (o .refs) (o .doms) (o .left .texts) (o .left .walk) out status reply clock .identity n
 answer-identity o (io status clock out) n = io-keeps (o .refs) (o .doms) (o .left .texts) (o .left .walk) out status clock .identity n
 
-seen-kept : (o : Answered) (a : Answer) → (answered o a .left .verdict ≡ Taken → ⊥) → seen (answered o a) ≡ seen o
+pub seen-kept : (o : Answered) (a : Answer) → (answered o a .left .verdict ≡ Taken → ⊥) → seen (answered o a) ≡ seen o
 unfolding seen
 seen-kept o a n = ap seen (answer-identity o a n)
 
-fine-kept : (l : ℕ) (boot : List ℕ) (o : Answered) (a : Answer) → (answered o a .left .verdict ≡ Taken → ⊥) → Fine l boot o → Fine l boot (answered o a)
+pub fine-kept : (l : ℕ) (boot : List ℕ) (o : Answered) (a : Answer) → (answered o a .left .verdict ≡ Taken → ⊥) → Fine l boot o → Fine l boot (answered o a)
 fine-kept l boot o a n f =
     subst (Fine l boot) (sym (answer-identity o a n)) (record { form = f .form; limit = f .limit; boot-is = f .boot-is; few = f .few })
 
@@ -138,12 +138,12 @@ module _ {l clock : ℕ} {boot out : List ℕ} {n : ℕ} {o : Answered} where
   short-opens (taken {t = t} x f) c g e = (t, refl)
 
 -- a walk that has ended takes no answer
-event-ended : (u : Unlimited) (a : Answer) {e : End} {status : ℕ} {tried : List ℕ} → u .rest ≡ ended e status tried → eventOf u a ≡ none
+pub event-ended : (u : Unlimited) (a : Answer) {e : End} {status : ℕ} {tried : List ℕ} → u .rest ≡ ended e status tried → eventOf u a ≡ none
 unfolding eventOf referralEvent ioEvent
 event-ended u (referral status reply clock out) h = ap (λ (r : Rest). referralEvent (cachesOf (u .refs) (u .doms)) (u .core) r status reply clock) h
 event-ended u (io status clock out) h = ap (λ (r : Rest). ioEvent (cachesOf (u .refs) (u .doms)) (u .core) r status) h
 
-no-opening : (u : Unlimited) (a : Answer) → eventOf u a ≡ none → (t : Turn) → answerOpening u a ≡ opens t → ⊥
+pub no-opening : (u : Unlimited) (a : Answer) → eventOf u a ≡ none → (t : Turn) → answerOpening u a ≡ opens t → ⊥
 unfolding answerOpening eventOpening
 no-opening u a e t h = go (told (inOrder referrals (u .refs) && inOrder domains (u .doms)))
   where
@@ -213,7 +213,7 @@ module _ (l : ℕ) (good : goodLimit l ≡ true) (h : Held) (s : Start) where
   abbrev pub Later : Calls → Unlimited → Answer → Type 0
   Later cs u a = Either l (answerClock a) (s .boot) (answerOut a) (u .count) (answered (run l h s cs) a) (answerOpening u a)
 
-  later : (cs : Calls) (u : Unlimited) (a : Answer) → Agrees cs u → Later cs u a
+  pub later : (cs : Calls) (u : Unlimited) (a : Answer) → Agrees cs u → Later cs u a
   later cs u a g = either-at l (s .boot) (run l h s cs) a u (g .fine) (g .shows)
 
   start-agrees : {ms : List Made} {u : Unlimited} → (CallsFor (startOpening h s) (s .clock) 0 (suc l) → ⊥) → Call (s .clock) (s .boot) (s .out) 0 (startOpening h s) (comes ms u)

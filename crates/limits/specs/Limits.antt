@@ -55,11 +55,9 @@ pub record LimitOnlyCuts (h : Held) (s : Start) (l m : ℕ) : Type 0 where
   pub one-walk : {p : Opening} {clock count : ℕ} {boot out : List ℕ} {a b : Brings} → Call clock boot out count p a → Call clock boot out count p b → a ≡ b
   pub rests-or-calls : (cs : Calls) {p : Opening} {n : ℕ} → Comes h s l cs p n → Within (clockOf s cs) (s .boot) n l p ⊎ CallsFor p (clockOf s cs) n (suc l)
   pub never-both : (cs : Calls) {p : Opening} {n : ℕ} → Within (clockOf s cs) (s .boot) n l p → CallsFor p (clockOf s cs) n (suc l) → ⊥
-
   -- Document 01. "On this list 10 comes exactly when the request of the question then put is longer than the buffer; no end needs one."
   pub ten-then : (cs : Calls) → InList l h s cs → run l h s cs .left .verdict ≡ ShortBuffer → TooShort l h s cs
   pub ten-only-then : (cs : Calls) → TooShort l h s cs → run l h s cs .left .verdict ≡ ShortBuffer
-
   -- "all other calls, and those with 10, give their number below and change nothing"
   pub start-changes-nothing : (run l h s start .left .verdict ≡ Taken → ⊥)
       → (run l h s start .left .walk ≡ h .walk) × ((run l h s start .left .texts ≡ h .texts) × (run l h s start .left .out ≡ s .out))
@@ -67,37 +65,30 @@ pub record LimitOnlyCuts (h : Held) (s : Start) (l m : ℕ) : Type 0 where
       → (run l h s (then cs a) .left .walk ≡ run l h s cs .left .walk) × ((run l h s (then cs a) .left .texts ≡ run l h s cs .left .texts)
       × ((run l h s (then cs a) .refs ≡ run l h s cs .refs) × ((run l h s (then cs a) .doms ≡ run l h s cs .doms)
       × (run l h s (then cs a) .left .out ≡ outOf s (then cs a)))))
-
   -- "The L walk's moves, its caches after each, its refusal numbers, its end and its count are those of the unlimited walk until that calls for move L + 1"
   pub until-then-same : (cs : Calls) {p : Opening} {n : ℕ} → Comes h s l cs p n → (CallsFor p (clockOf s cs) n (suc l) → ⊥)
       → (b : Brings) × (Call (clockOf s cs) (s .boot) (outOf s cs) n p b × SameIn l h s cs b)
-
   -- "whether or not 10 would follow; in that call the L walk ends 24 with the caches as they then are", having made the moves up to L
   pub then-cut : (cs : Calls) {p : Opening} {n : ℕ} → Comes h s l cs p n → (k : CallsFor p (clockOf s cs) n (suc l))
       → (run l h s cs .left .verdict ≡ Taken) × ((seen (run l h s cs) ≡ restsAt (k .turn .caches) (k .core) (ended LimitReached 0 []) l)
       × MovesOf l h s cs (madeIn (k .turn .caches) (k .moves)))
-
   -- "moves made inside it are stated as a list of moves by the steps, each with the caches after it, from what it was given to the path, question, caches and
   -- count that it leaves"; the list is determined
   pub moves-of-a-call : (cs : Calls) → InList l h s cs → (ms : List Made) × MovesOf l h s cs ms
   pub moves-one-list : (cs : Calls) {ms ns : List Made} → MovesOf l h s cs ms → MovesOf l h s cs ns → ms ≡ ns
-
   -- Demand 3. "Until the call in which the L walk ends, each call gives both walks the same moves, with equal caches after each, and the same refusal number or question."
   pub start-refused : (run l h s start .left .verdict ≡ Taken → ⊥) → run m h s start ≡ run l h s start
   pub until-the-end : (cs : Calls) → run l h s start .left .verdict ≡ Taken → WaitsAfter l h s cs
       → (run m h s cs .left .verdict ≡ run l h s cs .left .verdict) × ((seen (run m h s cs) ≡ seen (run l h s cs))
       × ((run m h s cs .left .out ≡ run l h s cs .left .out) × ((ms : List Made) × (MovesOf l h s cs ms × MovesOf m h s cs ms))))
-
   -- "If the L walk ends in anything but "limit reached", the M walk ends in that call too, with the same moves, end and caches."
   pub ends-alike : (cs : Calls) {e : End} → InList l h s cs → (e ≡ LimitReached → ⊥) → EndsIn l h s cs e
       → (run m h s cs .left .verdict ≡ Taken) × ((seen (run m h s cs) ≡ seen (run l h s cs))
       × ((ms : List Made) × (MovesOf l h s cs ms × MovesOf m h s cs ms)))
-
   -- "If it ends in "limit reached", the M walk, unless refused there for a short output buffer, first makes the same moves, with equal caches after each."
   pub first-the-same : (cs : Calls) → InList l h s cs → EndsIn l h s cs LimitReached
       → (run m h s cs .left .verdict ≡ ShortBuffer)
       ⊎ ((ms : List Made) × ((more : List Made) × (MovesOf l h s cs ms × MovesOf m h s cs (ms ++ more))))
-
   -- ""Limit reached" comes exactly when the steps, taken without a limit, call for move L + 1." (`then-cut` is the other direction.)
   pub limit-reached-then : (cs : Calls) → InList l h s cs → EndsIn l h s cs LimitReached
       → (p : Opening) × ((n : ℕ) × (Comes h s l cs p n × CallsFor p (clockOf s cs) n (suc l)))

@@ -89,7 +89,7 @@ path-normal (ended s) h = go (told (goodPath s && (leb (length (normalised s)) 2
     go (inr e) = absurd (unread (sym (ap isRead (choose-no (normalised s) [] e)) ∙ h))
 
 -- a kept target is normalised likewise
-pub goodTarget : Target → Bool
+unfoldable pub goodTarget : Target → Bool
 goodTarget t = leb 2 (normalisedCount (t .path))
 
 target-good : (r : List ℕ) (e : ℕ) (t : Target) → t .path ≡ targetAt r e → goodEntry r e ≡ true → goodTarget t ≡ true

@@ -1,0 +1,10 @@
+-- Laws.
+pub mod PrefixLaws
+pub mod CacheLaws
+pub mod CalledLaws
+pub mod RestLaws
+pub mod HintLaws
+pub mod AnswerLaws
+pub mod EventLaws
+pub mod BackLaws
+pub mod CallLaws

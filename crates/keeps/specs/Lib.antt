@@ -1,0 +1,2 @@
+-- What the calls keep.
+pub mod Keeps

@@ -1,0 +1,1 @@
+// Laws over whole calls: what they keep. It has no function.

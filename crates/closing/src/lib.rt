@@ -108,13 +108,14 @@ pub fn close_answer(
     requires { ⌜ (inForm walk (now texts) ≡ true) × ((r .left ≤ walk .limit) × ((length (now rooms) ≡ 512) × (r .path ≤ 256))) ⌝ }
     ensures { λ o. ⌜ left o (now (texts .exit)) (now (out .exit)) ≡ closedRest (walk .limit) (walk .size) (bootIn walk (now (texts .entry))) r (now (rooms .entry)) walk (now (texts .entry)) (now (out .entry)) ⌝ }
 {
-    if !answers::rest_fits(r, rooms, out.len()) {
+    let room = out.len();
+    if !answers::rest_fits(r, rooms, room) {
         return Outcome {
             verdict: Verdict::ShortBuffer,
             walk,
         };
     }
-    let new = put_rest(
+    let after = put_rest(
         walk.limit,
         walk.size,
         walk.boot as usize,
@@ -125,6 +126,6 @@ pub fn close_answer(
     );
     Outcome {
         verdict: Verdict::Taken,
-        walk: new,
+        walk: after,
     }
 }

@@ -1,3 +1,2 @@
 -- The calls of a host.
 pub mod Calls
-pub mod Begun

@@ -71,6 +71,7 @@ pub fn referral_turn(
     ensures refs { λ o. ⌜ now (refs .exit) ≡ referralsLeft (length (now (out .entry))) (walk .limit - walk .moves) clock (referralTurn (now (refs .entry)) (now (doms .entry)) (now (texts .entry)) walk q status (now (reply .entry)) clock) (now (refs .entry)) ⌝ }
     ensures doms { λ o. ⌜ now (doms .exit) ≡ domainsLeft (length (now (out .entry))) (walk .limit - walk .moves) clock (referralTurn (now (refs .entry)) (now (doms .entry)) (now (texts .entry)) walk q status (now (reply .entry)) clock) (now (doms .entry)) ⌝ }
 {
+    let left = walk.limit as u16 - walk.moves;
     let mut rooms = [0; 512];
     copy_rooms(texts, &mut rooms);
     let r = events::referral_answer(
@@ -78,7 +79,7 @@ pub fn referral_turn(
         doms,
         &mut rooms,
         walk.path as usize,
-        walk.limit as u16 - walk.moves,
+        left,
         walk.hit,
         walk.size,
         q,

@@ -1,8 +1,8 @@
-use Rattle.resolve.proofs.StartLaws.{cleared-half, path-put, form-put}
+use Rattle.starts.proofs.StartLaws.{cleared-half, path-put, form-put}
 use denote.Ref.{now}
 use borrow.Author.Needs.{needs}
-use Rattle.resolve.proofs.put_path.Statement.{statement}
-use Rattle.resolve.proofs.put_path.Tie as tie
+use Rattle.starts.proofs.put_path.Statement.{statement}
+use Rattle.starts.proofs.put_path.Tie as tie
 
 clear-units-requires : tie.Need-clear-units-requires
 clear-units-requires c κs = search needs

@@ -1,5 +1,5 @@
 use Rattle.caches.proofs.KindLaws.{name-short}
-use Rattle.resolve.proofs.StartLaws.{at-settings, at-texts, at-taken, first-left, first-path, first-closed}
+use Rattle.starts.proofs.StartLaws.{at-settings, at-texts, at-taken, first-left, first-path, first-closed}
 use Rattle.walks.proofs.FormLaws.{settings-told}
 use Rattle.moves.proofs.MoveLaws.{standing-long}
 use borrow.Author.Tests.{not-true, not-false}
@@ -7,8 +7,8 @@ use mathlib.Core.Path.{sym, _∙_}
 use native.Mathlib.Omega.{arith}
 use denote.Ref.{now}
 use borrow.Author.Needs.{needs}
-use Rattle.resolve.proofs.start_at.Statement.{statement}
-use Rattle.resolve.proofs.start_at.Tie as tie
+use Rattle.starts.proofs.start_at.Statement.{statement}
+use Rattle.starts.proofs.start_at.Tie as tie
 
 good-settings-requires : tie.Need-good-settings-requires
 good-settings-requires c κs = search needs

@@ -1,8 +1,8 @@
-use Rattle.resolve.proofs.StartLaws.{first-alone, first-ready, first-moved}
+use Rattle.starts.proofs.StartLaws.{first-alone, first-ready, first-moved}
 use denote.Ref.{now}
 use borrow.Author.Needs.{needs}
-use Rattle.resolve.proofs.first_rest.Statement.{statement}
-use Rattle.resolve.proofs.first_rest.Tie as tie
+use Rattle.starts.proofs.first_rest.Statement.{statement}
+use Rattle.starts.proofs.first_rest.Tie as tie
 
 end-at-requires : tie.Need-end-at-requires
 end-at-requires c κs = search needs

@@ -31,8 +31,8 @@ use Rattle.referral.specs.declared.Answer.{Answer}
 use Rattle.referral.specs.declared.Answer.the-variants as answer
 use Rattle.namelists.specs.NameLists.{readDcs}
 use Rattle.storing.specs.Stored.{isInterlink, stored, storedEntry, prefixed}
-use Rattle.steps.specs.Steps.{Caches, Core, Question, Called, ends, Turn, goes, turned, withHit, withDomains, withReferrals, emptyEnd, coversNothing, step3, step4, step7, step8, step11, afterStore, storedTurn, hintSet, dcHintSet, targetHintSet, dcsIn, dcAnswer, referralAnswer, referralSucceeds, referralAnswered, referralFails, nameAsked, severity, inUse, pathNotFound, pathNotCovered}
-use Rattle.steps.specs.Rested.{cachesOf, coreOf, endedAt, restedOf, triedOf}
+use Rattle.steps.specs.Steps.{Caches, Core, Question, Called, ends, Turn, turned, withHit, withDomains, withReferrals, emptyEnd, coversNothing, step3, step4, step7, step8, step11, afterStore, storedTurn, hintSet, dcHintSet, targetHintSet, dcsIn, dcAnswer, referralAnswer, referralSucceeds, referralAnswered, referralFails, nameAsked, severity, inUse, pathNotFound, pathNotCovered}
+use Rattle.steps.specs.Rested.{cachesOf, coreOf, endedAt, restedOf}
 use Rattle.steps.specs.declared.Kind.{Kind as Kinds}
 use Rattle.steps.specs.declared.Kind.the-variants.{Dc, Root, Link, Sysvol, Io}
 use Rattle.steps.specs.declared.End.{End}
@@ -47,8 +47,8 @@ use Rattle.rounds.proofs.RoundLaws.{place-named, there-gone, in-use-same, in-us
 use Rattle.rounds.proofs.QuietLaws.{quiet-goes, quiet-fails, untried-fails, rests-core}
 use Rattle.answers.specs.Answers.{domainsLeft}
 use Rattle.answers.proofs.AnswerLaws.{goes-stops}
-use Rattle.hints.specs.Hints.{referralsLeft, Storing, Answering}
-use Rattle.events.specs.Events.{Awaiting, Using, Asked}
+use Rattle.hints.specs.Hints.{referralsLeft, Answering}
+use Rattle.events.specs.Events.{Using, Asked}
 use Rattle.events.proofs.SaidLaws.{first-whole, said-storable, said-matches}
 
 -- an equal turn

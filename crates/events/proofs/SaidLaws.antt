@@ -1,19 +1,18 @@
 -- What a reply that says something tells: it can be stored, and its prefix matches the path.
 use mathlib.Core.Path.{_≡_, refl, sym, ap, _∙_, subst}
-use mathlib.Core.Bool.{Bool, true, false, not, _&&_, _||_}
+use mathlib.Core.Bool.{Bool, true, false, not, _&&_}
 use mathlib.Core.List.{List, [], _∷_, map}
 use mathlib.Core.Logic.{_⊎_, inl, inr}
 use Prim.Native.Nat.{ℕ, zero, suc, _+_, _-_, _≤_}
 use native.Mathlib.Omega.{arith}
-use lib.ListN.{length, getD, take, drop}
-use lib.Seq.{length-take-le, take-take}
-use lib.Dec.{leb, eqb}
-use borrow.Author.Tests.{le-leb, leb-true, eq-eqb}
+use lib.ListN.{length, take, drop}
+use lib.Seq.{take-take}
+use borrow.Author.Tests.{le-leb, eq-eqb}
 use Rattle.laws.specs.Lists.{every}
 use Rattle.laws.proofs.Choices.{and-left, and-right, and-both}
 use Rattle.laws.proofs.Every.{every-take}
 use Rattle.unc.specs.Names.{sameName}
-use Rattle.unc.specs.Paths.{matches, firstOf, normalisedCount}
+use Rattle.unc.specs.Paths.{matches, firstOf}
 use Rattle.unc.proofs.PieceLaws.{parts, spans, first-hit, first-miss, first-over}
 use Rattle.unc.proofs.MatchLaws.{atEnd, matches-units, matches-within}
 use Rattle.spans.specs.Spans.{spanned}

@@ -1,9 +1,9 @@
 -- Laws of a hint that is set and taken back.
-use mathlib.Core.Path.{_≡_, refl, sym, ap, _∙_, subst}
-use mathlib.Core.Bool.{Bool, true, false}
+use mathlib.Core.Path.{_≡_, refl, sym, ap, _∙_}
+use mathlib.Core.Bool.{true}
 use mathlib.Core.List.{List, [], _∷_}
-use mathlib.Core.Logic.{_⊎_, inl, inr}
-use Prim.Native.Nat.{ℕ, zero, suc, _/_, _≤_, _<_}
+use mathlib.Core.Logic.{inr}
+use Prim.Native.Nat.{ℕ, zero, suc, _/_, _<_}
 use native.Mathlib.Omega.{arith}
 use lib.ListN.{length, getD, set}
 use lib.Seq.{getD-set-same}
@@ -12,7 +12,7 @@ use Rattle.laws.specs.Lists.{every}
 use Rattle.laws.proofs.Choices.{choose-no}
 use Rattle.laws.proofs.Listed.{every-set}
 use Rattle.places.specs.Layout.{placeAt, listCount}
-use Rattle.caches.specs.Entries.{Referral, Domain, Place, free, used}
+use Rattle.caches.specs.Entries.{Domain, Place, free, used}
 use Rattle.caches.specs.Order.{goodDomain, goodDCHint}
 use Rattle.caches.specs.Memory.{Kind, referrals, domains, decode, encode, inOrder, goodPlace}
 use Rattle.caches.proofs.MemoryLaws.{Lawful, cache-told, order-good, length-decode, encode-decode, decode-encode}

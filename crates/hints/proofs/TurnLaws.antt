@@ -24,13 +24,13 @@ use Rattle.referral.specs.Replies as replies
 use Rattle.referral.specs.Found.{referralShown}
 use Rattle.referral.specs.declared.ReferralFound.{ReferralFound}
 use Rattle.storing.specs.Stored.{isInterlink, stored, storedEntry, prefixed}
-use Rattle.steps.specs.Steps.{Caches, Core, Question, Called, Turn, goes, turned, withHit, withReferrals, withDomains, afterStore, storedTurn, targetHintSet, dcHintSet, hintSet, inUse}
+use Rattle.steps.specs.Steps.{Caches, Core, Question, goes, turned, withHit, withReferrals, withDomains, afterStore, storedTurn, targetHintSet, dcHintSet, hintSet, inUse}
 use Rattle.steps.specs.Rested.{cachesOf, coreOf}
 use Rattle.steps.specs.declared.Kind.{Kind}
 use Rattle.steps.specs.declared.Kind.the-variants.{Dc, Root, Link, Sysvol, Io}
 use Rattle.steps.specs.declared.Asking.{Asking}
 use Rattle.steps.specs.declared.Rested.{Rested}
-use Rattle.moves.specs.Moves.{Packed, joined, packed, Ready}
+use Rattle.moves.specs.Moves.{Packed, joined, packed}
 use Rattle.moves.proofs.MoveLaws.{standing-long}
 use Rattle.questions.specs.Questions.{restFits, nameFits, nextUnits, named}
 use Rattle.rounds.specs.Rounds.{questionOf, targetsUnder, dcsNamed, inRound}
@@ -38,7 +38,7 @@ use Rattle.rounds.proofs.RoundLaws.{place-named, dcs-fit, dcs-held, targets-fit
 use Rattle.answers.specs.Answers.{domainsLeft}
 use Rattle.answers.proofs.RestLaws.{kept-goes, rest-path, rest-tested}
 use Rattle.stores.specs.Stores.{calledAfter, storedRest, storedLeft}
-use Rattle.hints.specs.Hints.{referralsLeft, isForSysvol, Storing, Answering}
+use Rattle.hints.specs.Hints.{referralsLeft, isForSysvol, Storing}
 use Rattle.hints.proofs.HintLaws.{target-held, target-order, target-fits, target-below, target-back, dc-held, dc-order, dc-fits, dc-below, dc-back}
 
 -- the header alone tells an Interlink

@@ -3,7 +3,7 @@ use Prim.Native.Nat.{ℕ, _≤_}
 use mathlib.Core.Path.{_≡_}
 use mathlib.Core.Bool.{Bool, true, false}
 use mathlib.Core.List.{List, []}
-use lib.ListN.{length, take}
+use lib.ListN.{take}
 use Rattle.laws.specs.Choice.{choose}
 use Rattle.unc.specs.Paths.{matches}
 use Rattle.spans.specs.Spans.{spanned}

@@ -242,7 +242,7 @@ fn store_root(
     )
 }
 
-// The reply to a question, with the hint of the party that answered. DC replies and I/O have hints of their own.
+// The reply to a question, with the hint of the party that answered. DC replies and I/O do not come here; their arms are the definition's.
 pub fn store_answer(
     refs: &mut [u16],
     doms: &mut [u16],

@@ -1,4 +1,3 @@
-use denote.Ref.{now}
 use Rattle.hints.proofs.TurnLaws.{moved-rest, moved-refs, moved-doms, same-doms, doms-of, root-host, root-domain}
 use borrow.Author.Needs.{needs}
 use Rattle.hints.proofs.store_root.Statement.{statement}

@@ -22,9 +22,10 @@ use Rattle.walks.specs.declared.Walk.{Walk}
 use Rattle.resolve.specs.Calls.{Left, refused, closes, startRest, startCall, refusedAnswer, coreIn, restIn, referralEvent, ioEvent, answers, answerCall, referralCall, ioCall}
 use Rattle.resolve.specs.declared.Verdict.{Verdict}
 use Rattle.resolve.specs.declared.Verdict.the-variants.{Taken, BadPath, LongPath, BadSettings, NotInOrder, OutOfForm, ShortBuffer}
-use Rattle.keeps.specs.Keeps.{Proper, GoodTurn, StartKeeps, AnswerKeeps}
-use Rattle.keeps.proofs.RestLaws.{turned-proper}
-use Rattle.keeps.proofs.EventLaws.{picked, path-counted, started-proper, referral-good, io-good}
+use Rattle.keeps.specs.Keeps.{Proper, StartKeeps, AnswerKeeps}
+use Rattle.keeps.proofs.RestLaws.{GoodTurn, turned-proper}
+use Rattle.keeps.proofs.CalledLaws.{picked}
+use Rattle.keeps.proofs.EventLaws.{path-counted, started-proper, referral-good, io-good}
 use Rattle.keeps.proofs.BackLaws.{caches-good, form-proper, proper-form, settings-parts, form-settings}
 
 module _ (walk : Walk) (texts out : List ℕ) where

@@ -1,6 +1,6 @@
 -- Events: a start and the answers to a proper rest rest properly, for every number of moves left.
 use mathlib.Core.Path.{_≡_, refl, sym, ap, subst}
-use mathlib.Core.Bool.{Bool, true, false, _&&_, true≢false}
+use mathlib.Core.Bool.{true, false, _&&_, true≢false}
 use mathlib.Core.List.{List, []}
 use mathlib.Core.Logic.{_⊎_, inl, inr}
 use mathlib.Core.Option.{Option, none, some}
@@ -9,7 +9,6 @@ use native.Mathlib.Omega.{arith}
 use lib.ListN.{length}
 use lib.Dec.{leb, eqb}
 use borrow.Author.Tests.{le-leb, leb-true, eqb-false}
-use Rattle.laws.specs.Choice.{choose}
 use Rattle.laws.proofs.Choices.{choose-yes, choose-no, and-left, and-right, and-both}
 use Rattle.laws.proofs.Orders.{told}
 use Rattle.unc.specs.Paths.{componentCount, isNormalised, normalisedCount, goodPath, normalised, pathUnits, body}
@@ -25,17 +24,11 @@ use Rattle.steps.specs.declared.End.the-variants.{NotDfs}
 use Rattle.walks.specs.Walks.{hasTried, goodTried, endTried, endStatus}
 use Rattle.answers.proofs.AnswerLaws.{goes-stops}
 use Rattle.resolve.specs.Calls.{referralEvent, ioEvent}
-use Rattle.keeps.specs.Keeps.{GoodCaches, Proper, GoodTurn}
+use Rattle.keeps.specs.Keeps.{GoodCaches, Proper}
 use Rattle.keeps.proofs.PrefixLaws.{good-made}
-use Rattle.keeps.proofs.CalledLaws.{well-step2}
-use Rattle.keeps.proofs.RestLaws.{proper-end, turned-proper}
+use Rattle.keeps.proofs.CalledLaws.{picked, well-step2}
+use Rattle.keeps.proofs.RestLaws.{GoodTurn, proper-end, turned-proper}
 use Rattle.keeps.proofs.AnswerLaws.{answered-turn, tried-turn}
-
--- a choice, by its test
-pub picked : {A : Type 0} (P : A → Type 0) (b : Bool) (x y : A) → (b ≡ true → P x) → (b ≡ false → P y) → P (choose b x y)
-unfolding choose
-picked P true x y f g = f refl
-picked P false x y f g = g refl
 
 -- a normalised path of at most 256 units, test by test
 record Counted (s : List ℕ) : Type 0 where

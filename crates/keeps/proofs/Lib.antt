@@ -8,3 +8,4 @@ pub mod AnswerLaws
 pub mod EventLaws
 pub mod BackLaws
 pub mod CallLaws
+pub mod NamedLaws

@@ -25,10 +25,12 @@ use Rattle.walks.specs.Walks.{hasTried, goodTried, endTried, endStatus}
 use Rattle.answers.proofs.AnswerLaws.{goes-stops}
 use Rattle.resolve.specs.Calls.{referralEvent, ioEvent}
 use Rattle.keeps.specs.Keeps.{GoodCaches, Proper}
+use Rattle.keeps.specs.Named.{referralNames, ioNames, domainNames, Elsewhere}
 use Rattle.keeps.proofs.PrefixLaws.{good-made}
-use Rattle.keeps.proofs.CalledLaws.{picked, well-step2}
+use Rattle.keeps.proofs.CalledLaws.{picked, chosen, well-step2}
 use Rattle.keeps.proofs.RestLaws.{GoodTurn, proper-end, turned-proper}
 use Rattle.keeps.proofs.AnswerLaws.{answered-turn, tried-turn}
+use Rattle.keeps.proofs.NamedLaws.{answered-elsewhere, tried-elsewhere}
 
 -- a normalised path of at most 256 units, test by test
 record Counted (s : List ℕ) : Type 0 where
@@ -74,40 +76,63 @@ started-proper c cs w size h n clock = picked Fit (eqb (componentCount (w .path)
         good-made (w .path) (record { short = counted (w .path) h .short; normal = counted (w .path) h .normal; two = omega (arith, counted (w .path) h .some-count) }) in
         turned-proper n clock (fromStep2 c w clock) (record { caches = cs; path = g; size = size; called = well-step2 w g size c (cs .refs) clock })
 
--- the event of an answer
-module _ (c : Caches) (cs : GoodCaches c) (w : Core) where
-  If : Option Turn → Type 0
-  If o = (t : Turn) → o ≡ some t → GoodTurn t
+-- the event of an answer, if there is one
+module _ (P : Turn → Type 0) where
+  unfoldable pub If : Option Turn → Type 0
+  If o = (t : Turn) → o ≡ some t → P t
 
-  if-none : If none
+  pub if-none : If none
   unfolding If
   if-none t h = absurd (let z : _≡_ {A = ℕ} 0 1 = cc in omega arith)
 
-  if-some : (x : Turn) → GoodTurn x → If (some x)
+  pub if-some : (x : Turn) → P x → If (some x)
   unfolding If
-  if-some x g t h = subst GoodTurn (let z : x ≡ t = cc in z) g
+  if-some x g t h = subst P (let z : x ≡ t = cc in z) g
 
-  is-io : (k : Kind) → hasTried k ≡ true → k ≡ Io
-  unfolding hasTried
-  is-io Dc h = absurd (true≢false (sym h))
-  is-io Root h = absurd (true≢false (sym h))
-  is-io Link h = absurd (true≢false (sym h))
-  is-io Sysvol h = absurd (true≢false (sym h))
-  is-io Io h = refl
+is-io : (k : Kind) → hasTried k ≡ true → k ≡ Io
+unfolding hasTried
+is-io Dc h = absurd (true≢false (sym h))
+is-io Root h = absurd (true≢false (sym h))
+is-io Link h = absurd (true≢false (sym h))
+is-io Sysvol h = absurd (true≢false (sym h))
+is-io Io h = refl
 
+module _ (c : Caches) (w : Core) where
+  -- it changes no place but those that it names
+  pub referral-elsewhere : (r : Rest) (status : ℕ) (reply : List ℕ) (clock : ℕ) (t : Turn) → referralEvent c w r status reply clock ≡ some t
+      → Elsewhere (referralNames c w r reply clock) (domainNames c w r) c (t .caches)
+  unfolding referralEvent referralNames domainNames If
+  referral-elsewhere (ended e s tried) status reply clock = if-none _
+  referral-elsewhere (waits q) status reply clock = chosen (If Fit) (hasTried (q .kind)) _ _ (if-none Fit) (if-some Fit _ (answered-elsewhere c w q status reply clock))
+    where
+      Fit : Turn → Type 0
+      Fit t = Elsewhere (referralNames c w (waits q) reply clock) (domainNames c w (waits q)) c (t .caches)
+
+  pub io-elsewhere : (r : Rest) (status : ℕ) (t : Turn) → ioEvent c w r status ≡ some t → Elsewhere (ioNames c w r) (domainNames c w r) c (t .caches)
+  unfolding ioEvent ioNames domainNames If
+  io-elsewhere (ended e s tried) status = if-none _
+  io-elsewhere (waits q) status = chosen (If Fit) (hasTried (q .kind)) _ _ (if-some Fit _ (tried-elsewhere c w q status)) (if-none Fit)
+    where
+      Fit : Turn → Type 0
+      Fit t = Elsewhere (ioNames c w (waits q)) (domainNames c w (waits q)) c (t .caches)
+
+module _ (c : Caches) (cs : GoodCaches c) (w : Core) where
+  -- it is good
   pub referral-good : (r : Rest) → Proper w r → (status : ℕ) (reply : List ℕ) (clock : ℕ) (t : Turn) → referralEvent c w r status reply clock ≡ some t → GoodTurn t
   unfolding referralEvent If
-  referral-good (ended e s tried) p status reply clock = if-none
+  referral-good (ended e s tried) p status reply clock = if-none GoodTurn
   referral-good (waits q) p status reply clock =
-      picked If (hasTried (q .kind)) none (some (referralAnswered c w q status reply clock)) (λ h. if-none) (λ h. if-some _ (answered-turn c cs w q p h status reply clock))
+      picked (If GoodTurn) (hasTried (q .kind)) none (some (referralAnswered c w q status reply clock)) (λ h. if-none GoodTurn)
+      (λ h. if-some GoodTurn _ (answered-turn c cs w q p h status reply clock))
 
   pub io-good : (r : Rest) → Proper w r → (status : ℕ) (t : Turn) → ioEvent c w r status ≡ some t → GoodTurn t
   unfolding ioEvent If
-  io-good (ended e s tried) p status = if-none
+  io-good (ended e s tried) p status = if-none GoodTurn
   io-good (waits q) p status =
-      picked If (hasTried (q .kind)) (some (ioAnswered c w q status)) none (λ h. if-some _ (tried-turn c cs w q p (is-io (q .kind) h) status)) (λ h. if-none)
+      picked (If GoodTurn) (hasTried (q .kind)) (some (ioAnswered c w q status)) none (λ h. if-some GoodTurn _ (tried-turn c cs w q p (is-io (q .kind) h) status))
+      (λ h. if-none GoodTurn)
 
-  -- an answer
+  -- and where the steps rest is proper
   pub answered-proper : (r : Rest) → Proper w r → (status : ℕ) (reply : List ℕ) (clock : ℕ) (t : Turn) → referralEvent c w r status reply clock ≡ some t
       → (n : ℕ) → Proper (turned n clock t .core) (turned n clock t .rest)
   answered-proper r p status reply clock t h n = turned-proper n clock t (referral-good r p status reply clock t h)

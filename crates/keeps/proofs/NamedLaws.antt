@@ -2,14 +2,15 @@
 use mathlib.Core.Path.{_≡_, refl, sym, ap, _∙_, subst}
 use mathlib.Core.Bool.{Bool, true, false, _||_, true≢false}
 use mathlib.Core.List.{List, [], _∷_}
+use mathlib.Core.Option.{Option, none, some}
 use Prim.Native.Nat.{ℕ, zero, suc, _+_}
-use lib.ListN.{length, getD, take, set}
+use lib.ListN.{getD, take, set}
 use lib.Seq.{getD-set-other}
 use lib.Dec.{eqb, leb, ltb}
 use borrow.Author.Tests.{eqb-false}
 use Rattle.laws.specs.Choice.{choose}
 use Rattle.unc.specs.Paths.{components}
-use Rattle.caches.specs.Entries.{Referral, Domain, Place, free, used}
+use Rattle.caches.specs.Entries.{Referral, Place, free, used}
 use Rattle.caches.specs.Memory.{referrals, domains}
 use Rattle.lookup.specs.Lookup.{hasKey, withKeyFrom, withKey, firstFreeFrom, placeAge, oldestFrom, oldest, foundOr, newPlace, onEntry, targetHintTo, targetHinted, dcHinted}
 use Rattle.lookup.specs.declared.Found.{Found}
@@ -17,9 +18,9 @@ use Rattle.lookup.specs.declared.Found.the-variants.{At, Nothing}
 use Rattle.referral.specs.Replies as replies
 use Rattle.referral.specs.Replies.{malformed, nothing, says, readReferral}
 use Rattle.namelists.specs.NameLists.{readDcs}
-use Rattle.storing.specs.Stored.{storePlace, stored, dcsStored}
+use Rattle.storing.specs.Stored.{storePlace, stored}
 use Rattle.domains.proofs.DcLaws.{dcs-elsewhere}
-use Rattle.steps.specs.Steps.{Caches, Core, Question, ends, Turn, referralFails, withReferrals, withDomains, dcHintSet, targetHintSet, hintSet, dcsIn, dcAnswer, nameAsked, inUse, referralInUse, severity, coversNothing, storedTurn, referralAnswer, referralSucceeds, referralAnswered, ioWith, ioAnswered}
+use Rattle.steps.specs.Steps.{Caches, Core, Question, Turn, withReferrals, withDomains, dcHintSet, targetHintSet, hintSet, dcsIn, dcAnswer, nameAsked, inUse, referralInUse, severity, coversNothing, storedTurn, referralAnswer, referralSucceeds, referralAnswered, ioWith, ioAnswered}
 use Rattle.steps.specs.declared.Kind.{Kind}
 use Rattle.steps.specs.declared.Kind.the-variants.{Dc, Root, Link, Sysvol, Io}
 use Rattle.keeps.specs.Named.{isAt, usesPrefix, usesDomain, storesAt, stores, Elsewhere}
@@ -169,3 +170,53 @@ module _ (c : Caches) (w : Core) (q : Question) where
                   ∙ hint-elsewhere .prefixes i (uses i n);
               names = hint-elsewhere .names;
             })
+
+module _ (c : Caches) (w : Core) (q : Question) where
+  -- a success
+  success-elsewhere : (reply : List ℕ) (clock : ℕ) → Elsewhere (λ i. usesPrefix c w q i || stores c w q reply clock i) (usesDomain c w q) c (referralSucceeds c w q reply clock .caches)
+  unfolding referralSucceeds stores usesDomain dcAnswer
+  success-elsewhere reply clock = go (q .kind)
+    where
+      Kept : Kind → Type 0
+      Kept k =
+          Elsewhere (λ i. usesPrefix c w (kindTo k q) i || stores c w (kindTo k q) reply clock i) (usesDomain c w (kindTo k q)) c
+          (referralSucceeds c w (kindTo k q) reply clock .caches)
+
+      said : (k : Kind)
+          → Elsewhere (λ i. usesPrefix c w (kindTo k q) i || storesAt c clock (readReferral (q .size) (nameAsked w (kindTo k q)) reply) i) (usesDomain c w (kindTo k q)) c
+          (referralAnswer c w (kindTo k q) clock (readReferral (q .size) (nameAsked w (kindTo k q)) reply) .caches)
+      said k =
+          reply-elsewhere c w (kindTo k q) _ (readReferral (q .size) (nameAsked w (kindTo k q)) reply) clock (λ i n. or-none _ _ n .0) (λ i n. or-none (usesPrefix c w (kindTo k q) i) _ n .1)
+
+      dcs : (x : replies.Reply (List (List ℕ))) → Elsewhere (λ i. usesPrefix c w (kindTo Dc q) i || stores c w (kindTo Dc q) reply clock i) (usesDomain c w (kindTo Dc q)) c (dcAnswer c w x .caches)
+      dcs malformed = same-elsewhere _ _ c
+      dcs nothing = same-elsewhere _ _ c
+      dcs (says xs) = dcs-in-elsewhere c w (kindTo Dc q) _ _ xs (λ i n. n)
+
+      go : (k : Kind) → Kept k
+      go Dc = dcs (readDcs (q .size) reply)
+      go Root = said Root
+      go Link = said Link
+      go Sysvol = said Sysvol
+      go Io = same-elsewhere _ _ c
+
+  -- the answer to a referral request, and to an I/O try
+  pub answered-elsewhere : (status : ℕ) (reply : List ℕ) (clock : ℕ)
+      → Elsewhere (λ i. usesPrefix c w q i || stores c w q reply clock i) (usesDomain c w q) c (referralAnswered c w q status reply clock .caches)
+  unfolding referralAnswered
+  answered-elsewhere status reply clock =
+      chosen Kept (inUse c w q) _ _ (chosen Kept (leb 2 (severity status)) _ _ (same-elsewhere _ _ c) (success-elsewhere reply clock)) (same-elsewhere _ _ c)
+    where
+      Kept : Turn → Type 0
+      Kept t = Elsewhere (λ i. usesPrefix c w q i || stores c w q reply clock i) (usesDomain c w q) c (t .caches)
+
+  pub tried-elsewhere : (status : ℕ) → Elsewhere (usesPrefix c w q) (usesDomain c w q) c (ioAnswered c w q status .caches)
+  unfolding ioAnswered ioWith
+  tried-elsewhere status = chosen Kept (inUse c w q) _ _ (go (referralInUse c w q)) (same-elsewhere _ _ c)
+    where
+      Kept : Turn → Type 0
+      Kept t = Elsewhere (usesPrefix c w q) (usesDomain c w q) c (t .caches)
+
+      go : (o : Option Referral) → Kept (ioWith c w q status o)
+      go none = same-elsewhere _ _ c
+      go (some e) = chosen Kept (eqb (severity status) 3) _ _ (same-elsewhere _ _ c) (hint-elsewhere c w q)

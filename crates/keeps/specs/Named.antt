@@ -6,7 +6,7 @@ use mathlib.Core.List.{List, []}
 use lib.ListN.{getD, take}
 use lib.Dec.{eqb}
 use Rattle.unc.specs.Paths.{components}
-use Rattle.caches.specs.Entries.{Place, free}
+use Rattle.caches.specs.Entries.{free}
 use Rattle.caches.specs.Memory.{referrals, domains}
 use Rattle.lookup.specs.Lookup.{withKey}
 use Rattle.lookup.specs.declared.Found.{Found}

@@ -1,17 +1,15 @@
 -- Events: a start and the answers to a proper rest rest properly, for every number of moves left.
 use mathlib.Core.Path.{_≡_, refl, sym, ap, subst}
-use mathlib.Core.Bool.{true, false, _&&_, true≢false}
+use mathlib.Core.Bool.{true, false, true≢false}
 use mathlib.Core.List.{List, []}
-use mathlib.Core.Logic.{_⊎_, inl, inr}
 use mathlib.Core.Option.{Option, none, some}
 use Prim.Native.Nat.{ℕ, _≤_}
 use native.Mathlib.Omega.{arith}
 use lib.ListN.{length}
-use lib.Dec.{leb, eqb}
-use borrow.Author.Tests.{le-leb, leb-true, eqb-false}
-use Rattle.laws.proofs.Choices.{choose-yes, choose-no, and-left, and-right, and-both}
-use Rattle.laws.proofs.Orders.{told}
-use Rattle.unc.specs.Paths.{componentCount, isNormalised, normalisedCount, goodPath, normalised, pathUnits, body}
+use lib.Dec.{eqb}
+use borrow.Author.Tests.{le-leb, eqb-false}
+use Rattle.laws.proofs.Choices.{choose-yes, and-both}
+use Rattle.unc.specs.Paths.{componentCount, normalisedCount, goodPath, normalised, body}
 use Rattle.unc.proofs.FormLaws.{count-normalised}
 use Rattle.unc.proofs.PieceLaws.{pieces-some}
 use Rattle.unc.proofs.WholeLaws.{normalised-is}
@@ -26,29 +24,11 @@ use Rattle.answers.proofs.AnswerLaws.{goes-stops}
 use Rattle.resolve.specs.Calls.{referralEvent, ioEvent}
 use Rattle.keeps.specs.Keeps.{GoodCaches, Proper}
 use Rattle.keeps.specs.Named.{referralNames, ioNames, domainNames, Elsewhere}
-use Rattle.keeps.proofs.PrefixLaws.{good-made}
+use Rattle.keeps.proofs.PrefixLaws.{Normal, normal-told, good-made}
 use Rattle.keeps.proofs.CalledLaws.{picked, chosen, well-step2}
 use Rattle.keeps.proofs.RestLaws.{GoodTurn, proper-end, turned-proper}
 use Rattle.keeps.proofs.AnswerLaws.{answered-turn, tried-turn}
 use Rattle.keeps.proofs.NamedLaws.{answered-elsewhere, tried-elsewhere}
-
--- a normalised path of at most 256 units, test by test
-record Counted (s : List ℕ) : Type 0 where
-  short : length s ≤ 256
-  normal : isNormalised s ≡ true
-  some-count : 1 ≤ componentCount s
-
-counted : (s : List ℕ) → 1 ≤ normalisedCount s → Counted s
-unfolding normalisedCount
-counted s h = go (told (leb (length s) pathUnits && isNormalised s))
-  where
-    go : ((leb (length s) pathUnits && isNormalised s) ≡ true) ⊎ ((leb (length s) pathUnits && isNormalised s) ≡ false) → Counted s
-    go (inl t) = record {
-      short = leb-true _ _ (and-left (leb (length s) pathUnits) _ t);
-      normal = and-right (leb (length s) pathUnits) _ t;
-      some-count = subst (λ (n : ℕ). 1 ≤ n) (choose-yes _ _ t) h;
-    }
-    go (inr t) = absurd (let z : 1 ≤ 0 = subst (λ (n : ℕ). 1 ≤ n) (choose-no _ _ t) h in omega arith)
 
 -- a good path, normalised, that is not too long
 pub path-counted : (path : List ℕ) → goodPath path ≡ true → length (normalised path) ≤ 256 → 1 ≤ normalisedCount (normalised path)
@@ -72,8 +52,9 @@ started-proper c cs w size h n clock = picked Fit (eqb (componentCount (w .path)
     more : eqb (componentCount (w .path)) 1 ≡ false → Fit (fromStep2 c w clock)
     more t =
         let k : componentCount (w .path) ≡ 1 → ⊥ = eqb-false (componentCount (w .path)) 1 t in
+        let n′ : Normal (w .path) = normal-told (w .path) h in
         let g : goodPrefix (w .path) ≡ true =
-        good-made (w .path) (record { short = counted (w .path) h .short; normal = counted (w .path) h .normal; two = omega (arith, counted (w .path) h .some-count) }) in
+        good-made (w .path) (record { short = n′ .short; normal = n′ .normal; two = omega (arith, n′ .count) }) in
         turned-proper n clock (fromStep2 c w clock) (record { caches = cs; path = g; size = size; called = well-step2 w g size c (cs .refs) clock })
 
 -- the event of an answer, if there is one

@@ -37,10 +37,11 @@ use Rattle.steps.specs.declared.Asking.{Asking}
 use Rattle.moves.proofs.MoveLaws.{matches-same}
 use Rattle.walks.specs.Walks.{namesDomain, namesPrefix, noParty, oneParty, askedInForm, hasTried}
 use Rattle.walks.proofs.FormLaws.{Waiting, waiting-told, request-size, io-named, io-count}
-use Rattle.keeps.specs.Keeps.{GoodCaches, Proper, Asked, Well, GoodTurn}
+use Rattle.keeps.specs.Keeps.{GoodCaches, Proper}
 use Rattle.keeps.proofs.PrefixLaws.{first-matches, matches-trans}
 use Rattle.keeps.proofs.CacheLaws.{Equal, prefixed-or, reply-good, stored-well, stored-kept}
-use Rattle.keeps.proofs.CalledLaws.{chosen, well-gone, well-malformed, well-failed, well-no-dc, well-not-dfs, well-done, well-asks, asked-root, asked-link, asked-io, asked-step5, well-stored}
+use Rattle.keeps.proofs.CalledLaws.{Asked, Well, chosen, well-gone, well-malformed, well-failed, well-no-dc, well-not-dfs, well-done, well-asks, asked-root, asked-link, asked-io, asked-step5, well-stored}
+use Rattle.keeps.proofs.RestLaws.{GoodTurn}
 use Rattle.keeps.proofs.HintLaws.{kindTo, hint-good, dcs-good}
 
 -- the same question with another size

@@ -8,10 +8,11 @@ use lib.ListN.{length}
 use borrow.Author.Tests.{le-leb}
 use Rattle.laws.proofs.Choices.{and-left, and-right, and-both}
 use Rattle.unc.specs.Names.{goodName}
-use Rattle.caches.specs.Memory.{referrals, domains, inOrder}
-use Rattle.caches.proofs.MemoryLaws.{order-good}
+use Rattle.caches.specs.Memory.{referrals, domains, encode, inOrder}
+use Rattle.caches.proofs.MemoryLaws.{cache-told, order-good, decode-encode, encoded-in-order}
+use Rattle.caches.proofs.KindLaws.{referrals-lawful, domains-lawful}
 use Rattle.domains.specs.Domains.{goodSize}
-use Rattle.steps.specs.Steps.{Rest, waits, ended, Resting}
+use Rattle.steps.specs.Steps.{Caches, Rest, waits, ended, Resting}
 use Rattle.steps.specs.Rested.{cachesOf, coreOf, askingOf, nextOf, triedOf}
 use Rattle.steps.specs.declared.Next.{Next}
 use Rattle.steps.specs.declared.Next.the-variants.{Asks, Ends}
@@ -30,6 +31,20 @@ caches-good refs doms h = record {
   refs = order-good referrals refs (and-left (inOrder referrals refs) _ h);
   doms = order-good domains doms (and-right (inOrder referrals refs) _ h);
 }
+
+-- and good caches are what their memory holds, which is in order
+pub caches-order : (c : Caches) → GoodCaches c → (inOrder referrals (encode referrals (c .referrals)) && inOrder domains (encode domains (c .domains))) ≡ true
+caches-order c cs =
+    and-both (encoded-in-order referrals referrals-lawful (c .referrals) (cs .refs)) (encoded-in-order domains domains-lawful (c .domains) (cs .doms))
+
+pub caches-back : (c : Caches) → GoodCaches c → cachesOf (encode referrals (c .referrals)) (encode domains (c .domains)) ≡ c
+unfolding cachesOf
+caches-back c cs =
+    λ i.
+    record {
+      referrals = decode-encode referrals referrals-lawful (c .referrals) (cache-told referrals (c .referrals) (cs .refs) .places) i;
+      domains = decode-encode domains domains-lawful (c .domains) (cache-told domains (c .domains) (cs .doms) .places) i;
+    }
 
 -- a rest, by its next move and its path tried
 rest-shown : (r : Rest) → restAt (triedOf r) (nextOf r) ≡ r

@@ -1,51 +1,57 @@
 -- What the calls keep.
-use mathlib.Core.Path.{_≡_, refl, sym, ap, _∙_}
-use mathlib.Core.Bool.{true, false, _&&_}
+use mathlib.Core.Path.{subst, _≡_, refl, sym, ap, _∙_}
+use mathlib.Core.Bool.{Bool, true, false, _&&_}
 use mathlib.Core.List.{List}
 use mathlib.Core.Option.{Option, none, some}
-use Prim.Native.Nat.{ℕ, _-_}
+use Prim.Native.Nat.{ℕ, _-_, _≤_}
 use native.Mathlib.Omega.{arith}
 use lib.ListN.{length}
 use lib.Dec.{leb, eqb}
 use borrow.Author.Tests.{leb-true}
-use Rattle.laws.proofs.Choices.{choose-yes, and-both}
+use Rattle.laws.proofs.Choices.{choose-yes}
 use Rattle.unc.specs.Names.{goodName}
 use Rattle.unc.specs.Paths.{goodPath, normalised, pathUnits}
-use Rattle.caches.specs.Memory.{referrals, domains, encode, inOrder}
-use Rattle.caches.proofs.MemoryLaws.{encoded-in-order}
-use Rattle.caches.proofs.KindLaws.{referrals-lawful, domains-lawful}
-use Rattle.steps.specs.Steps.{Turn, Resting, turned, started}
+use Rattle.caches.specs.Memory.{referrals, domains, inOrder}
+use Rattle.steps.specs.Steps.{Caches, Core, Rest, Turn, Resting, turned, started}
 use Rattle.steps.specs.Rested.{cachesOf, coreOf}
 use Rattle.questions.specs.Questions.{restFits}
 use Rattle.walks.specs.Walks.{goodLimit, goodSettings, bootIn, inForm}
 use Rattle.walks.specs.declared.Walk.{Walk}
 use Rattle.turns.specs.Turns.{coreIn}
-use Rattle.resolve.specs.Calls.{Left, refused, closes, startRest, startCall, refusedAnswer, restIn, referralEvent, ioEvent, answers, answerCall, referralCall, ioCall}
+use Rattle.resolve.specs.Calls.{refusalNumber, Left, refused, closes, startRest, startCall, refusedAnswer, restIn, referralEvent, ioEvent, answers, answerCall, referralCall, ioCall}
 use Rattle.resolve.specs.declared.Verdict.{Verdict}
 use Rattle.resolve.specs.declared.Verdict.the-variants.{Taken, BadPath, LongPath, BadSettings, NotInOrder, OutOfForm, ShortBuffer}
-use Rattle.keeps.specs.Keeps.{Proper, GoodTurn, StartKeeps, AnswerKeeps}
-use Rattle.keeps.proofs.RestLaws.{turned-proper}
-use Rattle.keeps.proofs.EventLaws.{picked, path-counted, started-proper, referral-good, io-good}
-use Rattle.keeps.proofs.BackLaws.{caches-good, form-proper, proper-form, settings-parts, form-settings}
+use Rattle.keeps.specs.Keeps.{Proper, StartKeeps, AnswerKeeps, CallsKeep}
+use Rattle.keeps.specs.Named.{referralNames, ioNames, domainNames, Elsewhere}
+use Rattle.keeps.proofs.NamedLaws.{same-elsewhere}
+use Rattle.keeps.proofs.RestLaws.{GoodTurn, turned-proper}
+use Rattle.keeps.proofs.CalledLaws.{picked}
+use Rattle.keeps.proofs.EventLaws.{path-counted, started-proper, referral-good, io-good, referral-elsewhere, io-elsewhere}
+use Rattle.keeps.proofs.BackLaws.{caches-good, caches-order, caches-back, form-proper, proper-form, settings-parts, form-settings}
+
+-- a verdict with a refusal's number is not "taken"
+refusal : (v : Verdict) → 1 ≤ refusalNumber v → v ≡ Taken → ⊥
+unfolding refusalNumber
+refusal v h e = let z : refusalNumber v ≡ 0 = ap refusalNumber e in omega arith
 
 module _ (walk : Walk) (texts out : List ℕ) where
   -- a refused call
-  pub refused-keeps : (v : Verdict) → (v ≡ Taken → ⊥) → StartKeeps walk texts out (refused v walk texts out)
-  refused-keeps v h = record { in-form = λ e. absurd (h e); identity = λ e. refl }
+  pub refused-keeps : (v : Verdict) → 1 ≤ refusalNumber v → StartKeeps walk texts out (refused v walk texts out)
+  refused-keeps v h = record { in-form = λ e. absurd (refusal v h e); identity = λ e. refl }
 
   -- a call whose steps rest properly
   pub closes-keeps : (limit : ℕ) (boot : List ℕ) (x : Resting) → goodLimit limit ≡ true → goodName boot ≡ true → Proper (x .core) (x .rest)
       → StartKeeps walk texts out (closes limit boot x walk texts out)
-  unfolding closes
+  unfolding closes refusalNumber
   closes-keeps limit boot x l b p =
       picked (StartKeeps walk texts out) (restFits (length out) x) _ _
       (λ t. record { in-form = λ e. proper-form limit boot x p l b; identity = λ e. absurd (e refl) })
-      (λ t. refused-keeps ShortBuffer (λ e. let z : _≡_ {A = ℕ} 0 1 = cc in omega arith))
+      (λ t. refused-keeps ShortBuffer (omega arith))
 
 -- `start`
 pub start-keeps : (refs doms texts : List ℕ) (walk : Walk) (path boot : List ℕ) (limit size clock : ℕ) (out : List ℕ)
     → StartKeeps walk texts out (startCall refs doms texts walk path boot limit size clock out)
-unfolding startCall startRest
+unfolding startCall startRest refusalNumber
 start-keeps refs doms texts walk path boot limit size clock out =
     picked Keeps (inOrder referrals refs && inOrder domains doms) _ _
     (λ o.
@@ -54,11 +60,11 @@ start-keeps refs doms texts walk path boot limit size clock out =
     picked Keeps (leb (length (normalised path)) pathUnits) _ _
     (λ l.
     picked Keeps (goodSettings limit size boot) _ _
-    (λ s. picked Keeps (eqb (length texts) 768) _ _ (λ t. rested o g l s) (λ t. refused-keeps walk texts out OutOfForm (λ e. let z : _≡_ {A = ℕ} 0 1 = cc in omega arith)))
-    (λ s. refused-keeps walk texts out BadSettings (λ e. let z : _≡_ {A = ℕ} 0 1 = cc in omega arith)))
-    (λ l. refused-keeps walk texts out LongPath (λ e. let z : _≡_ {A = ℕ} 0 1 = cc in omega arith)))
-    (λ g. refused-keeps walk texts out BadPath (λ e. let z : _≡_ {A = ℕ} 0 1 = cc in omega arith)))
-    (λ o. refused-keeps walk texts out NotInOrder (λ e. let z : _≡_ {A = ℕ} 0 1 = cc in omega arith))
+    (λ s. picked Keeps (eqb (length texts) 768) _ _ (λ t. rested o g l s) (λ t. refused-keeps walk texts out OutOfForm (omega arith)))
+    (λ s. refused-keeps walk texts out BadSettings (omega arith)))
+    (λ l. refused-keeps walk texts out LongPath (omega arith)))
+    (λ g. refused-keeps walk texts out BadPath (omega arith)))
+    (λ o. refused-keeps walk texts out NotInOrder (omega arith))
   where
     Keeps : Left → Type 0
     Keeps x = StartKeeps walk texts out x
@@ -71,59 +77,88 @@ start-keeps refs doms texts walk path boot limit size clock out =
         (started-proper (cachesOf refs doms) (caches-good refs doms o) (coreOf (normalised path) size false) (k .1 .0) (path-counted path g (leb-true (length (normalised path)) 256 l)) limit clock)
 
 -- an answer
-module _ (refs doms texts : List ℕ) (walk : Walk) (out : List ℕ) where
-  turned-away : (v : Verdict) → (v ≡ Taken → ⊥) → AnswerKeeps walk texts out refs doms (refusedAnswer v walk texts out refs doms)
-  turned-away v h = record { in-form = λ e. absurd (h e); identity = λ e. refl; order = refl }
+module _ (f g : ℕ → Bool) (refs doms texts : List ℕ) (walk : Walk) (out : List ℕ) where
+  -- an event that is good, and changes no place but those that it names
+  record Kept (t : Turn) : Type 0 where
+    good : GoodTurn t
+    elsewhere : Elsewhere f g (cachesOf refs doms) (t .caches)
 
-  module _ (clock : ℕ) (o : (inOrder referrals refs && inOrder domains doms) ≡ true) (f : inForm walk texts ≡ true) where
-    turn-order : (t : Turn) → GoodTurn t → (inOrder referrals (encode referrals (t .caches .referrals)) && inOrder domains (encode domains (t .caches .domains))) ≡ true
-    turn-order t g =
-        and-both (encoded-in-order referrals referrals-lawful (t .caches .referrals) (g .caches .refs))
-        (encoded-in-order domains domains-lawful (t .caches .domains) (g .caches .doms))
+  turned-away : (v : Verdict) → 1 ≤ refusalNumber v → AnswerKeeps f g walk texts out refs doms (refusedAnswer v walk texts out refs doms)
+  turned-away v h = record { in-form = λ e. absurd (refusal v h e); identity = λ e. refl; order = refl; elsewhere = same-elsewhere f g (cachesOf refs doms) }
 
+  module _ (clock : ℕ) (o : (inOrder referrals refs && inOrder domains doms) ≡ true) (formed : inForm walk texts ≡ true) where
     closed : (t : Turn) → GoodTurn t → StartKeeps walk texts out (closes (walk .limit) (bootIn walk texts) (turned (walk .limit - walk .moves) clock t) walk texts out)
-    closed t g =
-        let s = form-settings walk texts f in
-        closes-keeps walk texts out (walk .limit) (bootIn walk texts) (turned (walk .limit - walk .moves) clock t) (s .0) (s .1) (turned-proper (walk .limit - walk .moves) clock t g)
+    closed t k =
+        let s = form-settings walk texts formed in
+        closes-keeps walk texts out (walk .limit) (bootIn walk texts) (turned (walk .limit - walk .moves) clock t) (s .0) (s .1) (turned-proper (walk .limit - walk .moves) clock t k)
 
     taken : (t : Turn) → restFits (length out) (turned (walk .limit - walk .moves) clock t) ≡ true
         → closes (walk .limit) (bootIn walk texts) (turned (walk .limit - walk .moves) clock t) walk texts out .verdict ≡ Taken
     unfolding closes
     taken t h = ap (λ (x : Left). x .verdict) (choose-yes _ _ h)
 
-    answers-keep : (event : Option Turn) → ((t : Turn) → event ≡ some t → GoodTurn t) → AnswerKeeps walk texts out refs doms (answers event clock walk texts out refs doms)
-    unfolding answers
-    answers-keep none g = turned-away OutOfForm (λ e. let z : _≡_ {A = ℕ} 0 1 = cc in omega arith)
-    answers-keep (some t) g =
-        picked (AnswerKeeps walk texts out refs doms) (restFits (length out) (turned (walk .limit - walk .moves) clock t)) _ _
+    answers-keep : (event : Option Turn) → ((t : Turn) → event ≡ some t → Kept t) → AnswerKeeps f g walk texts out refs doms (answers event clock walk texts out refs doms)
+    unfolding answers refusalNumber
+    answers-keep none k = turned-away OutOfForm (omega arith)
+    answers-keep (some t) k =
+        picked (AnswerKeeps f g walk texts out refs doms) (restFits (length out) (turned (walk .limit - walk .moves) clock t)) _ _
         (λ h. record {
-          in-form = closed t (g t refl) .in-form;
+          in-form = closed t (k t refl .good) .in-form;
           identity = λ e. absurd (e (taken t h));
-          order = turn-order t (g t refl) ∙ sym o;
+          order = caches-order (t .caches) (k t refl .good .caches) ∙ sym o;
+          elsewhere = subst (Elsewhere f g (cachesOf refs doms)) (sym (caches-back (t .caches) (k t refl .good .caches))) (k t refl .elsewhere);
         })
-        (λ h. turned-away ShortBuffer (λ e. let z : _≡_ {A = ℕ} 0 1 = cc in omega arith))
+        (λ h. turned-away ShortBuffer (omega arith))
 
   answer-keeps : (event : Option Turn) (clock : ℕ)
-      → ((inOrder referrals refs && inOrder domains doms) ≡ true → inForm walk texts ≡ true → (t : Turn) → event ≡ some t → GoodTurn t)
-      → AnswerKeeps walk texts out refs doms (answerCall event clock walk texts out refs doms)
-  unfolding answerCall
-  answer-keeps event clock g =
-      picked (AnswerKeeps walk texts out refs doms) (inOrder referrals refs && inOrder domains doms) _ _
+      → ((inOrder referrals refs && inOrder domains doms) ≡ true → inForm walk texts ≡ true → (t : Turn) → event ≡ some t → Kept t)
+      → AnswerKeeps f g walk texts out refs doms (answerCall event clock walk texts out refs doms)
+  unfolding answerCall refusalNumber
+  answer-keeps event clock k =
+      picked (AnswerKeeps f g walk texts out refs doms) (inOrder referrals refs && inOrder domains doms) _ _
       (λ o.
-      picked (AnswerKeeps walk texts out refs doms) (inForm walk texts) _ _ (λ f. answers-keep clock o f event (g o f))
-      (λ f. turned-away OutOfForm (λ e. let z : _≡_ {A = ℕ} 0 1 = cc in omega arith)))
-      (λ o. turned-away NotInOrder (λ e. let z : _≡_ {A = ℕ} 0 1 = cc in omega arith))
+      picked (AnswerKeeps f g walk texts out refs doms) (inForm walk texts) _ _ (λ h. answers-keep clock o h event (k o h))
+      (λ h. turned-away OutOfForm (omega arith)))
+      (λ o. turned-away NotInOrder (omega arith))
+
+module _ (refs doms texts : List ℕ) (walk : Walk) where
+  c : Caches
+  c = cachesOf refs doms
+
+  w : Core
+  w = coreIn walk texts
+
+  r : Rest
+  r = restIn walk texts
 
   -- `answer_referral`
-  pub referral-keeps : (status : ℕ) (reply : List ℕ) (clock : ℕ) → AnswerKeeps walk texts out refs doms (referralCall refs doms texts walk status reply clock out)
-  unfolding referralCall
-  referral-keeps status reply clock =
-      answer-keeps (referralEvent (cachesOf refs doms) (coreIn walk texts) (restIn walk texts) status reply clock) clock
-      (λ o f. referral-good (cachesOf refs doms) (caches-good refs doms o) (coreIn walk texts) (restIn walk texts) (form-proper walk texts f) status reply clock)
+  pub referral-keeps : (status : ℕ) (reply : List ℕ) (clock : ℕ) (out : List ℕ)
+      → AnswerKeeps (referralNames (cachesOf refs doms) (coreIn walk texts) (restIn walk texts) reply clock) (domainNames (cachesOf refs doms) (coreIn walk texts) (restIn walk texts)) walk texts out refs doms
+      (referralCall refs doms texts walk status reply clock out)
+  unfolding referralCall c w r
+  referral-keeps status reply clock out =
+      answer-keeps (referralNames c w r reply clock) (domainNames c w r) refs doms texts walk out (referralEvent c w r status reply clock) clock
+      (λ o f t e. record {
+        good = referral-good c (caches-good refs doms o) w r (form-proper walk texts f) status reply clock t e;
+        elsewhere = referral-elsewhere c w r status reply clock t e;
+      })
 
   -- `answer_io`
-  pub io-keeps : (status clock : ℕ) → AnswerKeeps walk texts out refs doms (ioCall refs doms texts walk status clock out)
-  unfolding ioCall
-  io-keeps status clock =
-      answer-keeps (ioEvent (cachesOf refs doms) (coreIn walk texts) (restIn walk texts) status) clock
-      (λ o f. io-good (cachesOf refs doms) (caches-good refs doms o) (coreIn walk texts) (restIn walk texts) (form-proper walk texts f) status)
+  pub io-keeps : (status clock : ℕ) (out : List ℕ)
+      → AnswerKeeps (ioNames (cachesOf refs doms) (coreIn walk texts) (restIn walk texts)) (domainNames (cachesOf refs doms) (coreIn walk texts) (restIn walk texts)) walk texts out refs doms
+      (ioCall refs doms texts walk status clock out)
+  unfolding ioCall c w r
+  io-keeps status clock out =
+      answer-keeps (ioNames c w r) (domainNames c w r) refs doms texts walk out (ioEvent c w r status) clock
+      (λ o f t e. record {
+        good = io-good c (caches-good refs doms o) w r (form-proper walk texts f) status t e;
+        elsewhere = io-elsewhere c w r status t e;
+      })
+
+-- the laws of the three calls
+pub calls-keep : CallsKeep
+calls-keep = record {
+  start = start-keeps;
+  answer-referral = λ refs doms texts walk. referral-keeps refs doms texts walk;
+  answer-io = λ refs doms texts walk. io-keeps refs doms texts walk;
+}

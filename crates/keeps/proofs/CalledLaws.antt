@@ -21,7 +21,7 @@ use Rattle.lookup.specs.Lookup.{withKey, expired, targetPath, targetHintTo}
 use Rattle.lookup.specs.declared.Found.the-variants.{Nothing}
 use Rattle.lookup.proofs.EntryLaws.{target-hint-good}
 use Rattle.storing.specs.Stored.{prefixed}
-use Rattle.steps.specs.Steps.{Caches, Core, Question, stops, asks, replaces, ends, longest, domainNamed, step2, step2With, step3, step4, step5, step5With, step5Domain, step6, step6Host, step7, step8, step9, step9With, step10, step11, dcRequest, linkRequest, afterStore}
+use Rattle.steps.specs.Steps.{Caches, Core, Question, Called, stops, asks, replaces, ends, longest, domainNamed, step2, step2With, step3, step4, step5, step5With, step5Domain, step6, step6Host, step7, step8, step9, step9With, step10, step11, dcRequest, linkRequest, afterStore}
 use Rattle.steps.specs.Rested.{askingOf}
 use Rattle.steps.specs.declared.Kind.{Kind}
 use Rattle.steps.specs.declared.Kind.the-variants.{Dc, Root, Link, Sysvol, Io}
@@ -29,15 +29,28 @@ use Rattle.steps.specs.declared.End.the-variants.{Done, NotDfs, NoDc, Failed, M
 use Rattle.moves.proofs.MoveLaws.{matches-same}
 use Rattle.moves.proofs.MoveLaws as moved
 use Rattle.walks.specs.Walks.{namesDomain, namesPrefix, noParty, oneParty, askedInForm, hasTried, endTried, goodTried, endStatus}
-use Rattle.keeps.specs.Keeps.{Asked, Well}
 use Rattle.keeps.proofs.PrefixLaws.{prefix-named, first-matches}
 use Rattle.keeps.proofs.CacheLaws.{Longest, longest-or, Equal, prefixed-or}
 
--- a choice
-pub chosen : {A : Type 0} (P : A → Type 0) (b : Bool) (x y : A) → P x → P y → P (choose b x y)
+-- a question that the steps call for: it is in form, and so is its path tried where that is not too long
+pub record Asked (path : List ℕ) (q : Question) : Type 0 where
+  pub form : askedInForm path (askingOf q) (q .kind) ≡ true
+  pub tried : length (q .tried) ≤ 256 → goodTried (hasTried (q .kind)) (q .tried) ≡ true
+
+-- what the steps call for, on a path, is in form: an end, a question, or a new path that is not too long
+unfoldable pub Well : List ℕ → Called → Type 0
+Well path (stops e status tried) = (goodTried (endTried e) tried && endStatus e status) ≡ true
+Well path (asks q) = Asked path q
+Well path (replaces p) = length p ≤ 256 → goodPrefix p ≡ true
+
+-- a choice, by its test, and whatever its test
+pub picked : {A : Type 0} (P : A → Type 0) (b : Bool) (x y : A) → (b ≡ true → P x) → (b ≡ false → P y) → P (choose b x y)
 unfolding choose
-chosen P true x y f g = f
-chosen P false x y f g = g
+picked P true x y f g = f refl
+picked P false x y f g = g refl
+
+pub chosen : {A : Type 0} (P : A → Type 0) (b : Bool) (x y : A) → P x → P y → P (choose b x y)
+chosen P b x y f g = picked P b x y (λ t. f) (λ t. g)
 
 or-right : (a : Bool) {b : Bool} → b ≡ true → (a || b) ≡ true
 or-right true h = refl

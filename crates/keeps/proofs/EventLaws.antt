@@ -1,18 +1,15 @@
 -- Events: a start and the answers to a proper rest rest properly, for every number of moves left.
 use mathlib.Core.Path.{_≡_, refl, sym, ap, subst}
-use mathlib.Core.Bool.{Bool, true, false, _&&_, true≢false}
+use mathlib.Core.Bool.{true, false, true≢false}
 use mathlib.Core.List.{List, []}
-use mathlib.Core.Logic.{_⊎_, inl, inr}
 use mathlib.Core.Option.{Option, none, some}
 use Prim.Native.Nat.{ℕ, _≤_}
 use native.Mathlib.Omega.{arith}
 use lib.ListN.{length}
-use lib.Dec.{leb, eqb}
-use borrow.Author.Tests.{le-leb, leb-true, eqb-false}
-use Rattle.laws.specs.Choice.{choose}
-use Rattle.laws.proofs.Choices.{choose-yes, choose-no, and-left, and-right, and-both}
-use Rattle.laws.proofs.Orders.{told}
-use Rattle.unc.specs.Paths.{componentCount, isNormalised, normalisedCount, goodPath, normalised, pathUnits, body}
+use lib.Dec.{eqb}
+use borrow.Author.Tests.{le-leb, eqb-false}
+use Rattle.laws.proofs.Choices.{choose-yes, and-both}
+use Rattle.unc.specs.Paths.{componentCount, normalisedCount, goodPath, normalised, body}
 use Rattle.unc.proofs.FormLaws.{count-normalised}
 use Rattle.unc.proofs.PieceLaws.{pieces-some}
 use Rattle.unc.proofs.WholeLaws.{normalised-is}
@@ -25,35 +22,13 @@ use Rattle.steps.specs.declared.End.the-variants.{NotDfs}
 use Rattle.walks.specs.Walks.{hasTried, goodTried, endTried, endStatus}
 use Rattle.answers.proofs.AnswerLaws.{goes-stops}
 use Rattle.resolve.specs.Calls.{referralEvent, ioEvent}
-use Rattle.keeps.specs.Keeps.{GoodCaches, Proper, GoodTurn}
-use Rattle.keeps.proofs.PrefixLaws.{good-made}
-use Rattle.keeps.proofs.CalledLaws.{well-step2}
-use Rattle.keeps.proofs.RestLaws.{proper-end, turned-proper}
+use Rattle.keeps.specs.Keeps.{GoodCaches, Proper}
+use Rattle.keeps.specs.Named.{referralNames, ioNames, domainNames, Elsewhere}
+use Rattle.keeps.proofs.PrefixLaws.{Normal, normal-told, good-made}
+use Rattle.keeps.proofs.CalledLaws.{picked, chosen, well-step2}
+use Rattle.keeps.proofs.RestLaws.{GoodTurn, proper-end, turned-proper}
 use Rattle.keeps.proofs.AnswerLaws.{answered-turn, tried-turn}
-
--- a choice, by its test
-pub picked : {A : Type 0} (P : A → Type 0) (b : Bool) (x y : A) → (b ≡ true → P x) → (b ≡ false → P y) → P (choose b x y)
-unfolding choose
-picked P true x y f g = f refl
-picked P false x y f g = g refl
-
--- a normalised path of at most 256 units, test by test
-record Counted (s : List ℕ) : Type 0 where
-  short : length s ≤ 256
-  normal : isNormalised s ≡ true
-  some-count : 1 ≤ componentCount s
-
-counted : (s : List ℕ) → 1 ≤ normalisedCount s → Counted s
-unfolding normalisedCount
-counted s h = go (told (leb (length s) pathUnits && isNormalised s))
-  where
-    go : ((leb (length s) pathUnits && isNormalised s) ≡ true) ⊎ ((leb (length s) pathUnits && isNormalised s) ≡ false) → Counted s
-    go (inl t) = record {
-      short = leb-true _ _ (and-left (leb (length s) pathUnits) _ t);
-      normal = and-right (leb (length s) pathUnits) _ t;
-      some-count = subst (λ (n : ℕ). 1 ≤ n) (choose-yes _ _ t) h;
-    }
-    go (inr t) = absurd (let z : 1 ≤ 0 = subst (λ (n : ℕ). 1 ≤ n) (choose-no _ _ t) h in omega arith)
+use Rattle.keeps.proofs.NamedLaws.{answered-elsewhere, tried-elsewhere}
 
 -- a good path, normalised, that is not too long
 pub path-counted : (path : List ℕ) → goodPath path ≡ true → length (normalised path) ≤ 256 → 1 ≤ normalisedCount (normalised path)
@@ -77,44 +52,68 @@ started-proper c cs w size h n clock = picked Fit (eqb (componentCount (w .path)
     more : eqb (componentCount (w .path)) 1 ≡ false → Fit (fromStep2 c w clock)
     more t =
         let k : componentCount (w .path) ≡ 1 → ⊥ = eqb-false (componentCount (w .path)) 1 t in
+        let n′ : Normal (w .path) = normal-told (w .path) h in
         let g : goodPrefix (w .path) ≡ true =
-        good-made (w .path) (record { short = counted (w .path) h .short; normal = counted (w .path) h .normal; two = omega (arith, counted (w .path) h .some-count) }) in
+        good-made (w .path) (record { short = n′ .short; normal = n′ .normal; two = omega (arith, n′ .count) }) in
         turned-proper n clock (fromStep2 c w clock) (record { caches = cs; path = g; size = size; called = well-step2 w g size c (cs .refs) clock })
 
--- the event of an answer
-module _ (c : Caches) (cs : GoodCaches c) (w : Core) where
-  If : Option Turn → Type 0
-  If o = (t : Turn) → o ≡ some t → GoodTurn t
+-- the event of an answer, if there is one
+module _ (P : Turn → Type 0) where
+  unfoldable pub If : Option Turn → Type 0
+  If o = (t : Turn) → o ≡ some t → P t
 
-  if-none : If none
+  pub if-none : If none
   unfolding If
   if-none t h = absurd (let z : _≡_ {A = ℕ} 0 1 = cc in omega arith)
 
-  if-some : (x : Turn) → GoodTurn x → If (some x)
+  pub if-some : (x : Turn) → P x → If (some x)
   unfolding If
-  if-some x g t h = subst GoodTurn (let z : x ≡ t = cc in z) g
+  if-some x g t h = subst P (let z : x ≡ t = cc in z) g
 
-  is-io : (k : Kind) → hasTried k ≡ true → k ≡ Io
-  unfolding hasTried
-  is-io Dc h = absurd (true≢false (sym h))
-  is-io Root h = absurd (true≢false (sym h))
-  is-io Link h = absurd (true≢false (sym h))
-  is-io Sysvol h = absurd (true≢false (sym h))
-  is-io Io h = refl
+is-io : (k : Kind) → hasTried k ≡ true → k ≡ Io
+unfolding hasTried
+is-io Dc h = absurd (true≢false (sym h))
+is-io Root h = absurd (true≢false (sym h))
+is-io Link h = absurd (true≢false (sym h))
+is-io Sysvol h = absurd (true≢false (sym h))
+is-io Io h = refl
 
+module _ (c : Caches) (w : Core) where
+  -- it changes no place but those that it names
+  pub referral-elsewhere : (r : Rest) (status : ℕ) (reply : List ℕ) (clock : ℕ) (t : Turn) → referralEvent c w r status reply clock ≡ some t
+      → Elsewhere (referralNames c w r reply clock) (domainNames c w r) c (t .caches)
+  unfolding referralEvent referralNames domainNames If
+  referral-elsewhere (ended e s tried) status reply clock = if-none _
+  referral-elsewhere (waits q) status reply clock = chosen (If Fit) (hasTried (q .kind)) _ _ (if-none Fit) (if-some Fit _ (answered-elsewhere c w q status reply clock))
+    where
+      Fit : Turn → Type 0
+      Fit t = Elsewhere (referralNames c w (waits q) reply clock) (domainNames c w (waits q)) c (t .caches)
+
+  pub io-elsewhere : (r : Rest) (status : ℕ) (t : Turn) → ioEvent c w r status ≡ some t → Elsewhere (ioNames c w r) (domainNames c w r) c (t .caches)
+  unfolding ioEvent ioNames domainNames If
+  io-elsewhere (ended e s tried) status = if-none _
+  io-elsewhere (waits q) status = chosen (If Fit) (hasTried (q .kind)) _ _ (if-some Fit _ (tried-elsewhere c w q status)) (if-none Fit)
+    where
+      Fit : Turn → Type 0
+      Fit t = Elsewhere (ioNames c w (waits q)) (domainNames c w (waits q)) c (t .caches)
+
+module _ (c : Caches) (cs : GoodCaches c) (w : Core) where
+  -- it is good
   pub referral-good : (r : Rest) → Proper w r → (status : ℕ) (reply : List ℕ) (clock : ℕ) (t : Turn) → referralEvent c w r status reply clock ≡ some t → GoodTurn t
   unfolding referralEvent If
-  referral-good (ended e s tried) p status reply clock = if-none
+  referral-good (ended e s tried) p status reply clock = if-none GoodTurn
   referral-good (waits q) p status reply clock =
-      picked If (hasTried (q .kind)) none (some (referralAnswered c w q status reply clock)) (λ h. if-none) (λ h. if-some _ (answered-turn c cs w q p h status reply clock))
+      picked (If GoodTurn) (hasTried (q .kind)) none (some (referralAnswered c w q status reply clock)) (λ h. if-none GoodTurn)
+      (λ h. if-some GoodTurn _ (answered-turn c cs w q p h status reply clock))
 
   pub io-good : (r : Rest) → Proper w r → (status : ℕ) (t : Turn) → ioEvent c w r status ≡ some t → GoodTurn t
   unfolding ioEvent If
-  io-good (ended e s tried) p status = if-none
+  io-good (ended e s tried) p status = if-none GoodTurn
   io-good (waits q) p status =
-      picked If (hasTried (q .kind)) (some (ioAnswered c w q status)) none (λ h. if-some _ (tried-turn c cs w q p (is-io (q .kind) h) status)) (λ h. if-none)
+      picked (If GoodTurn) (hasTried (q .kind)) (some (ioAnswered c w q status)) none (λ h. if-some GoodTurn _ (tried-turn c cs w q p (is-io (q .kind) h) status))
+      (λ h. if-none GoodTurn)
 
-  -- an answer
+  -- and where the steps rest is proper
   pub answered-proper : (r : Rest) → Proper w r → (status : ℕ) (reply : List ℕ) (clock : ℕ) (t : Turn) → referralEvent c w r status reply clock ≡ some t
       → (n : ℕ) → Proper (turned n clock t .core) (turned n clock t .rest)
   answered-proper r p status reply clock t h n = turned-proper n clock t (referral-good r p status reply clock t h)

@@ -5,6 +5,7 @@ pub mod CalledLaws
 pub mod RestLaws
 pub mod HintLaws
 pub mod AnswerLaws
+pub mod NamedLaws
 pub mod EventLaws
 pub mod BackLaws
 pub mod CallLaws

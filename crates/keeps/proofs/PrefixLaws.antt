@@ -43,23 +43,35 @@ same-count (a ∷ s) (b ∷ t) h = go (parts a) (parts b) (same-count s t (and-r
     go (inr e) (inl f) r = absurd (e (alone-backslash .only a (subst (λ (x : ℕ). sameUnit a x ≡ true) f same)))
     go (inr e) (inr f) r = count-other a s e ∙ (r ∙ sym (count-other b t f))
 
--- a good path, test by test
+-- a normalised path of at most 256 units, and a good one, test by test
+pub record Normal (s : List ℕ) : Type 0 where
+  pub short : length s ≤ 256
+  pub normal : isNormalised s ≡ true
+  pub count : normalisedCount s ≡ componentCount s
+
+pub normal-told : (s : List ℕ) → 1 ≤ normalisedCount s → Normal s
+unfolding normalisedCount
+normal-told s h = go (told (leb (length s) pathUnits && isNormalised s))
+  where
+    go : ((leb (length s) pathUnits && isNormalised s) ≡ true) ⊎ ((leb (length s) pathUnits && isNormalised s) ≡ false) → Normal s
+    go (inl t) = record {
+      short = leb-true _ _ (and-left (leb (length s) pathUnits) _ t);
+      normal = and-right (leb (length s) pathUnits) _ t;
+      count = choose-yes _ _ t;
+    }
+    go (inr t) = absurd (let z : 1 ≤ 0 = subst (λ (n : ℕ). 1 ≤ n) (choose-no _ _ t) h in omega arith)
+
 pub record GoodPath (s : List ℕ) : Type 0 where
   pub short : length s ≤ 256
   pub normal : isNormalised s ≡ true
   pub two : 2 ≤ componentCount s
 
 pub good-told : (s : List ℕ) → goodPrefix s ≡ true → GoodPath s
-unfolding goodPrefix normalisedCount
-good-told s h = go (told (leb (length s) pathUnits && isNormalised s))
-  where
-    go : ((leb (length s) pathUnits && isNormalised s) ≡ true) ⊎ ((leb (length s) pathUnits && isNormalised s) ≡ false) → GoodPath s
-    go (inl t) = record {
-      short = leb-true _ _ (and-left (leb (length s) pathUnits) _ t);
-      normal = and-right (leb (length s) pathUnits) _ t;
-      two = leb-true 2 _ (ap (leb 2) (sym (choose-yes _ _ t)) ∙ h);
-    }
-    go (inr t) = absurd (let z : 2 ≤ 0 = leb-true 2 0 (ap (leb 2) (sym (choose-no _ _ t)) ∙ h) in omega arith)
+unfolding goodPrefix
+good-told s h =
+    let c : 2 ≤ normalisedCount s = leb-true 2 (normalisedCount s) h in
+    let n : Normal s = normal-told s (omega arith) in
+    record { short = n .short; normal = n .normal; two = omega (arith, n .count) }
 
 pub good-made : (s : List ℕ) → GoodPath s → goodPrefix s ≡ true
 unfolding goodPrefix normalisedCount

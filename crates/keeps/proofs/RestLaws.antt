@@ -22,8 +22,15 @@ use Rattle.steps.specs.declared.End.{End}
 use Rattle.steps.specs.declared.End.the-variants.{LimitReached, TooLong}
 use Rattle.answers.proofs.RestLaws.{Kept, kept-goes}
 use Rattle.walks.specs.Walks.{endTried, goodTried, endStatus, nextInForm}
-use Rattle.keeps.specs.Keeps.{Proper, Asked, Well, GoodTurn}
-use Rattle.keeps.proofs.CalledLaws.{well-step2}
+use Rattle.keeps.specs.Keeps.{GoodCaches, Proper}
+use Rattle.keeps.proofs.CalledLaws.{Asked, Well, well-step2}
+
+-- an event leaves good caches, and calls for what is in form
+pub record GoodTurn (t : Turn) : Type 0 where
+  pub caches : GoodCaches (t .caches)
+  pub path : goodPrefix (t .core .path) ≡ true
+  pub size : goodSize (t .core .size) ≡ true
+  pub called : Well (t .core .path) (t .called)
 
 -- of a rest with so many moves left
 abbrev pub ProperAt : Resting → Type 0

@@ -1,2 +1,3 @@
 -- What the calls keep.
+pub mod Named
 pub mod Keeps

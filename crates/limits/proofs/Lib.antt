@@ -6,3 +6,4 @@ pub mod CallLaws
 pub mod NoLimit
 pub mod ListLaws
 pub mod Theorem
+pub mod Example

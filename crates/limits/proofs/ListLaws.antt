@@ -26,8 +26,8 @@ use Rattle.turns.specs.Turns.{coreIn}
 use Rattle.resolve.specs.Calls.{Answered, Left, refused, refusedAnswer, restIn, referralEvent, ioEvent, referralCall, ioCall}
 use Rattle.resolve.specs.declared.Verdict.{Verdict}
 use Rattle.resolve.specs.declared.Verdict.the-variants.{Taken, ShortBuffer}
-use Rattle.keeps.specs.Keeps.{Proper, GoodTurn, StartKeeps, AnswerKeeps}
-use Rattle.keeps.proofs.RestLaws.{turned-proper}
+use Rattle.keeps.specs.Keeps.{Proper, StartKeeps, AnswerKeeps}
+use Rattle.keeps.proofs.RestLaws.{GoodTurn, turned-proper}
 use Rattle.keeps.proofs.EventLaws.{path-counted, started-proper, referral-good, io-good}
 use Rattle.keeps.proofs.BackLaws.{caches-good, form-proper, core-back, rest-back, boot-back, proper-form, form-settings}
 use Rattle.keeps.proofs.CallLaws.{start-keeps, referral-keeps, io-keeps}
@@ -98,8 +98,8 @@ either-at l boot o a u f e =
 pub answer-identity : (o : Answered) (a : Answer) → (answered o a .left .verdict ≡ Taken → ⊥)
     → answered o a ≡ refusedAnswer (answered o a .left .verdict) (o .left .walk) (o .left .texts) (answerOut a) (o .refs) (o .doms)
 unfolding answered answerOut
-answer-identity o (referral status reply clock out) n = referral-keeps (o .refs) (o .doms) (o .left .texts) (o .left .walk) out status reply clock .identity n
-answer-identity o (io status clock out) n = io-keeps (o .refs) (o .doms) (o .left .texts) (o .left .walk) out status clock .identity n
+answer-identity o (referral status reply clock out) n = referral-keeps (o .refs) (o .doms) (o .left .texts) (o .left .walk) status reply clock out .identity n
+answer-identity o (io status clock out) n = io-keeps (o .refs) (o .doms) (o .left .texts) (o .left .walk) status clock out .identity n
 
 pub seen-kept : (o : Answered) (a : Answer) → (answered o a .left .verdict ≡ Taken → ⊥) → seen (answered o a) ≡ seen o
 unfolding seen

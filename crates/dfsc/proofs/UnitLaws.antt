@@ -3,6 +3,7 @@ use mathlib.Core.Path.{_≡_, refl, sym, ap, _∙_}
 use mathlib.Core.Bool.{Bool, true, false, _&&_}
 use mathlib.Core.List.{List, [], _++_, append-nil}
 use mathlib.Core.Logic.{_⊎_, inl, inr}
+use mathlib.Core.Option.{Option}
 use Prim.Native.Nat.{ℕ, _+_, _-_, _≤_, _<_, min}
 use native.Mathlib.Omega.{arith}
 use lib.ListN.{length, take, drop, length-append, length-take, length-drop, drop-of-length-le}
@@ -23,18 +24,22 @@ use Rattle.referral.specs.declared.Asked.the-variants.{Bytes, TooShort}
 use Rattle.domains.specs.Domains as dom
 use Rattle.walks.specs.Walks.{goodLimit, goodSettings, lent, inForm, pathIn, triedIn, bootIn}
 use Rattle.walks.specs.declared.Walk.{Walk}
+use Rattle.walks.proofs.FormLaws.{form-told}
+use Rattle.steps.specs.Steps.{Turn}
+use Rattle.steps.specs.Rested.{cachesOf}
+use Rattle.turns.specs.Turns.{coreIn}
 use Rattle.packing.specs.Packing.{packed, unpacked}
 use Rattle.packing.specs.declared.Unpacked.{Unpacked}
 use Rattle.packing.specs.declared.Unpacked.the-variants.{Held, NotOfForm}
 use Rattle.packing.proofs.PackLaws.{length-packed}
-use Rattle.resolve.specs.Calls.{Left, refused, closes, refusalNumber, startCall, startRest}
-use Rattle.resolve.specs.Closing.{left}
-use Rattle.resolve.specs.declared.Outcome.{Outcome}
-use Rattle.resolve.specs.declared.Verdict.{Verdict}
-use Rattle.resolve.specs.declared.Verdict.the-variants.{Taken, BadPath, LongPath, BadSettings, NotInOrder, OutOfForm, ShortBuffer}
+use Rattle.closing.specs.Closing.{Left, left, refused, closes}
+use Rattle.resolve.specs.Calls.{Answered, answered, refusedAnswer, refusalNumber, startCall, startRest, answerCall, answers, restIn, referralEvent, ioEvent, referralCall, ioCall}
+use Rattle.closing.specs.declared.Outcome.{Outcome}
+use Rattle.closing.specs.declared.Verdict.{Verdict}
+use Rattle.closing.specs.declared.Verdict.the-variants.{Taken, BadPath, LongPath, BadSettings, NotInOrder, OutOfForm, ShortBuffer}
 use Rattle.shown.specs.Shown.{Given, given, partyCall, nameCall, pathCall, questionCall, endCall}
 use Rattle.shown.specs.declared.Shown.{Shown}
-use Rattle.dfsc.specs.Units.{noWalk, heldIn, walkIn, UnitsLeft, unitsLeft, headAfter, closedUnits, inUnits, startUnits, shownResult, Seen, seen, asSeen, partySeen, nameSeen, questionSeen, pathSeen, endSeen}
+use Rattle.dfsc.specs.Units.{noWalk, heldIn, walkIn, UnitsLeft, unitsLeft, headAfter, closedUnits, inUnits, startUnits, answerLeft, answerInUnits, referralUnits, ioUnits, shownResult, Seen, seen, asSeen, partySeen, nameSeen, questionSeen, pathSeen, endSeen}
 
 -- the packed form and the texts, as parts of the units that are there
 module _ (units : List ℕ) {n : ℕ} (e : n ≡ min 32 (length units)) where
@@ -160,6 +165,77 @@ module _ (refs doms units path boot : List ℕ) (limit size clock : ℕ) (out : 
   unfolding startUnits
   start-closed a b =
       closed-left units e o t start-fits (h ∙ (λ j. startCall refs doms (head-rest units e j) (nw j) path boot limit size clock out)) a b
+
+-- an answer that is taken has its units
+answer-taken : (event : Option Turn) (clock : ℕ) (walk : Walk) (texts out refs doms : List ℕ) → answerCall event clock walk texts out refs doms .left .verdict ≡ Taken
+    → length texts ≡ 768
+unfolding answerCall choose
+answer-taken event clock walk texts out refs doms h =
+    form-told walk texts (go (inOrder referrals refs && inOrder domains doms) (inForm walk texts) h) .long
+  where
+    go : (a b : Bool)
+        → choose a (choose b (answers event clock walk texts out refs doms) (refusedAnswer OutOfForm walk texts out refs doms)) (refusedAnswer NotInOrder walk texts out refs doms) .left .verdict ≡ Taken
+        → b ≡ true
+    go true true e = refl
+    go true false e = absurd (let z : _≡_ {A = ℕ} 0 1 = cc in omega arith)
+    go false b e = absurd (let z : _≡_ {A = ℕ} 0 1 = cc in omega arith)
+
+-- a call of an answer, given the texts and the walk
+module _ (call : List ℕ → Walk → Answered) (taken : (texts : List ℕ) (w : Walk) → call texts w .left .verdict ≡ Taken → length texts ≡ 768)
+    (units : List ℕ) {n : ℕ} (e : n ≡ min 32 (length units)) {w : Walk} (a : w ≡ walkIn units)
+    (o : Outcome) (t : List ℕ) {out refs doms : List ℕ} (h : answered o t out refs doms ≡ call (take (length units - n) (drop n units)) w) where
+  answer-fits : refusalNumber (o .verdict) ≡ 0 → 32 ≤ length units
+  answer-fits z =
+      texts-long units n (taken (take (length units - n) (drop n units)) w (sym (ap (λ (l : Answered). l .left .verdict) h) ∙ number-taken (o .verdict) z)) e
+
+  answer-room : refusalNumber (o .verdict) ≡ 0 → 32 ≤ length (take n units ++ (t ++ drop (length units - n) (drop n units)))
+  answer-room z = head-fits units e t (answer-fits z)
+
+  whole : answered o t out refs doms ≡ call (drop 32 units) (walkIn units)
+  whole = h ∙ (λ j. call (head-rest units e j) (a j))
+
+  answer-closed : {u : List ℕ} {r : ℕ} → r ≡ refusalNumber (o .verdict)
+      → u ≡ closedUnits (refusalNumber (o .verdict)) (o .walk) (take n units ++ (t ++ drop (length units - n) (drop n units)))
+      → answerLeft r u out refs doms ≡ answerInUnits units (call (drop 32 units) (walkIn units))
+  unfolding answerInUnits
+  answer-closed k b = λ j. record {
+    left = closed-left units e o t answer-fits (ap (λ (l : Answered). l .left) whole) k b j;
+    refs = whole j .refs;
+    doms = whole j .doms;
+  }
+
+module _ (refs doms units : List ℕ) (status : ℕ) (reply : List ℕ) (clock : ℕ) (out : List ℕ) {n : ℕ} (e : n ≡ min 32 (length units)) {w : Walk} (a : w ≡ walkIn units)
+    (o : Outcome) (t : List ℕ) {out' refs' doms' : List ℕ}
+    (h : answered o t out' refs' doms' ≡ referralCall refs doms (take (length units - n) (drop n units)) w status reply clock out) where
+  asked-taken : (texts : List ℕ) (v : Walk) → referralCall refs doms texts v status reply clock out .left .verdict ≡ Taken → length texts ≡ 768
+  unfolding referralCall
+  asked-taken texts v k =
+      answer-taken (referralEvent (cachesOf refs doms) (coreIn v texts) (restIn v texts) status reply clock) clock v texts out refs doms k
+
+  pub referral-room : refusalNumber (o .verdict) ≡ 0 → 32 ≤ length (take n units ++ (t ++ drop (length units - n) (drop n units)))
+  referral-room = answer-room (λ texts v. referralCall refs doms texts v status reply clock out) asked-taken units e a o t h
+
+  pub referral-closed : {u : List ℕ} {r : ℕ} → r ≡ refusalNumber (o .verdict)
+      → u ≡ closedUnits (refusalNumber (o .verdict)) (o .walk) (take n units ++ (t ++ drop (length units - n) (drop n units)))
+      → answerLeft r u out' refs' doms' ≡ referralUnits refs doms units status reply clock out
+  unfolding referralUnits
+  referral-closed k b = answer-closed (λ texts v. referralCall refs doms texts v status reply clock out) asked-taken units e a o t h k b
+
+module _ (refs doms units : List ℕ) (status clock : ℕ) (out : List ℕ) {n : ℕ} (e : n ≡ min 32 (length units)) {w : Walk} (a : w ≡ walkIn units)
+    (o : Outcome) (t : List ℕ) {out' refs' doms' : List ℕ}
+    (h : answered o t out' refs' doms' ≡ ioCall refs doms (take (length units - n) (drop n units)) w status clock out) where
+  tried-taken : (texts : List ℕ) (v : Walk) → ioCall refs doms texts v status clock out .left .verdict ≡ Taken → length texts ≡ 768
+  unfolding ioCall
+  tried-taken texts v k = answer-taken (ioEvent (cachesOf refs doms) (coreIn v texts) (restIn v texts) status) clock v texts out refs doms k
+
+  pub io-room : refusalNumber (o .verdict) ≡ 0 → 32 ≤ length (take n units ++ (t ++ drop (length units - n) (drop n units)))
+  io-room = answer-room (λ texts v. ioCall refs doms texts v status clock out) tried-taken units e a o t h
+
+  pub io-closed : {u : List ℕ} {r : ℕ} → r ≡ refusalNumber (o .verdict)
+      → u ≡ closedUnits (refusalNumber (o .verdict)) (o .walk) (take n units ++ (t ++ drop (length units - n) (drop n units)))
+      → answerLeft r u out' refs' doms' ≡ ioUnits refs doms units status clock out
+  unfolding ioUnits
+  io-closed k b = answer-closed (λ texts v. ioCall refs doms texts v status clock out) tried-taken units e a o t h k b
 
 -- the end of a call: nothing is written where it is refused
 module _ (m : ℕ) (w : Walk) (units : List ℕ) {r : ℕ} (e : r ≡ m) where

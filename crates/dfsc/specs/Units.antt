@@ -15,7 +15,8 @@ use Rattle.walks.specs.declared.Walk.{Walk}
 use Rattle.packing.specs.Packing.{packed, unpacked}
 use Rattle.packing.specs.declared.Unpacked.{Unpacked}
 use Rattle.packing.specs.declared.Unpacked.the-variants.{Held, NotOfForm}
-use Rattle.resolve.specs.Calls.{Left, refusalNumber, startCall}
+use Rattle.closing.specs.Closing.{Left}
+use Rattle.resolve.specs.Calls.{refusalNumber, Answered, startCall, referralCall, ioCall}
 use Rattle.shown.specs.Shown.{Given, shownNumber, partyCall, nameCall, pathCall, questionCall, endCall}
 use Rattle.shown.specs.declared.Shown.{Shown}
 use Rattle.shown.specs.declared.Shown.the-variants.{Units, NotInOrder, OutOfForm, ShortBuffer, NoEntry}
@@ -60,6 +61,26 @@ inUnits units l =
 unfoldable pub startUnits : List ℕ → List ℕ → List ℕ → List ℕ → List ℕ → ℕ → ℕ → ℕ → List ℕ → UnitsLeft
 startUnits refs doms units path boot limit size clock out =
     inUnits units (startCall refs doms (textsIn units) noWalk path boot limit size clock out)
+
+-- an answer leaves both caches too
+pub record AnswerLeft : Type 0 where
+  pub left : UnitsLeft
+  pub refs : List ℕ
+  pub doms : List ℕ
+
+abbrev pub answerLeft : ℕ → List ℕ → List ℕ → List ℕ → List ℕ → AnswerLeft
+answerLeft number walk out refs doms = record { left = unitsLeft number walk out; refs = refs; doms = doms }
+
+unfoldable pub answerInUnits : List ℕ → Answered → AnswerLeft
+answerInUnits units a = record { left = inUnits units (a .left); refs = a .refs; doms = a .doms }
+
+-- `dfsc_answer_referral` and `dfsc_answer_io`
+unfoldable pub referralUnits : List ℕ → List ℕ → List ℕ → ℕ → List ℕ → ℕ → List ℕ → AnswerLeft
+referralUnits refs doms units status reply clock out =
+    answerInUnits units (referralCall refs doms (textsIn units) (walkIn units) status reply clock out)
+
+unfoldable pub ioUnits : List ℕ → List ℕ → List ℕ → ℕ → ℕ → List ℕ → AnswerLeft
+ioUnits refs doms units status clock out = answerInUnits units (ioCall refs doms (textsIn units) (walkIn units) status clock out)
 
 -- how many units are shown, or 65,536 times the number that says why there are none
 unfoldable pub shownResult : Shown → ℕ

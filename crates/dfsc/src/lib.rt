@@ -7,14 +7,14 @@ ghost use lib.ListN.{length};
 ghost use Rattle.resolve.specs.Calls.{refusalNumber};
 ghost use Rattle.referral.specs.Found.{bufferWith};
 ghost use Rattle.domains.specs.Domains.{domainsNumber, domainsAfter, requestNumber};
-ghost use Rattle.dfsc.specs.Units.{noWalk, walkIn, unitsLeft, closedUnits, startUnits, shownResult, seen, domainsRefusal};
+ghost use Rattle.dfsc.specs.Units.{noWalk, walkIn, unitsLeft, closedUnits, startUnits, answerLeft, referralUnits, ioUnits, shownResult, seen, domainsRefusal};
 ghost use Rattle.dfsc.specs.Units.{partySeen, nameSeen, questionSeen, pathSeen, endSeen};
+use closing::Outcome;
+use closing::Verdict;
 use domains::DomainsRead;
 use packing::HEAD;
 use packing::Unpacked;
 use referral::Asked;
-use resolve::Outcome;
-use resolve::Verdict;
 use shown::Shown;
 use steps::End;
 use steps::Next;
@@ -115,6 +115,43 @@ pub extern "C" fn dfsc_start(
         clock,
         out,
     );
+    close(o, walk)
+}
+
+// The answer to a referral request. 0, or a refusal: 4, 5 or 10.
+#[no_mangle]
+pub extern "C" fn dfsc_answer_referral(
+    refs: &mut [u16],
+    doms: &mut [u16],
+    walk: &mut [u16],
+    status: u32,
+    reply: &[u8],
+    clock: u32,
+    out: &mut [u8],
+) -> u32
+    ensures { λ r. ⌜ answerLeft r (now (walk .exit)) (now (out .exit)) (now (refs .exit)) (now (doms .exit)) ≡ referralUnits (now (refs .entry)) (now (doms .entry)) (now (walk .entry)) status (now (reply .entry)) clock (now (out .entry)) ⌝ }
+{
+    let n = head_units(walk);
+    let w = held(walk);
+    let o = resolve::answer_referral(refs, doms, w, &mut walk[n..], status, reply, clock, out);
+    close(o, walk)
+}
+
+// The answer to an I/O try. 0, or a refusal: 4, 5 or 10.
+#[no_mangle]
+pub extern "C" fn dfsc_answer_io(
+    refs: &mut [u16],
+    doms: &[u16],
+    walk: &mut [u16],
+    status: u32,
+    clock: u32,
+    out: &mut [u8],
+) -> u32
+    ensures { λ r. ⌜ answerLeft r (now (walk .exit)) (now (out .exit)) (now (refs .exit)) (now (doms .entry)) ≡ ioUnits (now (refs .entry)) (now (doms .entry)) (now (walk .entry)) status clock (now (out .entry)) ⌝ }
+{
+    let n = head_units(walk);
+    let w = held(walk);
+    let o = resolve::answer_io(refs, doms, w, &mut walk[n..], status, clock, out);
     close(o, walk)
 }
 

@@ -1,2 +1,3 @@
 -- Laws.
-pub mod CloseLaws
+pub mod StartLaws
+pub mod AnswerLaws

@@ -13,11 +13,14 @@ use Rattle.steps.specs.Rested.{cachesOf, coreOf}
 use Rattle.steps.specs.declared.Next.{Next}
 use Rattle.steps.specs.declared.Next.the-variants.{Asks, Ends}
 use Rattle.rounds.specs.Rounds.{questionOf}
-use Rattle.questions.specs.Questions.{restFits, outAfter}
-use Rattle.walks.specs.Walks.{goodSettings, hasTried, inForm, pathIn, triedIn, bootIn, walkOf, textsAfter}
+use Rattle.questions.specs.Questions.{restFits}
+use Rattle.walks.specs.Walks.{goodSettings, hasTried, inForm, triedIn, bootIn}
 use Rattle.walks.specs.declared.Walk.{Walk}
-use Rattle.resolve.specs.declared.Verdict.{Verdict}
-use Rattle.resolve.specs.declared.Verdict.the-variants.{Taken, BadPath, LongPath, BadSettings, NotInOrder, OutOfForm, ShortBuffer}
+use Rattle.turns.specs.Turns.{coreIn}
+use Rattle.closing.specs.Closing.{Left, left, refused, closes}
+use Rattle.closing.specs.declared.Outcome.{Outcome}
+use Rattle.closing.specs.declared.Verdict.{Verdict}
+use Rattle.closing.specs.declared.Verdict.the-variants.{Taken, BadPath, LongPath, BadSettings, NotInOrder, OutOfForm, ShortBuffer}
 
 -- the numbers of refusals: "1 bad path, 2 path good but over 256 units, 3 limit, size or bootstrap DC, 4 either cache not in order, 5 walk
 -- ended, out of form, or waiting for another kind of answer, 10 output buffer shorter than the request"; 0 where the call is taken
@@ -29,24 +32,6 @@ refusalNumber BadSettings = 3
 refusalNumber NotInOrder = 4
 refusalNumber OutOfForm = 5
 refusalNumber ShortBuffer = 10
-
--- what a call leaves of the walk, its texts and the output buffer
-pub record Left : Type 0 where
-  pub verdict : Verdict
-  pub walk : Walk
-  pub texts : List ℕ
-  pub out : List ℕ
-
--- a refused call changes nothing
-abbrev pub refused : Verdict → Walk → List ℕ → List ℕ → Left
-refused v walk texts out = record { verdict = v; walk = walk; texts = texts; out = out }
-
--- a call whose steps come to rest: 10 exactly when the request of the question then put is longer than the buffer
-unfoldable pub closes : ℕ → List ℕ → Resting → Walk → List ℕ → List ℕ → Left
-closes limit boot x walk texts out =
-    choose (restFits (length out) x)
-    (record { verdict = Taken; walk = walkOf limit boot x; texts = textsAfter boot x; out = outAfter x out })
-    (refused ShortBuffer walk texts out)
 
 -- where the steps rest after a start
 unfoldable pub startRest : List ℕ → List ℕ → List ℕ → ℕ → ℕ → ℕ → Resting
@@ -74,13 +59,13 @@ pub record Answered : Type 0 where
   pub refs : List ℕ
   pub doms : List ℕ
 
+abbrev pub answered : Outcome → List ℕ → List ℕ → List ℕ → List ℕ → Answered
+answered o texts out refs doms = record { left = left o texts out; refs = refs; doms = doms }
+
 abbrev pub refusedAnswer : Verdict → Walk → List ℕ → List ℕ → List ℕ → List ℕ → Answered
 refusedAnswer v walk texts out refs doms = record { left = refused v walk texts out; refs = refs; doms = doms }
 
--- what the steps use of a walk that is held, and where it rests
-unfoldable pub coreIn : Walk → List ℕ → Core
-coreIn w texts = coreOf (pathIn w texts) (w .size) (w .hit)
-
+-- where a walk that is held rests
 unfoldable pub restAt : List ℕ → Next → Rest
 restAt tried (Asks q) = waits (questionOf q tried)
 restAt tried (Ends e status) = ended e status tried

@@ -1,3 +1,3 @@
 -- The calls of a host.
 pub mod Calls
-pub mod Closing
+pub mod Begun

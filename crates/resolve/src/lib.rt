@@ -1,38 +1,22 @@
 // The calls of a host: a start, and the answers to its questions.
 ghost use mathlib.Core.Path.{_≡_};
 ghost use mathlib.Core.Bool.{true, false, _&&_};
-ghost use Prim.Native.Nat.{_≤_};
 ghost use lib.ListN.{length, take};
-ghost use Rattle.unc.specs.Paths.{formWithin, pathUnits, componentCount, normalisedCount};
-ghost use Rattle.texts.specs.Texts.{textsOf, Standing};
+ghost use Rattle.unc.specs.Paths.{formWithin, pathUnits};
 ghost use Rattle.caches.specs.Memory.{referrals, domains, inOrder};
 ghost use Rattle.steps.specs.Steps.{started, turned};
 ghost use Rattle.steps.specs.Rested.{cachesOf, coreOf};
 ghost use Rattle.moves.specs.Moves.{joined, packed};
-ghost use Rattle.resolve.specs.Calls.{startCall};
-ghost use Rattle.resolve.specs.Closing.{left, walkWith, closedStart, pathRooms, startAt, Begun};
+ghost use Rattle.closing.specs.Closing.{left};
+ghost use Rattle.resolve.specs.Calls.{answered, startCall, ioCall, referralCall};
+ghost use Rattle.resolve.specs.Begun.{pathRooms, startAt, Begun};
+use closing::Outcome;
+use closing::Verdict;
 use steps::End;
+use steps::Next;
 use steps::Rested;
 use unc::Form;
 use walks::Walk;
-
-// Whether a call is taken, and if not why.
-pub enum Verdict {
-    Taken,
-    BadPath,
-    LongPath,
-    BadSettings,
-    NotInOrder,
-    OutOfForm,
-    ShortBuffer,
-}
-
-pub struct Outcome {
-    pub verdict: Verdict,
-    pub walk: Walk,
-}
-
-const ROOMS: usize = 512;
 
 const ROOM: usize = 256;
 
@@ -45,23 +29,6 @@ fn caches_in_order(refs: &[u16], doms: &[u16]) -> bool
         return false;
     }
     caches::domains_in_order(doms)
-}
-
-fn walk_with(limit: u32, size: u32, boot: usize, r: Rested) -> Walk
-    requires { ⌜ (limit ≤ 64) × ((r .left ≤ limit) × (boot ≤ 255)) ⌝ }
-    ensures { λ v. ⌜ v ≡ walkWith limit size boot r ⌝ }
-{
-    let next = r.next;
-    Walk {
-        limit,
-        size,
-        boot: boot as u16,
-        moves: limit as u16 - r.left,
-        path: r.path,
-        tried: r.tried,
-        hit: r.hit,
-        next,
-    }
 }
 
 // The normalised path into the path's room, and no path tried.
@@ -92,37 +59,6 @@ fn first_rest(
         return steps::end_at(End::NotDfs, 0, n, limit, false);
     }
     moves::lookup(refs, doms, rooms, n, limit, false, size, clock)
-}
-
-// The walk, its texts and the request of a start that rests so, if the request fits.
-fn close_start(
-    limit: u32,
-    size: u32,
-    boot: &[u16],
-    r: Rested,
-    rooms: &[u16],
-    walk: Walk,
-    texts: &mut [u16],
-    out: &mut [u8],
-) -> Outcome
-    requires { ⌜ (limit ≤ 64) × ((r .left ≤ limit) × ((length (now boot) ≤ 255) × ((length (now rooms) ≡ 512) × ((r .path ≤ 256) × (length (now texts) ≡ 768))))) ⌝ }
-    ensures { λ o. ⌜ left o (now (texts .exit)) (now (out .exit)) ≡ closedStart limit size (now (boot .entry)) r (now (rooms .entry)) walk (now (texts .entry)) (now (out .entry)) ⌝ }
-{
-    let n = r.path as usize;
-    let next = r.next;
-    if !questions::fits(next, &rooms[..n], out.len()) {
-        return Outcome {
-            verdict: Verdict::ShortBuffer,
-            walk,
-        };
-    }
-    questions::put_request(next, &rooms[..n], out);
-    rooms::copy_units(texts, 0, rooms);
-    rooms::put_text(texts, ROOMS, ROOM, boot);
-    Outcome {
-        verdict: Verdict::Taken,
-        walk: walk_with(limit, size, boot.len(), r),
-    }
 }
 
 // A start with a path of n units and k components in its room, both caches being in order.
@@ -156,7 +92,7 @@ fn start_at(
         };
     }
     let r = first_rest(refs, doms, rooms, n, k, limit as u16, size, clock);
-    close_start(limit, size, boot, r, rooms, walk, texts, out)
+    closing::close_start(limit, size, boot, r, rooms, walk, texts, out)
 }
 
 // A new walk. It is given a walk of any content, and gives it back when it is refused.
@@ -206,4 +142,87 @@ pub fn start(
             out,
         ),
     }
+}
+
+// The answer to an I/O try.
+pub fn answer_io(
+    refs: &mut [u16],
+    doms: &[u16],
+    walk: Walk,
+    texts: &mut [u16],
+    status: u32,
+    clock: u32,
+    out: &mut [u8],
+) -> Outcome
+    ensures { λ o. ⌜ answered o (now (texts .exit)) (now (out .exit)) (now (refs .exit)) (now (doms .entry)) ≡ ioCall (now (refs .entry)) (now (doms .entry)) (now (texts .entry)) walk status clock (now (out .entry)) ⌝ }
+{
+    if !caches_in_order(refs, doms) {
+        return Outcome {
+            verdict: Verdict::NotInOrder,
+            walk,
+        };
+    }
+    if !walks::in_form(walk, texts) {
+        return Outcome {
+            verdict: Verdict::OutOfForm,
+            walk,
+        };
+    }
+    let next = walk.next;
+    let Next::Asks(q) = next else {
+        return Outcome {
+            verdict: Verdict::OutOfForm,
+            walk,
+        };
+    };
+    let kind = q.kind;
+    if !walks::has_tried(kind) {
+        return Outcome {
+            verdict: Verdict::OutOfForm,
+            walk,
+        };
+    }
+    turns::io_turn(refs, walk, texts, q, status, out)
+}
+
+// The answer to a referral request.
+pub fn answer_referral(
+    refs: &mut [u16],
+    doms: &mut [u16],
+    walk: Walk,
+    texts: &mut [u16],
+    status: u32,
+    reply: &[u8],
+    clock: u32,
+    out: &mut [u8],
+) -> Outcome
+    ensures { λ o. ⌜ answered o (now (texts .exit)) (now (out .exit)) (now (refs .exit)) (now (doms .exit)) ≡ referralCall (now (refs .entry)) (now (doms .entry)) (now (texts .entry)) walk status (now (reply .entry)) clock (now (out .entry)) ⌝ }
+{
+    if !caches_in_order(refs, doms) {
+        return Outcome {
+            verdict: Verdict::NotInOrder,
+            walk,
+        };
+    }
+    if !walks::in_form(walk, texts) {
+        return Outcome {
+            verdict: Verdict::OutOfForm,
+            walk,
+        };
+    }
+    let next = walk.next;
+    let Next::Asks(q) = next else {
+        return Outcome {
+            verdict: Verdict::OutOfForm,
+            walk,
+        };
+    };
+    let kind = q.kind;
+    if walks::has_tried(kind) {
+        return Outcome {
+            verdict: Verdict::OutOfForm,
+            walk,
+        };
+    }
+    turns::referral_turn(refs, doms, walk, texts, q, status, reply, clock, out)
 }

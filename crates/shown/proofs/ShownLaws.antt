@@ -45,7 +45,8 @@ use Rattle.walks.specs.Walks.{inForm, nextInForm, pathIn, triedIn, bootIn}
 use Rattle.walks.specs.declared.Walk.{Walk}
 use Rattle.walks.proofs.FormLaws.{Formed, form-told, Waiting, waiting-told, Prefixed, link-named, io-named, dc-named, sysvol-named, root-named}
 use Rattle.packing.specs.Packing.{kindNumber}
-use Rattle.resolve.specs.Calls.{coreIn, restIn, restAt}
+use Rattle.turns.specs.Turns.{coreIn}
+use Rattle.resolve.specs.Calls.{restIn, restAt}
 use Rattle.shown.specs.Shown.{Given, given, shows, showsSome, dcOf, targetOf, rootParty, partyOf, partyText, Asked, questionShown, endPath, endShown}
 use Rattle.shown.specs.Shown.{partyAt, partyCall, nameAt, nameCall, pathAt, pathCall, questionAt, questionCall, endAt, endCall}
 use Rattle.shown.specs.declared.Shown.the-variants.{Units, NotInOrder, OutOfForm, ShortBuffer, NoEntry}

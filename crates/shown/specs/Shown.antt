@@ -24,7 +24,8 @@ use Rattle.steps.specs.declared.End.the-variants.{Done, NotDfs, NoDc, Failed, L
 use Rattle.walks.specs.Walks.{inForm, bootIn}
 use Rattle.walks.specs.declared.Walk.{Walk}
 use Rattle.packing.specs.Packing.{kindNumber}
-use Rattle.resolve.specs.Calls.{coreIn, restIn}
+use Rattle.turns.specs.Turns.{coreIn}
+use Rattle.resolve.specs.Calls.{restIn}
 use Rattle.shown.specs.declared.Shown.{Shown}
 use Rattle.shown.specs.declared.Shown.the-variants.{Units, NotInOrder, OutOfForm, ShortBuffer, NoEntry}
 

@@ -174,7 +174,8 @@ fn asked_in_form(path: &[u16], q: Asking) -> bool
     }
 }
 
-fn has_tried(kind: Kind) -> bool
+// Whether a question has a path tried: I/O alone.
+pub fn has_tried(kind: Kind) -> bool
     ensures { λ r. ⌜ r ≡ hasTried kind ⌝ }
 {
     match kind {

@@ -1,4 +1,4 @@
-use Rattle.resolve.proofs.CloseLaws.{order-no, order-yes}
+use Rattle.resolve.proofs.StartLaws.{order-no, order-yes}
 use borrow.Author.Tests.{not-true, not-false}
 use borrow.Author.Needs.{needs}
 use Rattle.resolve.proofs.caches_in_order.Statement.{statement}

@@ -1,4 +1,4 @@
-use Rattle.resolve.proofs.CloseLaws.{first-alone, first-ready, first-moved}
+use Rattle.resolve.proofs.StartLaws.{first-alone, first-ready, first-moved}
 use denote.Ref.{now}
 use borrow.Author.Needs.{needs}
 use Rattle.resolve.proofs.first_rest.Statement.{statement}

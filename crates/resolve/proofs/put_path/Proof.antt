@@ -1,4 +1,4 @@
-use Rattle.resolve.proofs.CloseLaws.{cleared-half, path-put, form-put}
+use Rattle.resolve.proofs.StartLaws.{cleared-half, path-put, form-put}
 use denote.Ref.{now}
 use borrow.Author.Needs.{needs}
 use Rattle.resolve.proofs.put_path.Statement.{statement}

@@ -1,4 +1,4 @@
-use Rattle.resolve.proofs.CloseLaws.{start-order, start-bad, start-long, start-good, put-taken, put-begun}
+use Rattle.resolve.proofs.StartLaws.{start-order, start-bad, start-long, start-good, put-taken, put-begun}
 use Rattle.laws.proofs.Choices.{and-left}
 use borrow.Author.Tests.{not-true, not-false}
 use mathlib.Core.Path.{refl, sym, _∙_}

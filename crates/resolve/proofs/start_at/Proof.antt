@@ -1,5 +1,5 @@
 use Rattle.caches.proofs.KindLaws.{name-short}
-use Rattle.resolve.proofs.CloseLaws.{at-settings, at-texts, at-taken, first-left, first-path, first-closed}
+use Rattle.resolve.proofs.StartLaws.{at-settings, at-texts, at-taken, first-left, first-path, first-closed}
 use Rattle.walks.proofs.FormLaws.{settings-told}
 use Rattle.moves.proofs.MoveLaws.{standing-long}
 use borrow.Author.Tests.{not-true, not-false}

@@ -1,8 +1,8 @@
 use mathlib.Core.Path.{refl}
-use Rattle.resolve.specs.Closing.{walkWith}
+use Rattle.closing.specs.Closing.{walkWith}
 use borrow.Author.Needs.{needs}
-use Rattle.resolve.proofs.walk_with.Statement.{statement}
-use Rattle.resolve.proofs.walk_with.Tie as tie
+use Rattle.closing.proofs.walk_with.Statement.{statement}
+use Rattle.closing.proofs.walk_with.Tie as tie
 
 cast-t6 : tie.Need-cast-t6
 cast-t6 c = search needs

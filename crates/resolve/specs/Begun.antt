@@ -1,53 +1,20 @@
--- Words of the functions that end a call, over the numbers and rooms where the steps rested.
-use Prim.Native.Nat.{ℕ, _-_, _≤_}
+-- Words of the functions that a start is made of.
+use Prim.Native.Nat.{ℕ, _≤_}
 use mathlib.Core.Path.{_≡_}
 use mathlib.Core.Bool.{true, false}
 use lib.Dec.{eqb}
 use mathlib.Core.List.{List, _++_}
 use lib.ListN.{length, take, replicate}
 use Rattle.laws.specs.Choice.{choose}
-use Rattle.laws.specs.Lists.{roomed}
 use Rattle.unc.specs.Paths.{isNormalised, componentCount, roomAfter}
 use Rattle.texts.specs.Texts.{Standing}
 use Rattle.caches.specs.Memory.{referrals, inOrder}
 use Rattle.steps.specs.Steps.{started, turned}
 use Rattle.steps.specs.Rested.{cachesOf, coreOf}
-use Rattle.steps.specs.declared.Rested.{Rested}
-use Rattle.questions.specs.Questions.{nameFits, withRequest, nextUnits, named}
 use Rattle.walks.specs.Walks.{goodSettings}
 use Rattle.walks.specs.declared.Walk.{Walk}
-use Rattle.resolve.specs.Calls.{Left, refused, closes}
-use Rattle.resolve.specs.declared.Outcome.{Outcome}
-use Rattle.resolve.specs.declared.Verdict.the-variants.{Taken, BadSettings, OutOfForm, ShortBuffer}
-
--- a call's answer and what it leaves, as one
-abbrev pub left : Outcome → List ℕ → List ℕ → Left
-left o texts out = record { verdict = o .verdict; walk = o .walk; texts = texts; out = out }
-
--- the walk of a rest
-unfoldable pub walkWith : ℕ → ℕ → ℕ → Rested → Walk
-walkWith limit size boot r = record {
-  limit = limit;
-  size = size;
-  boot = boot;
-  moves = limit - r .left;
-  path = r .path;
-  tried = r .tried;
-  hit = r .hit;
-  next = r .next;
-}
-
--- a start that rests so
-unfoldable pub closedStart : ℕ → ℕ → List ℕ → Rested → List ℕ → Walk → List ℕ → List ℕ → Left
-closedStart limit size boot r rooms walk texts out =
-    choose (nameFits (length out) (named (nextUnits (r .next) (take (r .path) rooms)) (take (r .path) rooms)))
-    (record {
-      verdict = Taken;
-      walk = walkWith limit size (length boot) r;
-      texts = rooms ++ roomed 256 boot;
-      out = withRequest (named (nextUnits (r .next) (take (r .path) rooms)) (take (r .path) rooms)) out;
-    })
-    (refused ShortBuffer walk texts out)
+use Rattle.closing.specs.Closing.{Left, refused, closes}
+use Rattle.closing.specs.declared.Verdict.the-variants.{BadSettings, OutOfForm}
 
 -- the rooms after a path was put: the path alone, or as they were but for the path tried
 unfoldable pub pathRooms : List ℕ → List ℕ → List ℕ

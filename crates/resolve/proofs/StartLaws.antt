@@ -32,14 +32,14 @@ use Rattle.steps.specs.declared.End.the-variants.{NotDfs}
 use Rattle.steps.specs.declared.Rested.{Rested}
 use Rattle.moves.specs.Moves.{Packed, joined, packed, stepsFrom, Ready}
 use Rattle.moves.proofs.MoveLaws.{standing-path, packed-end}
-use Rattle.questions.specs.Questions.{nameFits, withRequest, nextUnits, named}
-use Rattle.questions.proofs.NameLaws.{rest-fits, rest-out}
-use Rattle.answers.proofs.RestLaws.{Kept, kept-goes, rested-is, rooms-are, path-is, rest-left, rest-path}
+use Rattle.answers.proofs.RestLaws.{Kept, kept-goes, rest-left, rest-path}
 use Rattle.walks.specs.declared.Walk.{Walk}
-use Rattle.resolve.specs.Calls.{Left, refused, closes, startRest, startCall}
-use Rattle.walks.specs.Walks.{goodSettings, lent, walkOf, textsAfter}
-use Rattle.resolve.specs.Closing.{left, walkWith, closedStart, pathRooms, startAt, Begun}
-use Rattle.resolve.specs.declared.Verdict.the-variants.{Taken, BadPath, LongPath, BadSettings, NotInOrder, OutOfForm, ShortBuffer}
+use Rattle.walks.specs.Walks.{goodSettings}
+use Rattle.closing.specs.Closing.{Left, refused, closes, closedRest}
+use Rattle.closing.specs.declared.Verdict.the-variants.{BadPath, LongPath, BadSettings, NotInOrder, OutOfForm}
+use Rattle.closing.proofs.RestLaws.{closed-rest}
+use Rattle.resolve.specs.Calls.{startRest, startCall}
+use Rattle.resolve.specs.Begun.{pathRooms, startAt, Begun}
 
 -- a normalised path of two components or more is good
 good-counted : (s : List ℕ) → length s ≤ 256 → isNormalised s ≡ true → 2 ≤ componentCount s → goodPrefix s ≡ true
@@ -117,29 +117,6 @@ module _ (refs doms rooms : List ℕ) (n k limit size clock : ℕ) (b : Begun re
         e
         ∙ ap (λ (t : Turn). packed (turned limit clock t))
         (sym (choose-no _ (fromStep2 (cachesOf refs doms) (coreOf (take n rooms) size false) clock) (ne-eqb _ 1 (λ z. h (b .count ∙ z)))))
-
--- the texts of a start
-pub texts-put : (texts rooms boot : List ℕ) {m o : List ℕ} → length texts ≡ 768 → length rooms ≡ 512 → length boot ≤ 256 → m ≡ pasted texts 0 rooms
-    → o ≡ pasted m 512 (roomed 256 boot) → o ≡ rooms ++ roomed 256 boot
-texts-put texts rooms boot {m} {o} l k b e h =
-    let z : length (roomed 256 boot) ≡ 256 = length-roomed 256 boot b in
-    let y : 512 ≡ 0 + length rooms = omega arith in
-    let s : length (rooms ++ roomed 256 boot) ≡ length texts = length-append rooms (roomed 256 boot) ∙ omega arith in
-    h
-    ∙ ((λ j. pasted (e j) (y j) (roomed 256 boot))
-    ∙ (pasted-join texts 0 rooms (roomed 256 boot) (omega arith) ∙ pasted-whole texts (rooms ++ roomed 256 boot) s))
-
-module _ (limit size : ℕ) (boot : List ℕ) (r : Rested) (rooms : List ℕ) (walk : Walk) (texts out : List ℕ) {b : Bool}
-    (f : b ≡ nameFits (length out) (named (nextUnits (r .next) (take (r .path) rooms)) (take (r .path) rooms))) where
-  pub start-short : b ≡ false → refused ShortBuffer walk texts out ≡ closedStart limit size boot r rooms walk texts out
-  unfolding closedStart
-  start-short h = sym (choose-no _ _ (sym f ∙ h))
-
-  pub start-closed : b ≡ true → {w : Walk} {t o : List ℕ} → w ≡ walkWith limit size (length boot) r → t ≡ rooms ++ roomed 256 boot
-      → o ≡ withRequest (named (nextUnits (r .next) (take (r .path) rooms)) (take (r .path) rooms)) out
-      → record { verdict = Taken; walk = w; texts = t; out = o } ≡ closedStart limit size boot r rooms walk texts out
-  unfolding closedStart
-  start-closed h a e g = (λ j. record { verdict = Taken; walk = a j; texts = e j; out = g j }) ∙ sym (choose-yes _ _ (sym f ∙ h))
 
 -- a normalised path has a component
 normalised-some : (path : List ℕ) → 1 ≤ componentCount (normalised path)
@@ -290,22 +267,6 @@ kept-started n c clock w h = go (told (eqb (componentCount (w .path)) 1))
         subst (λ (x : Turn). Kept n w (turned n clock x)) (sym (choose-no (record { caches = c; core = w; called = ends NotDfs 0 }) (fromStep2 c w clock) t))
         (record { size-kept = k .size-kept; left-kept = k .left-kept; path-kept = k .path-kept })
 
--- a rest that a call closes
-module _ (x : Resting) (r : Rested) (rooms : List ℕ) (e : joined r rooms ≡ packed x) where
-  pub closed-start : (limit size : ℕ) (boot : List ℕ) (walk : Walk) (texts out : List ℕ) → x .core .size ≡ size
-      → closedStart limit size boot r rooms walk texts out ≡ closes limit boot x walk texts out
-  unfolding closedStart closes walkWith walkOf textsAfter lent restedOf
-  closed-start limit size boot walk texts out s =
-      λ j.
-      choose (((λ k. nameFits (length out) (named (nextUnits (rested-is x r rooms e k .next) (path-is x r rooms e k)) (path-is x r rooms e k))) ∙ rest-fits x (length out) refl) j)
-      (record {
-        verdict = Taken;
-        walk = walkWith limit (sym s j) (length boot) (rested-is x r rooms e j);
-        texts = rooms-are x r rooms e j ++ roomed 256 boot;
-        out = ((λ k. withRequest (named (nextUnits (rested-is x r rooms e k .next) (path-is x r rooms e k)) (path-is x r rooms e k)) out) ∙ rest-out x out refl) j;
-      })
-      (refused ShortBuffer walk texts out)
-
 -- a start that rests: its numbers fit, and it is closed
 module _ (refs doms rooms : List ℕ) (n k limit size clock : ℕ) (b : Begun refs rooms n k) (r : Rested) (o : List ℕ)
     (e : joined r o ≡ packed (turned limit clock (started (cachesOf refs doms) (coreOf (take n rooms) size false) clock))) where
@@ -318,6 +279,6 @@ module _ (refs doms rooms : List ℕ) (n k limit size clock : ℕ) (b : Begun re
   pub first-path : r .path ≤ 256
   first-path = rest-path _ r o e limit (coreOf (take n rooms) size false) all-kept
 
-  pub first-closed : (boot : List ℕ) (walk : Walk) (texts out : List ℕ) {x : Left} → x ≡ closedStart limit size boot r o walk texts out
+  pub first-closed : (boot : List ℕ) (walk : Walk) (texts out : List ℕ) {x : Left} → x ≡ closedRest limit size boot r o walk texts out
       → x ≡ closes limit boot (turned limit clock (started (cachesOf refs doms) (coreOf (take n rooms) size false) clock)) walk texts out
-  first-closed boot walk texts out h = h ∙ closed-start _ r o e limit size boot walk texts out (all-kept .size-kept)
+  first-closed boot walk texts out h = h ∙ closed-rest _ r o e limit size boot walk texts out (all-kept .size-kept)

@@ -1,0 +1,3 @@
+-- Laws.
+pub mod SaidLaws
+pub mod EventLaws

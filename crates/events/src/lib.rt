@@ -1,0 +1,307 @@
+// The answer to a referral request: the entry in use is looked up, then the status is tested, then the reply is read and stored.
+ghost use mathlib.Core.Path.{_≡_};
+ghost use mathlib.Core.List.{[]};
+ghost use Prim.Native.Nat.{_≤_};
+ghost use lib.ListN.{take};
+ghost use Rattle.referral.specs.Replies.{says, readReferral};
+ghost use Rattle.referral.specs.Found.{referralShown};
+ghost use Rattle.namelists.specs.NameLists.{readDcs};
+ghost use Rattle.steps.specs.declared.Kind.the-variants.{Dc};
+ghost use Rattle.steps.specs.Steps.{emptyEnd, pathNotFound, coversNothing, dcAnswer, referralAnswer, referralSucceeds, referralAnswered, turned};
+ghost use Rattle.steps.specs.Rested.{cachesOf, coreOf, endedAt};
+ghost use Rattle.moves.specs.Moves.{joined, packed};
+ghost use Rattle.rounds.specs.Rounds.{questionOf};
+ghost use Rattle.answers.specs.Answers.{domainsLeft};
+ghost use Rattle.hints.specs.Hints.{referralsLeft, Answering};
+ghost use Rattle.events.specs.Events.{Awaiting, Using, Asked};
+use lookup::Found;
+use referral::Answer;
+use referral::ReferralFound;
+use steps::Asking;
+use steps::End;
+use steps::Kind;
+use steps::Rested;
+
+const PATH_NOT_FOUND: u32 = 0xC000003A;
+
+const PATH_NOT_COVERED: u32 = 0xC0000257;
+
+// Severity is the top two bits of a status; 2 and 3 fail a referral.
+const SEVERITY: u32 = 0x40000000;
+
+const WARNING: u32 = 2;
+
+// The end of a reply without an entry.
+fn empty_end(kind: Kind) -> End
+    ensures { λ e. ⌜ e ≡ emptyEnd kind ⌝ }
+{
+    match kind {
+        Kind::Dc => End::NoDc,
+        Kind::Root => End::Failed,
+        Kind::Link => End::Failed,
+        Kind::Sysvol => End::NoDc,
+        Kind::Io => End::Failed,
+    }
+}
+
+// Step 8.1.2. Of the texts of the reply only the length of the prefix is looked at.
+fn covers_nothing(q: Asking, found: ReferralFound) -> bool
+    ensures { λ b. ⌜ b ≡ coversNothing (questionOf q []) (referralShown [] found) ⌝ }
+{
+    if !q.covered {
+        return false;
+    }
+    if found.root {
+        return true;
+    }
+    found.prefix.units <= q.entry as usize
+}
+
+// A reply without an entry.
+fn nothing_said(q: Asking, len: usize, left: u16, hit: bool) -> Rested
+    requires { ⌜ len ≤ 256 ⌝ }
+    ensures { λ r. ⌜ r ≡ endedAt (emptyEnd (q .kind)) pathNotFound len left hit ⌝ }
+{
+    let kind = q.kind;
+    let end = empty_end(kind);
+    steps::end_at(end, PATH_NOT_FOUND, len, left, hit)
+}
+
+// A reply that says something.
+fn said(
+    refs: &mut [u16],
+    doms: &mut [u16],
+    rooms: &mut [u16],
+    len: usize,
+    left: u16,
+    hit: bool,
+    size: u32,
+    q: Asking,
+    found: ReferralFound,
+    reply: &[u8],
+    clock: u32,
+    room: usize,
+) -> Rested
+    requires { ⌜ Answering (now refs) (now doms) (now rooms) len q (now reply) found ⌝ }
+    ensures rest { λ r. ⌜ joined r (now (rooms .exit)) ≡ packed (turned left clock (referralAnswer (cachesOf (now (refs .entry)) (now (doms .entry))) (coreOf (take len (now (rooms .entry))) size hit) (questionOf q []) clock (says (referralShown (now (reply .entry)) found)))) ⌝ }
+    ensures refs { λ r. ⌜ now (refs .exit) ≡ referralsLeft room left clock (referralAnswer (cachesOf (now (refs .entry)) (now (doms .entry))) (coreOf (take len (now (rooms .entry))) size hit) (questionOf q []) clock (says (referralShown (now (reply .entry)) found))) (now (refs .entry)) ⌝ }
+    ensures doms { λ r. ⌜ now (doms .exit) ≡ domainsLeft room left clock (referralAnswer (cachesOf (now (refs .entry)) (now (doms .entry))) (coreOf (take len (now (rooms .entry))) size hit) (questionOf q []) clock (says (referralShown (now (reply .entry)) found))) (now (doms .entry)) ⌝ }
+{
+    if covers_nothing(q, found) {
+        return steps::end_at(End::Failed, PATH_NOT_COVERED, len, left, hit);
+    }
+    hints::store_answer(
+        refs,
+        doms,
+        rooms,
+        len,
+        left,
+        size,
+        clock,
+        q,
+        reply,
+        found,
+        room,
+    )
+}
+
+// A root, link or SYSVOL reply; the name asked is the first `name` units of the path.
+fn referral_reply(
+    refs: &mut [u16],
+    doms: &mut [u16],
+    rooms: &mut [u16],
+    len: usize,
+    left: u16,
+    hit: bool,
+    size: u32,
+    q: Asking,
+    name: usize,
+    reply: &[u8],
+    clock: u32,
+    room: usize,
+) -> Rested
+    requires { ⌜ Asked (now refs) (now doms) (now rooms) len q name ⌝ }
+    ensures rest { λ r. ⌜ joined r (now (rooms .exit)) ≡ packed (turned left clock (referralAnswer (cachesOf (now (refs .entry)) (now (doms .entry))) (coreOf (take len (now (rooms .entry))) size hit) (questionOf q []) clock (readReferral (q .size) (take name (take len (now (rooms .entry)))) (now (reply .entry))))) ⌝ }
+    ensures refs { λ r. ⌜ now (refs .exit) ≡ referralsLeft room left clock (referralAnswer (cachesOf (now (refs .entry)) (now (doms .entry))) (coreOf (take len (now (rooms .entry))) size hit) (questionOf q []) clock (readReferral (q .size) (take name (take len (now (rooms .entry)))) (now (reply .entry)))) (now (refs .entry)) ⌝ }
+    ensures doms { λ r. ⌜ now (doms .exit) ≡ domainsLeft room left clock (referralAnswer (cachesOf (now (refs .entry)) (now (doms .entry))) (coreOf (take len (now (rooms .entry))) size hit) (questionOf q []) clock (readReferral (q .size) (take name (take len (now (rooms .entry)))) (now (reply .entry)))) (now (doms .entry)) ⌝ }
+{
+    let found = referral::read_referral(reply, q.size, &rooms[..name]);
+    let answer = found.answer;
+    match answer {
+        Answer::Malformed => steps::end_at(End::Malformed, 0, len, left, hit),
+        Answer::Nothing => nothing_said(q, len, left, hit),
+        Answer::Says => said(
+            refs,
+            doms,
+            rooms,
+            len,
+            left,
+            hit,
+            size,
+            q,
+            found,
+            reply,
+            clock,
+            room,
+        ),
+    }
+}
+
+// A DC reply, into the domain of the first component.
+fn dc_reply(
+    refs: &[u16],
+    doms: &mut [u16],
+    rooms: &mut [u16],
+    len: usize,
+    left: u16,
+    hit: bool,
+    size: u32,
+    q: Asking,
+    reply: &[u8],
+    clock: u32,
+    room: usize,
+) -> Rested
+    requires { ⌜ Using (now refs) (now doms) (now rooms) len q × (q .kind ≡ Dc) ⌝ }
+    ensures rest { λ r. ⌜ joined r (now (rooms .exit)) ≡ packed (turned left clock (dcAnswer (cachesOf (now (refs .entry)) (now (doms .entry))) (coreOf (take len (now (rooms .entry))) size hit) (readDcs (q .size) (now (reply .entry))))) ⌝ }
+    ensures doms { λ r. ⌜ now (doms .exit) ≡ domainsLeft room left clock (dcAnswer (cachesOf (now (refs .entry)) (now (doms .entry))) (coreOf (take len (now (rooms .entry))) size hit) (readDcs (q .size) (now (reply .entry)))) (now (doms .entry)) ⌝ }
+{
+    let Found::At(i) = lookup::find_domain(doms, steps::host(&rooms[..len])) else {
+        return steps::end_at(End::Gone, 0, len, left, hit);
+    };
+    answers::dc_answer(
+        refs,
+        doms,
+        rooms,
+        len,
+        left,
+        hit,
+        size,
+        clock,
+        i,
+        q.size,
+        reply,
+        room,
+    )
+}
+
+// A referral that succeeded.
+fn succeeded(
+    refs: &mut [u16],
+    doms: &mut [u16],
+    rooms: &mut [u16],
+    len: usize,
+    left: u16,
+    hit: bool,
+    size: u32,
+    q: Asking,
+    reply: &[u8],
+    clock: u32,
+    room: usize,
+) -> Rested
+    requires { ⌜ Using (now refs) (now doms) (now rooms) len q ⌝ }
+    ensures rest { λ r. ⌜ joined r (now (rooms .exit)) ≡ packed (turned left clock (referralSucceeds (cachesOf (now (refs .entry)) (now (doms .entry))) (coreOf (take len (now (rooms .entry))) size hit) (questionOf q []) (now (reply .entry)) clock)) ⌝ }
+    ensures refs { λ r. ⌜ now (refs .exit) ≡ referralsLeft room left clock (referralSucceeds (cachesOf (now (refs .entry)) (now (doms .entry))) (coreOf (take len (now (rooms .entry))) size hit) (questionOf q []) (now (reply .entry)) clock) (now (refs .entry)) ⌝ }
+    ensures doms { λ r. ⌜ now (doms .exit) ≡ domainsLeft room left clock (referralSucceeds (cachesOf (now (refs .entry)) (now (doms .entry))) (coreOf (take len (now (rooms .entry))) size hit) (questionOf q []) (now (reply .entry)) clock) (now (doms .entry)) ⌝ }
+{
+    let kind = q.kind;
+    let two = unc::first_end(&rooms[..len], 2);
+    match kind {
+        Kind::Dc => dc_reply(
+            refs,
+            doms,
+            rooms,
+            len,
+            left,
+            hit,
+            size,
+            q,
+            reply,
+            clock,
+            room,
+        ),
+        Kind::Root => referral_reply(
+            refs,
+            doms,
+            rooms,
+            len,
+            left,
+            hit,
+            size,
+            q,
+            two,
+            reply,
+            clock,
+            room,
+        ),
+        Kind::Link => referral_reply(
+            refs,
+            doms,
+            rooms,
+            len,
+            left,
+            hit,
+            size,
+            q,
+            len,
+            reply,
+            clock,
+            room,
+        ),
+        Kind::Sysvol => referral_reply(
+            refs,
+            doms,
+            rooms,
+            len,
+            left,
+            hit,
+            size,
+            q,
+            two,
+            reply,
+            clock,
+            room,
+        ),
+        Kind::Io => steps::end_at(End::Malformed, 0, len, left, hit),
+    }
+}
+
+// The answer to the referral request q. `rooms` are those of the path and of the path tried.
+pub fn referral_answer(
+    refs: &mut [u16],
+    doms: &mut [u16],
+    rooms: &mut [u16],
+    len: usize,
+    left: u16,
+    hit: bool,
+    size: u32,
+    q: Asking,
+    status: u32,
+    reply: &[u8],
+    clock: u32,
+    room: usize,
+) -> Rested
+    requires { ⌜ Awaiting (now refs) (now doms) (now rooms) len q ⌝ }
+    ensures rest { λ r. ⌜ joined r (now (rooms .exit)) ≡ packed (turned left clock (referralAnswered (cachesOf (now (refs .entry)) (now (doms .entry))) (coreOf (take len (now (rooms .entry))) size hit) (questionOf q []) status (now (reply .entry)) clock)) ⌝ }
+    ensures refs { λ r. ⌜ now (refs .exit) ≡ referralsLeft room left clock (referralAnswered (cachesOf (now (refs .entry)) (now (doms .entry))) (coreOf (take len (now (rooms .entry))) size hit) (questionOf q []) status (now (reply .entry)) clock) (now (refs .entry)) ⌝ }
+    ensures doms { λ r. ⌜ now (doms .exit) ≡ domainsLeft room left clock (referralAnswered (cachesOf (now (refs .entry)) (now (doms .entry))) (coreOf (take len (now (rooms .entry))) size hit) (questionOf q []) status (now (reply .entry)) clock) (now (doms .entry)) ⌝ }
+{
+    if !rounds::in_use(refs, doms, &rooms[..len], q) {
+        return steps::end_at(End::Gone, 0, len, left, hit);
+    }
+    if WARNING <= status / SEVERITY {
+        return rounds::referral_fails(refs, doms, &rooms[..len], left, hit, size, q, status);
+    }
+    succeeded(
+        refs,
+        doms,
+        rooms,
+        len,
+        left,
+        hit,
+        size,
+        q,
+        reply,
+        clock,
+        room,
+    )
+}

@@ -1,0 +1,2 @@
+-- The hint of the party that answered, and its reply stored.
+pub mod Hints

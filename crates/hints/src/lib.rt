@@ -1,0 +1,332 @@
+// A root, link or SYSVOL reply with the hint of the party that answered: the hint is set, then the reply is stored, and the steps go on.
+// Where the request that then waits does not fit the buffer both are taken back.
+ghost use mathlib.Core.Path.{_≡_};
+ghost use mathlib.Core.Bool.{true};
+ghost use mathlib.Core.List.{[]};
+ghost use Prim.Native.Nat.{_≤_, _<_};
+ghost use lib.ListN.{take};
+ghost use lib.Dec.{eqb};
+ghost use Rattle.laws.specs.Choice.{choose};
+ghost use Rattle.caches.specs.Memory.{domains, inOrder};
+ghost use Rattle.referral.specs.Found.{referralShown};
+ghost use Rattle.storing.specs.Stored.{isInterlink};
+ghost use Rattle.steps.specs.Steps.{storedTurn, targetHintSet, dcHintSet, hintSet, turned};
+ghost use Rattle.steps.specs.Rested.{cachesOf, coreOf};
+ghost use Rattle.moves.specs.Moves.{joined, packed};
+ghost use Rattle.rounds.specs.Rounds.{questionOf, targetsUnder, dcsNamed};
+ghost use Rattle.answers.specs.Answers.{domainsLeft};
+ghost use Rattle.hints.specs.Hints.{referralsLeft, isForSysvol, Storing, Answering};
+use lookup::Found;
+use referral::ReferralFound;
+use steps::Asking;
+use steps::Kind;
+use steps::Rested;
+
+// Whether the entry that a reply makes is an Interlink: by its header, whatever its texts and the domain cache hold.
+fn is_interlink(found: ReferralFound) -> bool
+    ensures { λ b. ⌜ b ≡ isInterlink (referralShown [] found) [] ⌝ }
+{
+    if !found.servers {
+        return false;
+    }
+    !found.storage
+}
+
+fn is_for_sysvol(kind: Kind) -> bool
+    ensures { λ b. ⌜ b ≡ isForSysvol kind ⌝ }
+{
+    match kind {
+        Kind::Dc => false,
+        Kind::Root => false,
+        Kind::Link => false,
+        Kind::Sysvol => true,
+        Kind::Io => false,
+    }
+}
+
+// The reply alone, as of a host: it has no hint.
+fn store(
+    refs: &mut [u16],
+    doms: &[u16],
+    rooms: &mut [u16],
+    len: usize,
+    left: u16,
+    size: u32,
+    clock: u32,
+    q: Asking,
+    reply: &[u8],
+    found: ReferralFound,
+    room: usize,
+) -> Rested
+    requires { ⌜ Storing (now refs) (now rooms) len (now reply) found ⌝ }
+    ensures rest { λ r. ⌜ joined r (now (rooms .exit)) ≡ packed (turned left clock (storedTurn (cachesOf (now (refs .entry)) (now (doms .entry))) (coreOf (take len (now (rooms .entry))) size true) (questionOf q []) (referralShown (now (reply .entry)) found) clock)) ⌝ }
+    ensures refs { λ r. ⌜ now (refs .exit) ≡ referralsLeft room left clock (storedTurn (cachesOf (now (refs .entry)) (now (doms .entry))) (coreOf (take len (now (rooms .entry))) size true) (questionOf q []) (referralShown (now (reply .entry)) found) clock) (now (refs .entry)) ⌝ }
+{
+    let interlink = is_interlink(found);
+    let kind = q.kind;
+    let sysvol = is_for_sysvol(kind);
+    stores::store_reply(
+        refs,
+        doms,
+        rooms,
+        len,
+        left,
+        size,
+        clock,
+        reply,
+        found,
+        interlink,
+        sysvol,
+        room,
+    )
+}
+
+// TargetHint of the entry in use first: a link request.
+fn store_link(
+    refs: &mut [u16],
+    doms: &[u16],
+    rooms: &mut [u16],
+    len: usize,
+    left: u16,
+    size: u32,
+    clock: u32,
+    q: Asking,
+    reply: &[u8],
+    found: ReferralFound,
+    room: usize,
+) -> Rested
+    requires { ⌜ Storing (now refs) (now rooms) len (now reply) found × ((q .entry ≤ len) × (q .party < targetsUnder (take (q .entry) (take len (now rooms))) (now refs))) ⌝ }
+    ensures rest { λ r. ⌜ joined r (now (rooms .exit)) ≡ packed (turned left clock (storedTurn (targetHintSet (cachesOf (now (refs .entry)) (now (doms .entry))) (coreOf (take len (now (rooms .entry))) size true) (questionOf q [])) (coreOf (take len (now (rooms .entry))) size true) (questionOf q []) (referralShown (now (reply .entry)) found) clock)) ⌝ }
+    ensures refs { λ r. ⌜ now (refs .exit) ≡ referralsLeft room left clock (storedTurn (targetHintSet (cachesOf (now (refs .entry)) (now (doms .entry))) (coreOf (take len (now (rooms .entry))) size true) (questionOf q [])) (coreOf (take len (now (rooms .entry))) size true) (questionOf q []) (referralShown (now (reply .entry)) found) clock) (now (refs .entry)) ⌝ }
+{
+    let entry = q.entry as usize;
+    let Found::At(i) = lookup::find_prefix(refs, &rooms[..entry]) else {
+        return store(
+            refs,
+            doms,
+            rooms,
+            len,
+            left,
+            size,
+            clock,
+            q,
+            reply,
+            found,
+            room,
+        );
+    };
+    let old = lookup::target_hint(refs, i);
+    lookup::set_target_hint(refs, i, q.party);
+    let r = store(
+        refs,
+        doms,
+        rooms,
+        len,
+        left,
+        size,
+        clock,
+        q,
+        reply,
+        found,
+        room,
+    );
+    if answers::rest_fits(r, rooms, room) {
+        return r;
+    }
+    lookup::set_target_hint(refs, i, old);
+    r
+}
+
+// DCHint of the domain first: a root or SYSVOL request to a DC.
+fn store_through(
+    refs: &mut [u16],
+    doms: &mut [u16],
+    rooms: &mut [u16],
+    len: usize,
+    left: u16,
+    size: u32,
+    clock: u32,
+    q: Asking,
+    reply: &[u8],
+    found: ReferralFound,
+    room: usize,
+) -> Rested
+    requires { ⌜ Storing (now refs) (now rooms) len (now reply) found × ((inOrder domains (now doms) ≡ true) × (q .party < dcsNamed (take len (now rooms)) (now doms))) ⌝ }
+    ensures rest { λ r. ⌜ joined r (now (rooms .exit)) ≡ packed (turned left clock (storedTurn (dcHintSet (cachesOf (now (refs .entry)) (now (doms .entry))) (coreOf (take len (now (rooms .entry))) size true) (q .party)) (coreOf (take len (now (rooms .entry))) size true) (questionOf q []) (referralShown (now (reply .entry)) found) clock)) ⌝ }
+    ensures refs { λ r. ⌜ now (refs .exit) ≡ referralsLeft room left clock (storedTurn (dcHintSet (cachesOf (now (refs .entry)) (now (doms .entry))) (coreOf (take len (now (rooms .entry))) size true) (q .party)) (coreOf (take len (now (rooms .entry))) size true) (questionOf q []) (referralShown (now (reply .entry)) found) clock) (now (refs .entry)) ⌝ }
+    ensures doms { λ r. ⌜ now (doms .exit) ≡ domainsLeft room left clock (storedTurn (dcHintSet (cachesOf (now (refs .entry)) (now (doms .entry))) (coreOf (take len (now (rooms .entry))) size true) (q .party)) (coreOf (take len (now (rooms .entry))) size true) (questionOf q []) (referralShown (now (reply .entry)) found) clock) (now (doms .entry)) ⌝ }
+{
+    let Found::At(i) = lookup::find_domain(doms, steps::host(&rooms[..len])) else {
+        return store(
+            refs,
+            doms,
+            rooms,
+            len,
+            left,
+            size,
+            clock,
+            q,
+            reply,
+            found,
+            room,
+        );
+    };
+    let old = lookup::dc_hint(doms, i);
+    lookup::set_dc_hint(doms, i, q.party);
+    let r = store(
+        refs,
+        doms,
+        rooms,
+        len,
+        left,
+        size,
+        clock,
+        q,
+        reply,
+        found,
+        room,
+    );
+    if answers::rest_fits(r, rooms, room) {
+        return r;
+    }
+    lookup::set_dc_hint(doms, i, old);
+    r
+}
+
+// A root request: one to a host has no hint.
+fn store_root(
+    refs: &mut [u16],
+    doms: &mut [u16],
+    rooms: &mut [u16],
+    len: usize,
+    left: u16,
+    size: u32,
+    clock: u32,
+    q: Asking,
+    reply: &[u8],
+    found: ReferralFound,
+    room: usize,
+) -> Rested
+    requires { ⌜ Storing (now refs) (now rooms) len (now reply) found × ((inOrder domains (now doms) ≡ true) × ((q .entry ≡ 0 → ⊥) → q .party < dcsNamed (take len (now rooms)) (now doms))) ⌝ }
+    ensures rest { λ r. ⌜ joined r (now (rooms .exit)) ≡ packed (turned left clock (storedTurn (choose (eqb (q .entry) 0) (cachesOf (now (refs .entry)) (now (doms .entry))) (dcHintSet (cachesOf (now (refs .entry)) (now (doms .entry))) (coreOf (take len (now (rooms .entry))) size true) (q .party))) (coreOf (take len (now (rooms .entry))) size true) (questionOf q []) (referralShown (now (reply .entry)) found) clock)) ⌝ }
+    ensures refs { λ r. ⌜ now (refs .exit) ≡ referralsLeft room left clock (storedTurn (choose (eqb (q .entry) 0) (cachesOf (now (refs .entry)) (now (doms .entry))) (dcHintSet (cachesOf (now (refs .entry)) (now (doms .entry))) (coreOf (take len (now (rooms .entry))) size true) (q .party))) (coreOf (take len (now (rooms .entry))) size true) (questionOf q []) (referralShown (now (reply .entry)) found) clock) (now (refs .entry)) ⌝ }
+    ensures doms { λ r. ⌜ now (doms .exit) ≡ domainsLeft room left clock (storedTurn (choose (eqb (q .entry) 0) (cachesOf (now (refs .entry)) (now (doms .entry))) (dcHintSet (cachesOf (now (refs .entry)) (now (doms .entry))) (coreOf (take len (now (rooms .entry))) size true) (q .party))) (coreOf (take len (now (rooms .entry))) size true) (questionOf q []) (referralShown (now (reply .entry)) found) clock) (now (doms .entry)) ⌝ }
+{
+    if q.entry == 0 {
+        return store(
+            refs,
+            doms,
+            rooms,
+            len,
+            left,
+            size,
+            clock,
+            q,
+            reply,
+            found,
+            room,
+        );
+    }
+    store_through(
+        refs,
+        doms,
+        rooms,
+        len,
+        left,
+        size,
+        clock,
+        q,
+        reply,
+        found,
+        room,
+    )
+}
+
+// The reply to a question, with the hint of the party that answered. DC replies and I/O have hints of their own.
+pub fn store_answer(
+    refs: &mut [u16],
+    doms: &mut [u16],
+    rooms: &mut [u16],
+    len: usize,
+    left: u16,
+    size: u32,
+    clock: u32,
+    q: Asking,
+    reply: &[u8],
+    found: ReferralFound,
+    room: usize,
+) -> Rested
+    requires { ⌜ Answering (now refs) (now doms) (now rooms) len q (now reply) found ⌝ }
+    ensures rest { λ r. ⌜ joined r (now (rooms .exit)) ≡ packed (turned left clock (storedTurn (hintSet (cachesOf (now (refs .entry)) (now (doms .entry))) (coreOf (take len (now (rooms .entry))) size true) (questionOf q [])) (coreOf (take len (now (rooms .entry))) size true) (questionOf q []) (referralShown (now (reply .entry)) found) clock)) ⌝ }
+    ensures refs { λ r. ⌜ now (refs .exit) ≡ referralsLeft room left clock (storedTurn (hintSet (cachesOf (now (refs .entry)) (now (doms .entry))) (coreOf (take len (now (rooms .entry))) size true) (questionOf q [])) (coreOf (take len (now (rooms .entry))) size true) (questionOf q []) (referralShown (now (reply .entry)) found) clock) (now (refs .entry)) ⌝ }
+    ensures doms { λ r. ⌜ now (doms .exit) ≡ domainsLeft room left clock (storedTurn (hintSet (cachesOf (now (refs .entry)) (now (doms .entry))) (coreOf (take len (now (rooms .entry))) size true) (questionOf q [])) (coreOf (take len (now (rooms .entry))) size true) (questionOf q []) (referralShown (now (reply .entry)) found) clock) (now (doms .entry)) ⌝ }
+{
+    let kind = q.kind;
+    match kind {
+        Kind::Dc => store(
+            refs,
+            doms,
+            rooms,
+            len,
+            left,
+            size,
+            clock,
+            q,
+            reply,
+            found,
+            room,
+        ),
+        Kind::Root => store_root(
+            refs,
+            doms,
+            rooms,
+            len,
+            left,
+            size,
+            clock,
+            q,
+            reply,
+            found,
+            room,
+        ),
+        Kind::Link => store_link(
+            refs,
+            doms,
+            rooms,
+            len,
+            left,
+            size,
+            clock,
+            q,
+            reply,
+            found,
+            room,
+        ),
+        Kind::Sysvol => store_through(
+            refs,
+            doms,
+            rooms,
+            len,
+            left,
+            size,
+            clock,
+            q,
+            reply,
+            found,
+            room,
+        ),
+        Kind::Io => store_link(
+            refs,
+            doms,
+            rooms,
+            len,
+            left,
+            size,
+            clock,
+            q,
+            reply,
+            found,
+            room,
+        ),
+    }
+}

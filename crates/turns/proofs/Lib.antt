@@ -1,0 +1,3 @@
+-- Laws.
+pub mod TurnLaws
+pub mod DueLaws

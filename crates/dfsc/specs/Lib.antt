@@ -1,0 +1,2 @@
+-- The calls of hosts in other languages.
+pub mod Units

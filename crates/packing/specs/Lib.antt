@@ -1,0 +1,2 @@
+-- A walk as units.
+pub mod Packing

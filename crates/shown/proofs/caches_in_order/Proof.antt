@@ -1,0 +1,21 @@
+use Rattle.resolve.proofs.StartLaws.{order-no, order-yes}
+use borrow.Author.Tests.{not-true, not-false}
+use borrow.Author.Needs.{needs}
+use Rattle.shown.proofs.caches_in_order.Statement.{statement}
+use Rattle.shown.proofs.caches_in_order.Tie as tie
+
+referrals-in-order-requires : tie.Need-referrals-in-order-requires
+referrals-in-order-requires c κs = search needs
+
+returns : tie.Need-returns
+returns c = order-no _ _ (c .before .referrals-in-order .ensures) (not-true _ (c .if1 .taken))
+
+domains-in-order-requires : tie.Need-domains-in-order-requires
+domains-in-order-requires c κs = search needs
+
+returns-2 : tie.Need-returns-2
+returns-2 c = order-yes _ _ (c .before .before .referrals-in-order .ensures) (not-false _ (c .before .if1 .left)) (c .domains-in-order .ensures)
+
+pub caches-in-order-spec : {M : Type 1} → statement M
+caches-in-order-spec =
+    tie.close (tie.spec referrals-in-order-requires returns domains-in-order-requires returns-2)

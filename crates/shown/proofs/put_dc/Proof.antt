@@ -1,0 +1,46 @@
+use Rattle.shown.proofs.ShownLaws.{dc-gone, dc-fits, dc-short, dc-put}
+use borrow.Author.Needs.{needs}
+use mathlib.Core.List.{[]}
+use Rattle.shown.proofs.put_dc.Statement.{statement}
+use Rattle.shown.proofs.put_dc.Tie as tie
+
+host-requires : tie.Need-host-requires
+host-requires c κs = search needs
+
+find-domain-requires : tie.Need-find-domain-requires
+find-domain-requires c κs = search needs
+
+enum-known-i : tie.Need-enum-known-i
+enum-known-i c = search needs
+
+enum-told : tie.Need-enum-told
+enum-told c = search needs
+
+returns : tie.Need-returns
+returns c = dc-gone _ _ _ _ (c .before .before .before .host .ensures) (c .before .before .find-domain .ensures) (c .enum-told .given .1)
+
+dc-requires : tie.Need-dc-requires
+dc-requires c κs = dc-fits _ _ _ [] (c .before .before .before .before .host .ensures) (c .before .before .before .find-domain .ensures) _ (c .before .i .given .1) (c .before .before .before .before .before .before .before .before .pre .1)
+
+put-requires : tie.Need-put-requires
+put-requires c κs = dc-short _ _ _ [] (c .before .before .before .before .before .before .host .ensures) (c .before .before .before .before .before .find-domain .ensures) _ (c .before .before .before .i .given .1) (c .before .before .before .before .before .before .before .before .before .before .pre .1) (c .before .dc .ensures)
+
+same-length : tie.Need-same-length
+same-length c = search needs
+
+returns-2 : tie.Need-returns-2
+returns-2 c = dc-put _ _ _ _ (c .before .before .before .before .before .before .before .before .before .host .ensures) (c .before .before .before .before .before .before .before .before .find-domain .ensures) _ (c .before .before .before .before .before .before .i .given .1) (c .before .before .before .before .dc .ensures) (c .before .before .put .ensures)
+
+pub put-dc-spec : {M : Type 1} → statement M
+put-dc-spec =
+    tie.close
+    (tie.spec
+    host-requires
+    find-domain-requires
+    enum-known-i
+    enum-told
+    returns
+    dc-requires
+    put-requires
+    same-length
+    returns-2)

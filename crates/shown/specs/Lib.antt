@@ -1,0 +1,2 @@
+-- What a host is shown of a question and of an end.
+pub mod Shown

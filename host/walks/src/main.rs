@@ -1,0 +1,248 @@
+//! Runs vectors/scenarios.txt through libdfsc.a: each call, what it gives, and all lent memory after it. Then the stack that the calls took.
+mod caches;
+mod dfsc;
+mod lines;
+mod stack;
+
+use caches::Caches;
+use lines::{bytes, field, has, hex_number, number, scenarios, units, Call, Scenario};
+
+const WALK: usize = 800;
+const KINDS: [&str; 6] = ["", "dc", "root", "link", "sysvol", "io"];
+const FILL: u16 = 0xEEEE;
+const GONE: u32 = 27 << 16;
+
+/// A host of one scenario: all that it lends.
+struct Host {
+    caches: Caches,
+    walk: Vec<u16>,
+}
+
+/// What the walk waits for, or its end, as the vectors print it; or what is wrong with how it is shown.
+impl Host {
+    // A text that is shown: the whole of it, 10 with one unit less, and nothing written past it.
+    fn text(&self, what: &str, ask: impl Fn(&mut [u16]) -> u32) -> Result<Vec<u16>, String> {
+        let mut room = vec![FILL; 300];
+        let n = ask(&mut room);
+        if n >= 65536 {
+            return Err(format!("{what} is refused with {}", n >> 16));
+        }
+        let n = n as usize;
+        if room[n..].iter().any(|u| *u != FILL) {
+            return Err(format!("{what} is written past its end"));
+        }
+        let mut tight = vec![FILL; n];
+        if ask(&mut tight) != n as u32 || tight != room[..n] {
+            return Err(format!("{what} is another in a buffer of its length"));
+        }
+        let mut short = vec![FILL; n.saturating_sub(1)];
+        if n > 0 && (ask(&mut short) != 10 << 16 || short.iter().any(|u| *u != FILL)) {
+            return Err(format!("{what} does not give 10 in a short buffer"));
+        }
+        room.truncate(n);
+        Ok(room)
+    }
+
+    fn numbers(&self, what: &str, ask: impl Fn(&mut [u32]) -> u32) -> Result<Option<[u32; 3]>, String> {
+        let mut short = [7u32; 2];
+        let mut out = [7u32; 4];
+        let n = ask(&mut out);
+        if n == 5 << 16 {
+            return if out == [7; 4] { Ok(None) } else { Err(format!("{what} is refused and writes")) };
+        }
+        if n != 3 || out[3] != 7 || ask(&mut short) != 10 << 16 || short != [7; 2] {
+            return Err(format!("{what} gives {n:#x}"));
+        }
+        Ok(Some([out[0], out[1], out[2]]))
+    }
+
+    fn party(&self) -> u32 {
+        dfsc::question_party(&self.caches.refs, &self.caches.doms, &self.walk, &mut [0; 256])
+    }
+
+    fn waits(&self) -> Result<Option<[u32; 3]>, String> {
+        self.numbers("the question", |o| dfsc::question(&self.walk, o))
+    }
+
+    // The walk is at rest as the vectors say.
+    fn shows(&self, gives: &str) -> Result<(), String> {
+        let same = |what: &str, is: Vec<u16>, key: &str| {
+            if is == units(field(gives, key)) { Ok(()) } else { Err(format!("{what} is {}", String::from_utf16_lossy(&is))) }
+        };
+        let question = self.waits()?;
+        let end = self.numbers("the end", |o| dfsc::end(&self.walk, o))?;
+        if question.is_some() == end.is_some() || question.is_some() != has(gives, "ask") {
+            return Err("the walk is not at rest so".into());
+        }
+        if let Some([kind, size, moves]) = question {
+            let asked = if field(gives, "ask") == "io" { 0 } else { number(gives, "size") };
+            if (KINDS[kind as usize], size, moves) != (field(gives, "ask"), asked, number(gives, "moves")) {
+                return Err(format!("kind {kind}, size {size}, moves {moves}"));
+            }
+            same("the party", self.text("the party", |o| dfsc::question_party(&self.caches.refs, &self.caches.doms, &self.walk, o))?, "to")?;
+            same("the name", self.text("the name", |o| dfsc::question_name(&self.walk, o))?, "name")?;
+            return if dfsc::end_path(&self.walk, &mut [0; 256]) == 5 << 16 { Ok(()) } else { Err("a walk that waits has an end".into()) };
+        }
+        let [end, status, moves] = end.unwrap();
+        if (end, status, moves) != (number(gives, "end"), hex_number(gives, "status"), number(gives, "moves")) {
+            return Err(format!("end {end}, status {status:08X}, moves {moves}"));
+        }
+        same("the path", self.text("the path", |o| dfsc::end_path(&self.walk, o))?, "path")?;
+        if dfsc::question_name(&self.walk, &mut [0; 256]) == 5 << 16 && matches!(self.party() >> 16, 4 | 5) {
+            Ok(())
+        } else {
+            Err("a walk that has ended has a question".into())
+        }
+    }
+
+    // A start or an answer: its number, the output buffer, and what the walk then shows.
+    fn move_on(&mut self, c: &Call) -> Result<(), String> {
+        let out_len = number(c.line, "buffer") as usize;
+        let mut out = vec![0xEEu8; out_len];
+        let clock = number(c.line, "now");
+        let before = (self.caches.clone(), self.walk.clone());
+        let gone = self.party() == GONE;
+        let n = match c.line.split(' ').next().unwrap() {
+            "start" => dfsc::start(&self.caches.refs, &self.caches.doms, &mut self.walk, &units(field(c.line, "path")), &units(field(c.line, "boot")),
+                number(c.line, "limit"), number(c.line, "size"), clock, &mut out),
+            "referral" => dfsc::answer_referral(&mut self.caches.refs, &mut self.caches.doms, &mut self.walk, hex_number(c.line, "status"),
+                &bytes(field(c.line, "reply")), clock, &mut out),
+            _ => dfsc::answer_io(&mut self.caches.refs, &self.caches.doms, &mut self.walk, hex_number(c.line, "status"), clock, &mut out),
+        };
+        if has(c.gives, "refused") {
+            if n != number(c.gives, "refused") {
+                return Err(format!("the call gives {n}"));
+            }
+            let same = self.caches == before.0 && self.walk == before.1 && out.iter().all(|b| *b == 0xEE);
+            return if same { Ok(()) } else { Err("the call is refused and changes lent memory".into()) };
+        }
+        if n != 0 {
+            return Err(format!("the call is refused with {n}"));
+        }
+        let request = bytes(field(c.gives, "request"));
+        if out[..request.len()] != request[..] || out[request.len()..].iter().any(|b| *b != 0xEE) {
+            return Err("the output buffer".into());
+        }
+        // the party is gone exactly where the answer ends 27
+        if !c.line.starts_with("start") && gone != (field(c.gives, "end") == "27") {
+            return Err("the party and end 27 do not agree".into());
+        }
+        Ok(())
+    }
+
+    fn call(&mut self, c: &Call) -> Result<bool, String> {
+        let word = c.line.split(' ').next().unwrap();
+        let after = if c.after.is_empty() { self.caches.clone() } else { Caches::read(&c.after) };
+        match word {
+            "set" | "list" | "read-listing" => self.caches = after.clone(),
+            "read-domains" => {
+                let n = dfsc::read_domains(&bytes(field(c.line, "reply")), number(c.line, "size"), &mut self.caches.doms);
+                if n != if c.gives == "ok" { 0 } else { number(c.gives, "refused") } {
+                    return Err(format!("the call gives {n}"));
+                }
+            }
+            _ => self.move_on(c)?,
+        }
+        if self.caches != after {
+            return Err("the caches after it".into());
+        }
+        if has(c.gives, "ask") || has(c.gives, "end") {
+            self.shows(c.gives)?;
+        }
+        Ok(word == "list" || word == "read-listing")
+    }
+}
+
+struct Counts {
+    calls: usize,
+    listings: usize,
+    wrong: usize,
+}
+
+fn run(s: &Scenario, counts: &mut Counts) {
+    let mut host = Host { caches: Caches::read(&s.caches), walk: vec![0; WALK] };
+    for c in &s.calls {
+        match host.call(c) {
+            Ok(true) => counts.listings += 1,
+            Ok(false) => counts.calls += 1,
+            Err(e) => {
+                counts.wrong += 1;
+                println!("scenario {}: {:.100}: given {:.100}: {e}", s.name, c.line, c.gives);
+                return;
+            }
+        }
+    }
+}
+
+// A walk that goes round by interlinks in a warm cache: `limit` moves, no question, end 24. The bytes of stack that its start took.
+fn round(limit: u32) -> usize {
+    let lines = ["referrals places=1", "entry place=0 prefix=\\a\\b kind=link interlink=1 failback=0 ttl=300 taken=100 hint=0", "target boundary=0 path=\\a\\b", "domains places=1"];
+    let mut host = Host { caches: Caches::read(&lines), walk: vec![0; WALK] };
+    stack::most();
+    let n = dfsc::start(&host.caches.refs, &host.caches.doms, &mut host.walk, &units("\\a\\b\\c"), &units("dc1"), limit, 8192, 100, &mut [0; 516]);
+    let used = stack::most()["dfsc_start"];
+    assert_eq!(n, 0);
+    host.shows(&format!("end=24 status=00000000 path=\\a\\b\\c moves={limit}")).unwrap();
+    used
+}
+
+// Calls that no scenario has: memory of another length, and a domain request.
+fn others() -> usize {
+    let mut wrong = 0;
+    let mut says = |ok: bool, what: &str| {
+        if !ok {
+            wrong += 1;
+            println!("{what}");
+        }
+    };
+    let cache = vec![0u16; caches::PLACE];
+    for len in [0, 31, 32, 799, 801] {
+        let mut walk = vec![FILL; len];
+        let mut out = [0xEEu8; 516];
+        let n = dfsc::start(&cache, &cache, &mut walk, &units("\\a\\b"), &units("dc1"), 4, 8192, 1, &mut out);
+        says(n == 5 && walk.iter().all(|u| *u == FILL) && out.iter().all(|b| *b == 0xEE), &format!("a start with {len} units"));
+        let n = dfsc::start(&cache, &cache, &mut walk, &units("a"), &units("dc1"), 4, 8192, 1, &mut out);
+        says(n == 1, &format!("a bad path with {len} units"));
+        let mut refs = cache.clone();
+        let n = dfsc::answer_io(&mut refs, &cache, &mut walk, 0, 1, &mut out);
+        says(n == 5 && refs == cache && walk.iter().all(|u| *u == FILL), &format!("an I/O answer with {len} units"));
+        says(dfsc::end(&walk, &mut [0; 3]) == 5 << 16, &format!("the end of {len} units"));
+    }
+    // each unit of the packed form that says another thing than the form allows
+    let mut walk = vec![0u16; WALK];
+    let mut out = [0u8; 516];
+    says(dfsc::start(&cache, &cache, &mut walk, &units("\\a\\b"), &units("dc1"), 4, 8192, 1, &mut out) == 0, "a start");
+    for i in 0..32 {
+        let mut other = walk.clone();
+        other[i] = if i == 9 { 6 } else { 900 };
+        says(dfsc::question(&other, &mut [0; 3]) == 5 << 16, &format!("unit {i} changed"));
+    }
+    let mut request = [0xEEu8; 6];
+    says(dfsc::domain_request(&mut request) == 0 && request == [4, 0, 0, 0, 0xEE, 0xEE], "the domain request");
+    says(dfsc::domain_request(&mut request[..3]) == 10 && request[..3] == [4, 0, 0], "a short domain request");
+    wrong
+}
+
+fn all() -> bool {
+    let path = format!("{}/../../vectors/scenarios.txt", env!("CARGO_MANIFEST_DIR"));
+    let text = std::fs::read_to_string(path).expect("vectors/scenarios.txt");
+    let list = scenarios(&text);
+    let mut counts = Counts { calls: 0, listings: 0, wrong: others() };
+    for s in &list {
+        run(s, &mut counts);
+    }
+    println!("walks: {} scenarios, {} calls equal, {} listing calls left out", list.len(), counts.calls, counts.listings);
+    let most = stack::most();
+    for (name, n) in &most {
+        println!("stack: {name} {n} bytes");
+    }
+    for limit in [5, 32, 64] {
+        println!("stack: {limit} moves round {} bytes", round(limit));
+    }
+    counts.wrong == 0 && most.values().all(|n| *n <= 16384) && round(64) <= 8192
+}
+
+fn main() {
+    let ok = std::thread::Builder::new().stack_size(1 << 20).spawn(all).unwrap().join().unwrap();
+    std::process::exit(!ok as i32);
+}

@@ -1,4 +1,2 @@
 -- Document 01, "The listing": how texts and numbers are spelled.
 pub mod Spelling
-pub mod Reading
-pub mod Digits

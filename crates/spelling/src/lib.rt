@@ -1,28 +1,11 @@
 // Texts and numbers as they are spelled in a listing: document 01, "The listing".
 ghost use mathlib.Core.Path.{_≡_};
-ghost use mathlib.Core.Bool.{true, false, _&&_, not};
 ghost use mathlib.Core.List.{_∷_};
-ghost use Prim.Native.Nat.{_+_, _-_, _≤_, _<_};
-ghost use lib.ListN.{length, take, drop};
-ghost use Rattle.laws.specs.Listed.{sameList};
+ghost use Prim.Native.Nat.{_+_, _≤_, _<_};
+ghost use lib.ListN.{length};
 ghost use Rattle.spelling.specs.Spelling.{tilde, stands, digitUnit, hexUnits, spelledUnit, spelled, decimal, Put};
-ghost use Rattle.spelling.specs.Reading.{digitOf, hexOf, unspelled, isSpelled, spelledForm, isDecimal, decimalForm};
-ghost use Rattle.spelling.specs.Digits.{hexDigit, hexDigits};
 
 const TILDE: u16 = 126;
-
-// What a text is as a spelling.
-pub enum Spelled {
-    Bad,
-    // the spelling of a text of so many units
-    Units(usize),
-}
-
-// What a text is as a number of 32 bits.
-pub enum Number {
-    None,
-    Value(u32),
-}
 
 // Whether a unit stands as it is.
 pub fn stands(u: u16) -> bool

@@ -1,16 +1,16 @@
 -- What spelled text says. A text is read only where what it says, spelled, is the text again: "no other spelling is read".
 use Prim.Native.Nat.{ℕ, zero, suc, _+_, _-_, _*_}
-use mathlib.Core.Bool.{Bool, _&&_}
+use mathlib.Core.Bool.{Bool, _&&_, _||_, not}
 use mathlib.Core.List.{List, [], _∷_}
-use lib.ListN.{length, getD}
+use lib.ListN.{length, getD, drop}
 use lib.Dec.{leb, ltb, eqb}
 use Rattle.laws.specs.Choice.{choose}
 use Rattle.laws.specs.Listed.{sameList}
-use Rattle.spelling.specs.Spelling.{tilde, spelled, decimal}
-use Rattle.spelling.specs.declared.Spelled.{Spelled}
-use Rattle.spelling.specs.declared.Spelled.the-variants.{Bad, Units}
-use Rattle.spelling.specs.declared.Number.{Number}
-use Rattle.spelling.specs.declared.Number.the-variants.{None, Value}
+use Rattle.spelling.specs.Spelling.{tilde, stands, spelled, decimal}
+use Rattle.unspelling.specs.declared.Spelled.{Spelled}
+use Rattle.unspelling.specs.declared.Spelled.the-variants.{Bad, Units}
+use Rattle.unspelling.specs.declared.Number.{Number}
+use Rattle.unspelling.specs.declared.Number.the-variants.{None, Value}
 
 -- the value of a hex digit
 unfoldable pub digitOf : ℕ → ℕ
@@ -36,6 +36,18 @@ isSpelled s = sameList (spelled (unspelled s)) s
 -- and of how many units
 unfoldable pub spelledForm : List ℕ → Spelled
 spelledForm s = choose (isSpelled s) (Units (length (unspelled s))) Bad
+
+-- words of the test: an upper-case hex digit
+unfoldable pub hexDigit : ℕ → Bool
+hexDigit u = (leb 48 u && leb u 57) || (leb 65 u && leb u 70)
+
+-- the first four units of a text are hex digits
+unfoldable pub hexDigits : List ℕ → Bool
+hexDigits s = hexDigit (getD s 0 0) && (hexDigit (getD s 1 0) && (hexDigit (getD s 2 0) && hexDigit (getD s 3 0)))
+
+-- a text begins with the escape of a unit that does not stand as it is
+unfoldable pub isEscape : List ℕ → Bool
+isEscape s = leb 5 (length s) && (eqb (getD s 0 0) tilde && (hexDigits (drop 1 s) && not (stands (hexOf (drop 1 s)))))
 
 -- the number that digits say after the number n
 unfoldable pub valueFrom : ℕ → List ℕ → ℕ

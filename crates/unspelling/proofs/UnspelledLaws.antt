@@ -21,7 +21,7 @@ use Rattle.laws.proofs.Orders.{told}
 use Rattle.spelling.specs.Spelling.{tilde, stands, digitUnit, hexUnits, spelledUnit, spelled}
 use Rattle.spelling.proofs.SpellingLaws.{unit-stands, unit-escaped}
 use Rattle.spelling.proofs.PutLaws.{Left}
-use Rattle.unspelling.specs.Reading.{digitOf, hexOf, unspelledFrom, unspelled, isSpelled, spelledForm, hexDigit, hexDigits, isEscape}
+use Rattle.unspelling.specs.Reading.{digitOf, hexOf, unspelledFrom, unspelled, isSpelled, spelledForm, hexDigit, hexDigits, isEscape, unit}
 use Rattle.unspelling.specs.declared.Spelled.{Spelled}
 use Rattle.unspelling.specs.declared.Spelled.the-variants.{Bad, Units}
 use Rattle.unspelling.proofs.HexLaws.{Digit, Escape, escape-told, digits-back, hex-small, hex-back, unit-hex}
@@ -146,10 +146,6 @@ says-nothing = refl
 four : (u : ℕ) (s : List ℕ) → unspelled ((tilde ∷ hexUnits u) ++ s) ≡ hexOf (hexUnits u ++ s) ∷ unspelled s
 unfolding hexUnits
 four u s = says-escape (digitUnit (u / 4096 % 16)) (digitUnit (u / 256 % 16)) (digitUnit (u / 16 % 16)) (digitUnit (u % 16)) s
-
--- a unit of 16 bits
-pub unit : ℕ → Bool
-unit u = ltb u 65536
 
 pub unspelled-spelled : (s : List ℕ) → every unit s ≡ true → unspelled (spelled s) ≡ s
 unfolding every unit spelled

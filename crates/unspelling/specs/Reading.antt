@@ -12,6 +12,10 @@ use Rattle.unspelling.specs.declared.Spelled.the-variants.{Bad, Units}
 use Rattle.unspelling.specs.declared.Number.{Number}
 use Rattle.unspelling.specs.declared.Number.the-variants.{None, Value}
 
+-- a unit of 16 bits
+unfoldable pub unit : ℕ → Bool
+unit u = ltb u 65536
+
 -- the value of a hex digit
 unfoldable pub digitOf : ℕ → ℕ
 digitOf u = choose (leb u 57) (u - 48) (u - 55)

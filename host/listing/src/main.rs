@@ -70,9 +70,9 @@ fn plain(cache: &[u16]) -> Vec<u16> {
     o.encode_utf16().collect()
 }
 
-/// The least time of one call in microseconds, over several rounds.
+/// The least time of one call in microseconds, over many short rounds: other work on the machine falls into some of them only.
 fn time(mut call: impl FnMut(), calls: u32) -> f64 {
-    (0..9)
+    (0..400)
         .map(|_| {
             let t = Instant::now();
             for _ in 0..calls {
@@ -114,8 +114,8 @@ fn main() {
     assert_eq!(list(&bad, &mut out), REFUSED);
     assert!(out.iter().all(|u| *u == 7));
     println!("listings compared: 6");
-    let u = time(|| { black_box(list(black_box(&usual), black_box(&mut out))); }, 200);
-    let w = time(|| { black_box(list(black_box(&worst), black_box(&mut out))); }, 20);
+    let u = time(|| { black_box(list(black_box(&usual), black_box(&mut out))); }, 4);
+    let w = time(|| { black_box(list(black_box(&worst), black_box(&mut out))); }, 1);
     println!("listing of 32 entries with four targets of 30 units: {u:.1} us");
     println!("listing of 32 entries with eight targets of 256 units, all escaped: {w:.1} us, {} units", plain(&worst).len());
     if u >= 100.0 {

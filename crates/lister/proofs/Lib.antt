@@ -1,0 +1,2 @@
+-- Laws of what is handed on.
+pub mod ShownLaws

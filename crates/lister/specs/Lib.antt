@@ -1,0 +1,2 @@
+-- What is handed on.
+pub mod Shown

@@ -1,0 +1,39 @@
+-- Laws of the ways in which listing ends.
+use mathlib.Core.Path.{_≡_, refl, sym, ap, _∙_}
+use mathlib.Core.Bool.{true, false}
+use mathlib.Core.List.{List}
+use Prim.Native.Nat.{ℕ, _≤_, _<_}
+use native.Mathlib.Nat.{zero-add}
+use native.Mathlib.Omega.{arith}
+use lib.ListN.{length}
+use borrow.Author.Tests.{le-leb, lt-leb}
+use Rattle.laws.specs.Choice.{choose}
+use Rattle.laws.proofs.Choices.{choose-yes, choose-no}
+use Rattle.places.specs.Layout.{placeCount}
+use Rattle.caches.specs.Memory.{referrals, decode, inOrder}
+use Rattle.caches.proofs.MemoryLaws.{cache-told, order-good, length-decode}
+use Rattle.spelling.specs.Spelling.{Put}
+use Rattle.listing.specs.Listed.{textOf, listed, bufferAfter}
+use Rattle.listing.specs.declared.Answer.{Answer}
+use Rattle.listing.specs.declared.Answer.the-variants.{NotInOrder, TooShort, Units}
+
+pub few-places : (raw : List ℕ) → inOrder referrals raw ≡ true → placeCount raw ≤ 32
+few-places raw h = omega (arith, cache-told referrals (decode referrals raw) (order-good referrals raw h) .most, length-decode referrals raw)
+
+module _ (raw out : List ℕ) where
+  pub no-order : inOrder referrals raw ≡ false → (NotInOrder ≡ listed raw (length out)) × (out ≡ bufferAfter raw out)
+  unfolding listed bufferAfter
+  no-order h = (sym (choose-no _ _ h), sym (choose-no _ _ h))
+
+  pub no-room : {n : ℕ} → inOrder referrals raw ≡ true → n ≡ length (textOf raw) → length out < n → (TooShort ≡ listed raw (length out)) × (out ≡ bufferAfter raw out)
+  unfolding listed bufferAfter
+  no-room h e l =
+      let s = lt-leb (length (textOf raw)) (length out) (omega arith) in
+      (sym (choose-yes _ _ h ∙ choose-no _ _ s), sym (choose-yes _ _ h ∙ choose-no _ _ s))
+
+  pub was-listed : {n r : ℕ} {o : List ℕ} → inOrder referrals raw ≡ true → n ≡ length (textOf raw) → n ≤ length out → Put out 0 (textOf raw) o r
+      → (Units r ≡ listed raw (length out)) × (o ≡ bufferAfter raw out)
+  unfolding listed bufferAfter
+  was-listed h e l w =
+      let s = le-leb (length (textOf raw)) (length out) (omega arith) in
+      (ap Units (w .end ∙ zero-add (length (textOf raw))) ∙ sym (choose-yes _ _ h ∙ choose-yes _ _ s), w .memory ∙ sym (choose-yes _ _ h ∙ choose-yes _ _ s))

@@ -1,0 +1,20 @@
+use mathlib.Core.Path.{ap}
+use Prim.Native.Nat.{ℕ}
+use lib.Dec.{eqb}
+use Rattle.places.specs.Layout.{flagAt}
+use borrow.Author.Needs.{needs}
+use Rattle.listing.proofs.flag.Statement.{statement}
+use Rattle.listing.proofs.flag.Tie as tie
+use Rattle.listing.proofs.flag.Reads as reads
+use Rattle.listing.proofs.flag.Lts as lts
+use Rattle.places.proofs.unit.Reads as unit-reads
+
+unit-requires : tie.Need-unit-requires
+unit-requires c κs = search needs
+
+returns : tie.Need-returns
+unfolding flagAt
+returns c = ap (λ (x : ℕ). eqb x 1) (c .unit .ensures)
+
+pub flag-spec : {M : Type 1} → statement M
+flag-spec = tie.close (tie.spec unit-requires returns)

@@ -1,0 +1,49 @@
+use Rattle.listing.proofs.EntryLaws.{put-same}
+use mathlib.Core.List.{List}
+use mathlib.Core.Path.{ap, sym}
+use lib.ListN.{length}
+use denote.Ref.{now}
+use native.Mathlib.Omega.{arith}
+use Prim.Native.Nat.{ℕ}
+use Rattle.spelling.specs.Spelling.{Put}
+use Rattle.listing.specs.Form.{ended, numberLine}
+use Rattle.listing.proofs.FormLaws.{number-set, number-clear}
+use borrow.Author.Needs.{needs}
+use Rattle.listing.proofs.put_flag.Statement.{statement}
+use Rattle.listing.proofs.put_flag.Tie as tie
+use Rattle.listing.proofs.put_flag.Reads as reads
+use Rattle.listing.proofs.put_flag.Lts as lts
+use Rattle.listing.proofs.put_number.Reads as put-number-reads
+
+put-number-requires : tie.Need-put-number-requires
+put-number-requires c κs =
+    let e = number-set (now (c .before .before .before .before .args .key)) (c .before .before .before .before .args .set) (c .before .if1 .taken) in
+    omega (arith, ap (λ (x : List ℕ). length (ended x)) e)
+
+same-length : tie.Need-same-length
+same-length c = search needs
+
+returns : tie.Need-returns
+returns c = put-same (ap ended (number-set (now (c .before .before .before .before .before .before .before .args .key)) (c .before .before .before .before .before .before .before .args .set) (c .before .before .before .before .if1 .taken))) (c .before .before .put-number .ensures)
+
+put-number-requires-2 : tie.Need-put-number-requires-2
+put-number-requires-2 c κs =
+    let e = number-clear (now (c .before .before .before .before .args .key)) (c .before .before .before .before .args .set) (c .before .if1 .left) in
+    omega (arith, ap (λ (x : List ℕ). length (ended x)) e)
+
+same-length-2 : tie.Need-same-length-2
+same-length-2 c = search needs
+
+returns-2 : tie.Need-returns-2
+returns-2 c = put-same (ap ended (number-clear (now (c .before .before .before .before .before .before .before .args .key)) (c .before .before .before .before .before .before .before .args .set) (c .before .before .before .before .if1 .left))) (c .before .before .put-number2 .ensures)
+
+pub put-flag-spec : {M : Type 1} → statement M
+put-flag-spec =
+    tie.close
+    (tie.spec
+    put-number-requires
+    same-length
+    returns
+    put-number-requires-2
+    same-length-2
+    returns-2)

@@ -1,0 +1,3 @@
+-- Document 01, "The listing".
+pub mod Form
+pub mod Listed

@@ -1,0 +1,4 @@
+-- Laws of reading a listing.
+pub mod LineLaws
+pub mod SaidLaws
+pub mod Theorems

@@ -1,0 +1,3 @@
+-- Document 01, "The listing": what a text says, and when it is read.
+pub mod Entries
+pub mod Read

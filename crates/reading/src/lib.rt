@@ -1,0 +1,1 @@
+// A listing read into a referral cache: document 01, "The listing". The definitions stand in specs/, the theorems in proofs/.

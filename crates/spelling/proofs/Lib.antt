@@ -1,0 +1,4 @@
+-- Laws of spelling.
+pub mod PutLaws
+pub mod SpellingLaws
+pub mod DecimalLaws

@@ -1,0 +1,45 @@
+use Rattle.spelling.proofs.SpellingLaws.{escape-put}
+use borrow.Author.Needs.{needs}
+use Rattle.spelling.proofs.put_escape.Statement.{statement}
+use Rattle.spelling.proofs.put_escape.Tie as tie
+use Rattle.spelling.proofs.put_escape.Reads as reads
+use Rattle.spelling.proofs.put_escape.Lts as lts
+use Rattle.rooms.proofs.copy_units.Reads as copy-units-reads
+use Rattle.spelling.proofs.digit.Reads as digit-reads
+
+digit-requires : tie.Need-digit-requires
+digit-requires c κs = search needs
+
+digit-requires-2 : tie.Need-digit-requires-2
+digit-requires-2 c κs = search needs
+
+digit-requires-3 : tie.Need-digit-requires-3
+digit-requires-3 c κs = search needs
+
+digit-requires-4 : tie.Need-digit-requires-4
+digit-requires-4 c κs = search needs
+
+slice-aggregate-copy-units : tie.Need-slice-aggregate-copy-units
+slice-aggregate-copy-units c = search needs
+
+copy-units-requires : tie.Need-copy-units-requires
+copy-units-requires c κs = search needs
+
+same-length : tie.Need-same-length
+same-length c = search needs
+
+returns : tie.Need-returns
+returns c = escape-put (c .before .before .before .before .before .before .before .before .before .before .args .u) _ _ _ _ (c .before .before .before .before .before .before .before .before .digit .ensures) (c .before .before .before .before .before .before .before .digit2 .ensures) (c .before .before .before .before .before .before .digit3 .ensures) (c .before .before .before .before .before .digit4 .ensures) (c .before .before .copy-units .ensures)
+
+pub put-escape-spec : {M : Type 1} → statement M
+put-escape-spec =
+    tie.close
+    (tie.spec
+    digit-requires
+    digit-requires-2
+    digit-requires-3
+    digit-requires-4
+    slice-aggregate-copy-units
+    copy-units-requires
+    same-length
+    returns)

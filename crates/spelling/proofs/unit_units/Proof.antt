@@ -1,0 +1,20 @@
+use mathlib.Core.Path.{sym, _∙_}
+use Rattle.spelling.proofs.SpellingLaws.{length-stands, length-escaped}
+use borrow.Author.Needs.{needs}
+use Rattle.spelling.proofs.unit_units.Statement.{statement}
+use Rattle.spelling.proofs.unit_units.Tie as tie
+use Rattle.spelling.proofs.unit_units.Reads as reads
+use Rattle.spelling.proofs.unit_units.Lts as lts
+use Rattle.spelling.proofs.stands.Reads as stands-reads
+
+stands-requires : tie.Need-stands-requires
+stands-requires c κs = search needs
+
+returns : tie.Need-returns
+returns c = sym (length-stands _ (sym (c .before .stands .ensures) ∙ c .if1 .taken))
+
+returns-2 : tie.Need-returns-2
+returns-2 c = sym (length-escaped _ (sym (c .before .stands .ensures) ∙ c .if1 .left))
+
+pub unit-units-spec : {M : Type 1} → statement M
+unit-units-spec = tie.close (tie.spec stands-requires returns returns-2)

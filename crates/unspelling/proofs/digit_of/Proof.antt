@@ -1,0 +1,25 @@
+use native.Mathlib.Omega.{arith}
+use Rattle.unspelling.proofs.HexLaws.{digit-none, digit-decimal, digit-letter}
+use borrow.Author.Needs.{needs}
+use Rattle.unspelling.proofs.digit_of.Statement.{statement}
+use Rattle.unspelling.proofs.digit_of.Tie as tie
+use Rattle.unspelling.proofs.digit_of.Reads as reads
+use Rattle.unspelling.proofs.digit_of.Lts as lts
+
+returns : tie.Need-returns
+returns c = (digit-none _ (c .if1 .taken), omega arith)
+
+sub-result : tie.Need-sub-result
+sub-result c = search needs
+
+returns-2 : tie.Need-returns-2
+returns-2 c = (digit-decimal _ (c .if2 .taken), omega arith)
+
+sub-result-2 : tie.Need-sub-result-2
+sub-result-2 c = search needs
+
+returns-3 : tie.Need-returns-3
+returns-3 c = (digit-letter _ (omega arith), omega arith)
+
+pub digit-of-spec : {M : Type 1} → statement M
+digit-of-spec = tie.close (tie.spec returns sub-result returns-2 sub-result-2 returns-3)

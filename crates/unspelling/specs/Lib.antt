@@ -1,0 +1,2 @@
+-- Document 01, "The listing": what spelled texts and numbers say.
+pub mod Reading

@@ -4,41 +4,18 @@ use Prim.Native.Nat.{ℕ, _+_, _≤_, _<_}
 use mathlib.Core.Path.{_≡_}
 use mathlib.Core.Bool.{Bool, true, false}
 use mathlib.Core.List.{List, [], _∷_, _++_, map}
-use mathlib.Core.Option.{Option, none, some}
-use lib.ListN.{length, getD}
-use lib.Dec.{eqb}
-use Rattle.laws.specs.Choice.{choose}
-use Rattle.unc.specs.Paths.{components, pathUnits}
-use Rattle.caches.specs.Entries.{Referral, Domain}
+use mathlib.Core.Option.{Option}
+use lib.ListN.{length}
+use Rattle.unc.specs.Paths.{pathUnits}
 use Rattle.caches.specs.Memory.{referrals, domains, encode}
-use Rattle.lookup.specs.Lookup.{targetPath, dcName}
-use Rattle.steps.specs.Steps.{Caches, Core, Question, Called, stops, asks, replaces, Turn, Rest, waits, ended, withPath, withHit, hitAt, step2, nameAsked, domainInUse, referralInUse}
+use Rattle.steps.specs.Steps.{Caches, Core, Question, Called, stops, asks, replaces, Turn, Rest, waits, ended, withPath, withHit, hitAt, step2, nameAsked}
 use Rattle.steps.specs.declared.Kind.{Kind}
-use Rattle.steps.specs.declared.Kind.the-variants.{Dc, Root, Link, Sysvol, Io}
 use Rattle.steps.specs.declared.End.{End}
 use Rattle.steps.specs.declared.End.the-variants.{TooLong}
 use Rattle.questions.specs.Questions.{requestName, nameFits}
+use Rattle.shown.specs.Shown.{partyOf}
 use Rattle.resolve.specs.declared.Verdict.{Verdict}
 use Rattle.resolve.specs.declared.Verdict.the-variants.{ShortBuffer}
-
--- the text of a question's party
-unfoldable pub dcText : ℕ → Option Domain → Option (List ℕ)
-dcText place none = none
-dcText place (some d) = some (dcName place d)
-
-unfoldable pub targetText : ℕ → Option Referral → Option (List ℕ)
-targetText place none = none
-targetText place (some e) = some (targetPath place e)
-
-unfoldable pub partyText : Caches → Core → List ℕ → Question → Option (List ℕ)
-partyText c w boot q = by (q .kind)
-  where
-    by : Kind → Option (List ℕ)
-    by Dc = some boot
-    by Root = choose (eqb (q .entry) 0) (some (getD (components (w .path)) 0 [])) (dcText (q .party) (domainInUse c w))
-    by Link = targetText (q .party) (referralInUse c w q)
-    by Sysvol = dcText (q .party) (domainInUse c w)
-    by Io = targetText (q .party) (referralInUse c w q)
 
 -- "A move is a question put (kind, party, name, size) or a step 11 replacement (new path)." A party is its place and its text.
 pub data Move : Type 0 where
@@ -61,7 +38,7 @@ pub data Halts : Called → Rest → Type 0 where
 
 -- the question that was put where the steps rest
 unfoldable pub lastMove : Caches → List ℕ → Core → Rest → List Move
-lastMove c boot w (waits q) = question (q .kind) (q .party) (partyText c w boot q) (nameAsked w q) (q .size) ∷ []
+lastMove c boot w (waits q) = question (q .kind) (q .party) (partyOf c w boot q) (nameAsked w q) (q .size) ∷ []
 lastMove c boot w (ended e status tried) = []
 
 -- how many moves are called for at a point: one, or none at an end

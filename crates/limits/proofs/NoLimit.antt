@@ -20,6 +20,7 @@ use Rattle.steps.specs.declared.End.{End}
 use Rattle.steps.specs.declared.End.the-variants.{Done, NotDfs, NoDc, Failed, LimitReached, Malformed, TooLong, Gone}
 use Rattle.walks.specs.Walks.{hasTried}
 use Rattle.resolve.specs.Calls.{referralEvent, ioEvent}
+use Rattle.keeps.proofs.EventLaws.{picked}
 use Rattle.limits.specs.Unlimited.{Move, Makes, here, goes-on, Halts, at-end, is-put, try-long, path-long}
 
 abbrev atLimit : End → Bool
@@ -39,10 +40,8 @@ pub data NoLimit : Called → Type 0 where
   a-path : {p : List ℕ} → NoLimit (replaces p)
 
 -- either way
-picked : {A : Type 0} (P : A → Type 0) (t : Bool) {a b : A} → P a → P b → P (choose t a b)
-unfolding choose
-picked P true x y = x
-picked P false x y = y
+either-way : {A : Type 0} (P : A → Type 0) (t : Bool) {a b : A} → P a → P b → P (choose t a b)
+either-way P t {a} {b} x y = picked P t a b (λ e. x) (λ e. y)
 
 abbrev NoLimitIn : Turn → Type 0
 NoLimitIn t = NoLimit (t .called)
@@ -67,16 +66,16 @@ is-gone = an-end refl
 
 four : (w : Core) (e : Referral) → NoLimit (step4 w e)
 unfolding step4
-four w e = picked NoLimit _ a-path a-question
+four w e = either-way NoLimit _ a-path a-question
 
 seven : (w : Core) (e : Referral) → NoLimit (step7 w e)
 unfolding step7
-seven w e = picked NoLimit _ a-question (four w e)
+seven w e = either-way NoLimit _ a-question (four w e)
 
 two-with : (c : Caches) (w : Core) (clock : ℕ) (e : Option Referral) → NoLimit (step2With c w clock e)
 unfolding step2With
 two-with c w clock none = a-question
-two-with c w clock (some e) = picked NoLimit _ a-question (seven w e)
+two-with c w clock (some e) = either-way NoLimit _ a-question (seven w e)
 
 two : (c : Caches) (w : Core) (clock : ℕ) → NoLimit (step2 c w clock)
 unfolding step2
@@ -84,27 +83,27 @@ two c w clock = two-with c w clock (longest (w .path) (c .referrals))
 
 pub started-no : (c : Caches) (w : Core) (clock : ℕ) → NoLimitIn (started c w clock)
 unfolding started fromStep2
-started-no c w clock = picked NoLimitIn _ not-dfs (two c w clock)
+started-no c w clock = either-way NoLimitIn _ not-dfs (two c w clock)
 
 onward-no : (n : ℕ) (q : Question) (ask : ℕ → Question) (last : Called) → NoLimit last → NoLimit (onward n q ask last)
 unfolding onward
-onward-no n q ask last h = picked NoLimit _ h a-question
+onward-no n q ask last h = either-way NoLimit _ h a-question
 
 host-no : (w : Core) (status : ℕ) → NoLimit (failedHost w status)
 unfolding failedHost
-host-no w status = picked NoLimit _ has-failed not-dfs
+host-no w status = either-way NoLimit _ has-failed not-dfs
 
 failed-no : (c : Caches) (w : Core) (q : Question) (status : ℕ) (k : Kind) → q .kind ≡ k → NoLimit (failed c w q status)
 unfolding failed
 failed-no c w q status Dc e = rw e no-dc
-failed-no c w q status Root e = rw e (picked NoLimit _ (host-no w status) (onward-no _ _ _ _ no-dc))
+failed-no c w q status Root e = rw e (either-way NoLimit _ (host-no w status) (onward-no _ _ _ _ no-dc))
 failed-no c w q status Link e = rw e (onward-no _ _ _ _ has-failed)
 failed-no c w q status Sysvol e = rw e no-dc
 failed-no c w q status Io e = rw e has-failed
 
 fails-no : (c : Caches) (w : Core) (q : Question) (status : ℕ) → NoLimit (referralFails c w q status)
 unfolding referralFails
-fails-no c w q status = picked NoLimit _ a-question (failed-no c w q status (q .kind) refl)
+fails-no c w q status = either-way NoLimit _ a-question (failed-no c w q status (q .kind) refl)
 
 empty-no : (k : Kind) (status : ℕ) → NoLimit (ends (emptyEnd k) status)
 unfolding emptyEnd
@@ -132,7 +131,7 @@ reply-no : (c : Caches) (w : Core) (q : Question) (clock : ℕ) (r : replies.Rep
 unfolding referralAnswer storedTurn
 reply-no c w q clock malformed = is-malformed
 reply-no c w q clock nothing = empty-no (q .kind) _
-reply-no c w q clock (says r) = picked NoLimitIn _ has-failed (after-no (q .kind) w _)
+reply-no c w q clock (says r) = either-way NoLimitIn _ has-failed (after-no (q .kind) w _)
 
 succeeds-no : (c : Caches) (w : Core) (q : Question) (reply : List ℕ) (clock : ℕ) (k : Kind) → q .kind ≡ k → NoLimitIn (referralSucceeds c w q reply clock)
 unfolding referralSucceeds
@@ -145,21 +144,21 @@ succeeds-no c w q reply clock Io e = rw e is-malformed
 referral-no : (c : Caches) (w : Core) (q : Question) (status : ℕ) (reply : List ℕ) (clock : ℕ) → NoLimitIn (referralAnswered c w q status reply clock)
 unfolding referralAnswered
 referral-no c w q status reply clock =
-    picked NoLimitIn _ (picked NoLimitIn _ (fails-no c w q status) (succeeds-no c w q reply clock (q .kind) refl)) is-gone
+    either-way NoLimitIn _ (either-way NoLimitIn _ (fails-no c w q status) (succeeds-no c w q reply clock (q .kind) refl)) is-gone
 
 io-fails-no : (w : Core) (q : Question) (status : ℕ) (e : Referral) → NoLimit (ioFails w q status e)
 unfolding ioFails
 io-fails-no w q status e =
-    picked NoLimit _ (picked NoLimit _ a-question has-failed) (picked NoLimit _ (onward-no _ _ _ _ has-failed) has-failed)
+    either-way NoLimit _ (either-way NoLimit _ a-question has-failed) (either-way NoLimit _ (onward-no _ _ _ _ has-failed) has-failed)
 
 io-with-no : (c : Caches) (w : Core) (q : Question) (status : ℕ) (e : Option Referral) → NoLimitIn (ioWith c w q status e)
 unfolding ioWith
 io-with-no c w q status none = is-gone
-io-with-no c w q status (some e) = picked NoLimitIn _ (io-fails-no w q status e) done
+io-with-no c w q status (some e) = either-way NoLimitIn _ (io-fails-no w q status e) done
 
 io-no : (c : Caches) (w : Core) (q : Question) (status : ℕ) → NoLimitIn (ioAnswered c w q status)
 unfolding ioAnswered
-io-no c w q status = picked NoLimitIn _ (io-with-no c w q status _) is-gone
+io-no c w q status = either-way NoLimitIn _ (io-with-no c w q status _) is-gone
 
 -- the events of the two answers
 some-of : {t : Turn} {x : Turn} → some x ≡ some t → x ≡ t

@@ -90,7 +90,7 @@ fn said(
     if covers_nothing(q, found) {
         return steps::end_at(End::Failed, PATH_NOT_COVERED, len, left, hit);
     }
-    hints::store_answer(
+    replies::store_answer(
         refs,
         doms,
         rooms,

@@ -5,17 +5,15 @@ ghost use mathlib.Core.Bool.{true};
 ghost use mathlib.Core.List.{[]};
 ghost use Prim.Native.Nat.{_≤_, _<_};
 ghost use lib.ListN.{take};
-ghost use lib.Dec.{eqb};
-ghost use Rattle.laws.specs.Choice.{choose};
 ghost use Rattle.caches.specs.Memory.{domains, inOrder};
 ghost use Rattle.referral.specs.Found.{referralShown};
 ghost use Rattle.storing.specs.Stored.{isInterlink};
-ghost use Rattle.steps.specs.Steps.{storedTurn, targetHintSet, dcHintSet, hintSet, turned};
+ghost use Rattle.steps.specs.Steps.{storedTurn, targetHintSet, dcHintSet, turned};
 ghost use Rattle.steps.specs.Rested.{cachesOf, coreOf};
 ghost use Rattle.moves.specs.Moves.{joined, packed};
 ghost use Rattle.rounds.specs.Rounds.{questionOf, targetsUnder, dcsNamed};
 ghost use Rattle.answers.specs.Answers.{domainsLeft};
-ghost use Rattle.hints.specs.Hints.{referralsLeft, isForSysvol, Storing, Answering};
+ghost use Rattle.hints.specs.Hints.{referralsLeft, isForSysvol, Storing};
 use lookup::Found;
 use referral::ReferralFound;
 use steps::Asking;
@@ -45,7 +43,7 @@ fn is_for_sysvol(kind: Kind) -> bool
 }
 
 // The reply alone, as of a host: it has no hint.
-fn store(
+pub fn store(
     refs: &mut [u16],
     doms: &[u16],
     rooms: &mut [u16],
@@ -82,7 +80,7 @@ fn store(
 }
 
 // TargetHint of the entry in use first: a link request.
-fn store_link(
+pub fn store_link(
     refs: &mut [u16],
     doms: &[u16],
     rooms: &mut [u16],
@@ -138,7 +136,7 @@ fn store_link(
 }
 
 // DCHint of the domain first: a root or SYSVOL request to a DC.
-fn store_through(
+pub fn store_through(
     refs: &mut [u16],
     doms: &mut [u16],
     rooms: &mut [u16],
@@ -191,142 +189,4 @@ fn store_through(
     }
     lookup::set_dc_hint(doms, i, old);
     r
-}
-
-// A root request: one to a host has no hint.
-fn store_root(
-    refs: &mut [u16],
-    doms: &mut [u16],
-    rooms: &mut [u16],
-    len: usize,
-    left: u16,
-    size: u32,
-    clock: u32,
-    q: Asking,
-    reply: &[u8],
-    found: ReferralFound,
-    room: usize,
-) -> Rested
-    requires { ⌜ Storing (now refs) (now rooms) len (now reply) found × ((inOrder domains (now doms) ≡ true) × ((q .entry ≡ 0 → ⊥) → q .party < dcsNamed (take len (now rooms)) (now doms))) ⌝ }
-    ensures rest { λ r. ⌜ joined r (now (rooms .exit)) ≡ packed (turned left clock (storedTurn (choose (eqb (q .entry) 0) (cachesOf (now (refs .entry)) (now (doms .entry))) (dcHintSet (cachesOf (now (refs .entry)) (now (doms .entry))) (coreOf (take len (now (rooms .entry))) size true) (q .party))) (coreOf (take len (now (rooms .entry))) size true) (questionOf q []) (referralShown (now (reply .entry)) found) clock)) ⌝ }
-    ensures refs { λ r. ⌜ now (refs .exit) ≡ referralsLeft room left clock (storedTurn (choose (eqb (q .entry) 0) (cachesOf (now (refs .entry)) (now (doms .entry))) (dcHintSet (cachesOf (now (refs .entry)) (now (doms .entry))) (coreOf (take len (now (rooms .entry))) size true) (q .party))) (coreOf (take len (now (rooms .entry))) size true) (questionOf q []) (referralShown (now (reply .entry)) found) clock) (now (refs .entry)) ⌝ }
-    ensures doms { λ r. ⌜ now (doms .exit) ≡ domainsLeft room left clock (storedTurn (choose (eqb (q .entry) 0) (cachesOf (now (refs .entry)) (now (doms .entry))) (dcHintSet (cachesOf (now (refs .entry)) (now (doms .entry))) (coreOf (take len (now (rooms .entry))) size true) (q .party))) (coreOf (take len (now (rooms .entry))) size true) (questionOf q []) (referralShown (now (reply .entry)) found) clock) (now (doms .entry)) ⌝ }
-{
-    if q.entry == 0 {
-        return store(
-            refs,
-            doms,
-            rooms,
-            len,
-            left,
-            size,
-            clock,
-            q,
-            reply,
-            found,
-            room,
-        );
-    }
-    store_through(
-        refs,
-        doms,
-        rooms,
-        len,
-        left,
-        size,
-        clock,
-        q,
-        reply,
-        found,
-        room,
-    )
-}
-
-// The reply to a question, with the hint of the party that answered. DC replies and I/O do not come here; their arms are the definition's.
-pub fn store_answer(
-    refs: &mut [u16],
-    doms: &mut [u16],
-    rooms: &mut [u16],
-    len: usize,
-    left: u16,
-    size: u32,
-    clock: u32,
-    q: Asking,
-    reply: &[u8],
-    found: ReferralFound,
-    room: usize,
-) -> Rested
-    requires { ⌜ Answering (now refs) (now doms) (now rooms) len q (now reply) found ⌝ }
-    ensures rest { λ r. ⌜ joined r (now (rooms .exit)) ≡ packed (turned left clock (storedTurn (hintSet (cachesOf (now (refs .entry)) (now (doms .entry))) (coreOf (take len (now (rooms .entry))) size true) (questionOf q [])) (coreOf (take len (now (rooms .entry))) size true) (questionOf q []) (referralShown (now (reply .entry)) found) clock)) ⌝ }
-    ensures refs { λ r. ⌜ now (refs .exit) ≡ referralsLeft room left clock (storedTurn (hintSet (cachesOf (now (refs .entry)) (now (doms .entry))) (coreOf (take len (now (rooms .entry))) size true) (questionOf q [])) (coreOf (take len (now (rooms .entry))) size true) (questionOf q []) (referralShown (now (reply .entry)) found) clock) (now (refs .entry)) ⌝ }
-    ensures doms { λ r. ⌜ now (doms .exit) ≡ domainsLeft room left clock (storedTurn (hintSet (cachesOf (now (refs .entry)) (now (doms .entry))) (coreOf (take len (now (rooms .entry))) size true) (questionOf q [])) (coreOf (take len (now (rooms .entry))) size true) (questionOf q []) (referralShown (now (reply .entry)) found) clock) (now (doms .entry)) ⌝ }
-{
-    let kind = q.kind;
-    match kind {
-        Kind::Dc => store(
-            refs,
-            doms,
-            rooms,
-            len,
-            left,
-            size,
-            clock,
-            q,
-            reply,
-            found,
-            room,
-        ),
-        Kind::Root => store_root(
-            refs,
-            doms,
-            rooms,
-            len,
-            left,
-            size,
-            clock,
-            q,
-            reply,
-            found,
-            room,
-        ),
-        Kind::Link => store_link(
-            refs,
-            doms,
-            rooms,
-            len,
-            left,
-            size,
-            clock,
-            q,
-            reply,
-            found,
-            room,
-        ),
-        Kind::Sysvol => store_through(
-            refs,
-            doms,
-            rooms,
-            len,
-            left,
-            size,
-            clock,
-            q,
-            reply,
-            found,
-            room,
-        ),
-        Kind::Io => store_link(
-            refs,
-            doms,
-            rooms,
-            len,
-            left,
-            size,
-            clock,
-            q,
-            reply,
-            found,
-            room,
-        ),
-    }
 }

@@ -1,7 +1,7 @@
 use Rattle.hints.proofs.TurnLaws.{moved-rest, moved-refs, moved-doms, same-doms, doms-of, root-host, root-domain}
 use borrow.Author.Needs.{needs}
-use Rattle.hints.proofs.store_root.Statement.{statement}
-use Rattle.hints.proofs.store_root.Tie as tie
+use Rattle.replies.proofs.store_root.Statement.{statement}
+use Rattle.replies.proofs.store_root.Tie as tie
 
 store-requires : tie.Need-store-requires
 store-requires c κs = search needs

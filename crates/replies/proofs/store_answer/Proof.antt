@@ -1,8 +1,8 @@
 use denote.Ref.{now}
 use Rattle.hints.proofs.TurnLaws.{moved-rest, moved-refs, moved-doms, same-doms, doms-of, link-doms, hint-dc, hint-root, hint-link, hint-sysvol, hint-io, link-party, io-party, sysvol-party, root-party}
 use borrow.Author.Needs.{needs}
-use Rattle.hints.proofs.store_answer.Statement.{statement}
-use Rattle.hints.proofs.store_answer.Tie as tie
+use Rattle.replies.proofs.store_answer.Statement.{statement}
+use Rattle.replies.proofs.store_answer.Tie as tie
 
 enum-told : tie.Need-enum-told
 enum-told c = search needs

@@ -1,0 +1,1 @@
+-- A reply by the kind of its question; its words are those of `hints`.

@@ -1,11 +1,12 @@
 -- Laws of the ways in which listing ends.
 use mathlib.Core.Path.{_≡_, refl, sym, ap, _∙_}
-use mathlib.Core.Bool.{true, false}
+use mathlib.Core.Bool.{Bool, true, false}
 use mathlib.Core.List.{List}
 use Prim.Native.Nat.{ℕ, _≤_, _<_}
 use native.Mathlib.Nat.{zero-add}
 use native.Mathlib.Omega.{arith}
 use lib.ListN.{length}
+use lib.Dec.{leb}
 use borrow.Author.Tests.{le-leb, lt-leb}
 use Rattle.laws.specs.Choice.{choose}
 use Rattle.laws.proofs.Choices.{choose-yes, choose-no}
@@ -13,7 +14,7 @@ use Rattle.places.specs.Layout.{placeCount}
 use Rattle.caches.specs.Memory.{referrals, decode, inOrder}
 use Rattle.caches.proofs.MemoryLaws.{cache-told, order-good, length-decode}
 use Rattle.spelling.specs.Spelling.{Put}
-use Rattle.listing.specs.Listed.{textOf, listed, bufferAfter}
+use Rattle.listing.specs.Listed.{textOf, refusalNumber, listNumber, listed, bufferAfter}
 use Rattle.listing.specs.declared.Answer.{Answer}
 use Rattle.listing.specs.declared.Answer.the-variants.{NotInOrder, TooShort, Units}
 
@@ -37,3 +38,15 @@ module _ (raw out : List ℕ) where
   was-listed h e l w =
       let s = le-leb (length (textOf raw)) (length out) (omega arith) in
       (ap Units (w .end ∙ zero-add (length (textOf raw))) ∙ sym (choose-yes _ _ h ∙ choose-yes _ _ s), w .memory ∙ sym (choose-yes _ _ h ∙ choose-yes _ _ s))
+
+numbers : (a b : Bool) (n : ℕ) → refusalNumber (choose a (choose b (Units n) TooShort) NotInOrder) ≡ choose a (choose b 0 10) 4
+unfolding refusalNumber choose
+numbers true true n = refl
+numbers true false n = refl
+numbers false b n = refl
+
+-- the number of the answer, beside the answer and the buffer
+pub numbered : (raw out : List ℕ) {v : Answer} {o : List ℕ} → (v ≡ listed raw (length out)) × (o ≡ bufferAfter raw out)
+    → (refusalNumber v ≡ listNumber raw (length out)) × ((v ≡ listed raw (length out)) × (o ≡ bufferAfter raw out))
+unfolding listed listNumber
+numbered raw out w = (ap refusalNumber (w .0) ∙ numbers (inOrder referrals raw) (leb (length (textOf raw)) (length out)) (length (textOf raw)), w)

@@ -20,7 +20,11 @@ refusalNumber (Units n) = 0
 refusalNumber NotInOrder = 4
 refusalNumber TooShort = 10
 
--- 4 before 10; else how many units the text has
+-- 4 before 10
+unfoldable pub listNumber : List ℕ → ℕ → ℕ
+listNumber raw room = choose (inOrder referrals raw) (choose (leb (length (textOf raw)) room) 0 10) 4
+
+-- and the answer: how many units the text has
 unfoldable pub listed : List ℕ → ℕ → Answer
 listed raw room = choose (inOrder referrals raw) (choose (leb (length (textOf raw)) room) (Units (length (textOf raw))) TooShort) NotInOrder
 

@@ -22,19 +22,19 @@ same-length : tie.Need-same-length
 same-length c = search needs
 
 returns : tie.Need-returns
-returns c = (order-shown _ _ (c .before .before .before .before .list .ensures .0) (c .enum-told .given .1), c .before .before .before .before .list .ensures .1)
+returns c = (order-shown _ _ (c .before .before .before .before .list .ensures .1 .0) (c .enum-told .given .1), c .before .before .before .before .list .ensures .1 .1)
 
 same-length-2 : tie.Need-same-length-2
 same-length-2 c = search needs
 
 returns-2 : tie.Need-returns-2
-returns-2 c = (room-shown _ _ (c .before .before .before .before .list .ensures .0) (c .enum-told2 .given .1), c .before .before .before .before .list .ensures .1)
+returns-2 c = (room-shown _ _ (c .before .before .before .before .list .ensures .1 .0) (c .enum-told2 .given .1), c .before .before .before .before .list .ensures .1 .1)
 
 same-length-3 : tie.Need-same-length-3
 same-length-3 c = search needs
 
 returns-3 : tie.Need-returns-3
-returns-3 c = (units-shown _ _ _ (c .before .before .before .before .before .list .ensures .0) (c .before .a .given .1), c .before .before .before .before .before .list .ensures .1)
+returns-3 c = (units-shown _ _ _ (c .before .before .before .before .before .list .ensures .1 .0) (c .before .a .given .1), c .before .before .before .before .before .list .ensures .1 .1)
 
 pub list-units-spec : {M : Type 1} → statement M
 list-units-spec =

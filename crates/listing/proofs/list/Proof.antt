@@ -4,7 +4,7 @@ use mathlib.Core.Path.{sym, _∙_}
 use native.Mathlib.Omega.{arith}
 use borrow.Author.Tests.{not-true, not-false}
 use borrow.Author.Needs.{needs}
-use Rattle.listing.proofs.ListLaws.{no-order, no-room, was-listed, few-places}
+use Rattle.listing.proofs.ListLaws.{no-order, no-room, was-listed, few-places, numbered}
 use Rattle.listing.proofs.list.Statement.{statement}
 use Rattle.listing.proofs.list.Tie as tie
 
@@ -12,13 +12,15 @@ referrals-in-order-requires : tie.Need-referrals-in-order-requires
 referrals-in-order-requires c κs = search needs
 
 returns : tie.Need-returns
-returns c = no-order (now (c .before .before .before .before .args .referrals)) _ (sym (c .before .referrals-in-order .ensures) ∙ not-true _ (c .if1 .taken))
+returns c =
+    numbered (now (c .before .before .before .before .args .referrals)) (now (c .before .before .before .before .args .out)) (no-order (now (c .before .before .before .before .args .referrals)) _ (sym (c .before .referrals-in-order .ensures) ∙ not-true _ (c .if1 .taken)))
 
 listing-units-requires : tie.Need-listing-units-requires
 listing-units-requires c κs = few-places (now (c .before .before .before .before .args .referrals)) (sym (c .before .referrals-in-order .ensures) ∙ not-false _ (c .if1 .left))
 
 returns-2 : tie.Need-returns-2
-returns-2 c = no-room (now (c .before .before .before .before .before .before .args .referrals)) _ (sym (c .before .before .before .referrals-in-order .ensures) ∙ not-false _ (c .before .before .if1 .left)) (c .before .listing-units .ensures) (omega arith)
+returns-2 c =
+    numbered (now (c .before .before .before .before .before .before .args .referrals)) (now (c .before .before .before .before .before .before .args .out)) (no-room (now (c .before .before .before .before .before .before .args .referrals)) _ (sym (c .before .before .before .referrals-in-order .ensures) ∙ not-false _ (c .before .before .if1 .left)) (c .before .listing-units .ensures) (omega arith))
 
 put-listing-requires : tie.Need-put-listing-requires
 put-listing-requires c κs = omega (arith, c .before .before .listing-units .ensures)
@@ -27,7 +29,8 @@ same-length : tie.Need-same-length
 same-length c = search needs
 
 returns-3 : tie.Need-returns-3
-returns-3 c = was-listed (now (c .before .before .before .before .before .before .before .before .before .before .args .referrals)) (now (c .before .before .before .before .before .before .before .before .before .before .args .out)) (sym (c .before .before .before .before .before .before .before .referrals-in-order .ensures) ∙ not-false _ (c .before .before .before .before .before .before .if1 .left)) (c .before .before .before .before .before .listing-units .ensures) (omega arith) (c .before .before .put-listing .ensures)
+returns-3 c =
+    numbered (now (c .before .before .before .before .before .before .before .before .before .before .args .referrals)) (now (c .before .before .before .before .before .before .before .before .before .before .args .out)) (was-listed (now (c .before .before .before .before .before .before .before .before .before .before .args .referrals)) (now (c .before .before .before .before .before .before .before .before .before .before .args .out)) (sym (c .before .before .before .before .before .before .before .referrals-in-order .ensures) ∙ not-false _ (c .before .before .before .before .before .before .if1 .left)) (c .before .before .before .before .before .listing-units .ensures) (omega arith) (c .before .before .put-listing .ensures))
 
 pub list-spec : {M : Type 1} → statement M
 list-spec =

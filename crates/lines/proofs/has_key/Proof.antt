@@ -1,0 +1,30 @@
+use mathlib.Core.Path.{sym}
+use lib.ListN.{length}
+use lib.Seq.{length-take-le}
+use denote.Ref.{now}
+use native.Mathlib.Omega.{arith}
+use Rattle.lines.specs.Lines.{hasKey}
+use Rattle.lines.proofs.LineLaws.{key-short}
+use borrow.Author.Needs.{needs}
+use Rattle.lines.proofs.has_key.Statement.{statement}
+use Rattle.lines.proofs.has_key.Tie as tie
+use Rattle.lines.proofs.has_key.Reads as reads
+use Rattle.lines.proofs.has_key.Lts as lts
+use Rattle.lines.proofs.same_units.Reads as same-units-reads
+
+returns : tie.Need-returns
+returns c = key-short _ _ (c .if1 .taken)
+
+slice-aggregate-same-units : tie.Need-slice-aggregate-same-units
+slice-aggregate-same-units c = sym (length-take-le (length (now (c .before .before .before .before .args .key))) (now (c .before .before .before .before .args .line)) (omega arith))
+
+same-units-requires : tie.Need-same-units-requires
+same-units-requires c κs = search needs
+
+returns-2 : tie.Need-returns-2
+unfolding hasKey
+returns-2 c = c .same-units .ensures
+
+pub has-key-spec : {M : Type 1} → statement M
+has-key-spec =
+    tie.close (tie.spec returns slice-aggregate-same-units same-units-requires returns-2)

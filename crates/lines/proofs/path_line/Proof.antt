@@ -1,0 +1,95 @@
+use denote.Ref.{now}
+use mathlib.Core.Path.{ap, sym, subst, _∙_}
+use mathlib.Core.Bool.{true}
+use mathlib.Core.List.{List}
+use lib.ListN.{length}
+use Prim.Native.Nat.{ℕ, _-_}
+use native.Mathlib.Omega.{arith}
+use borrow.Author.Tests.{not-true, not-false}
+use Rattle.caches.specs.Order.{goodPrefix}
+use Rattle.unspelling.specs.Reading.{spelledForm, unspelled, isSpelled}
+use Rattle.lines.proofs.LineLaws.{path-other, path-bad, path-said, key-fits, tail-value, spelled-good}
+use borrow.Author.Needs.{needs}
+use Rattle.lines.proofs.path_line.Statement.{statement}
+use Rattle.lines.proofs.path_line.Tie as tie
+use Rattle.lines.proofs.path_line.Reads as reads
+use Rattle.lines.proofs.path_line.Lts as lts
+use Rattle.lines.proofs.good_value.Reads as good-value-reads
+use Rattle.lines.proofs.has_key.Reads as has-key-reads
+use Rattle.unspelling.proofs.spelled_form.Reads as spelled-form-reads
+
+has-key-requires : tie.Need-has-key-requires
+has-key-requires c κs = search needs
+
+returns : tie.Need-returns
+returns c = path-other (now (c .before .before .before .before .args .key)) (now (c .before .before .before .before .args .line)) (c .before .has-key .ensures) (not-true _ (c .if1 .taken))
+
+mul-spelled-form : tie.Need-mul-spelled-form
+mul-spelled-form c = search needs
+
+sub-spelled-form : tie.Need-sub-spelled-form
+sub-spelled-form c = omega (arith, key-fits (now (c .before .before .before .before .args .key)) (now (c .before .before .before .before .args .line)) (c .before .has-key .ensures) (not-false _ (c .if1 .left)))
+
+part-spelled-form-start : tie.Need-part-spelled-form-start
+part-spelled-form-start c = omega (arith, key-fits (now (c .before .before .before .before .args .key)) (now (c .before .before .before .before .args .line)) (c .before .has-key .ensures) (not-false _ (c .if1 .left)))
+
+part-spelled-form-end : tie.Need-part-spelled-form-end
+part-spelled-form-end c = search needs
+
+spelled-form-requires : tie.Need-spelled-form-requires
+spelled-form-requires c κs = search needs
+
+enum-known-n : tie.Need-enum-known-n
+enum-known-n c = search needs
+
+enum-told : tie.Need-enum-told
+enum-told c = search needs
+
+returns-2 : tie.Need-returns-2
+returns-2 c =
+    path-bad (now (c .before .before .before .before .before .before .before .before .args .key)) (now (c .before .before .before .before .before .before .before .before .args .line))
+    (c .before .before .spelled-form .ensures ∙ ap spelledForm (tail-value (now (c .before .before .before .before .before .before .before .before .args .key)) (now (c .before .before .before .before .before .before .before .before .args .line)) (length (now (c .before .before .before .before .before .before .before .before .args .line)) - length (now (c .before .before .before .before .before .before .before .before .args .key))) (omega arith))) (c .enum-told .given .1)
+
+mul-good-value : tie.Need-mul-good-value
+mul-good-value c = search needs
+
+sub-good-value : tie.Need-sub-good-value
+sub-good-value c = omega (arith, key-fits (now (c .before .before .before .before .before .before .before .before .before .args .key)) (now (c .before .before .before .before .before .before .before .before .before .args .line)) (c .before .before .before .before .before .before .has-key .ensures) (not-false _ (c .before .before .before .before .before .if1 .left)))
+
+part-good-value-start : tie.Need-part-good-value-start
+part-good-value-start c = omega (arith, key-fits (now (c .before .before .before .before .before .before .before .before .before .args .key)) (now (c .before .before .before .before .before .before .before .before .before .args .line)) (c .before .before .before .before .before .before .has-key .ensures) (not-false _ (c .before .before .before .before .before .if1 .left)))
+
+part-good-value-end : tie.Need-part-good-value-end
+part-good-value-end c = search needs
+
+good-value-requires : tie.Need-good-value-requires
+good-value-requires c κs = spelled-good _ (c .before .before .before .before .spelled-form .ensures) (c .before .before .n .given .1)
+
+returns-3 : tie.Need-returns-3
+returns-3 c =
+    let key = now (c .before .before .before .before .before .before .before .before .before .before .before .args .key) in
+    let line = now (c .before .before .before .before .before .before .before .before .before .before .before .args .line) in
+    let w = spelled-good _ (c .before .before .before .before .before .spelled-form .ensures) (c .before .before .before .n .given .1) in
+    path-said key line (c .before .before .before .before .before .before .before .before .has-key .ensures) (not-false _ (c .before .before .before .before .before .before .before .if1 .left)) (sym (ap isSpelled (tail-value key line (length line - length key) (omega arith))) ∙ w .0)
+    (c .good-value .ensures ∙ ap (λ (x : List ℕ). goodPrefix (unspelled x)) (tail-value key line (length line - length key) (omega arith)))
+
+pub path-line-spec : {M : Type 1} → statement M
+path-line-spec =
+    tie.close
+    (tie.spec
+    has-key-requires
+    returns
+    mul-spelled-form
+    sub-spelled-form
+    part-spelled-form-start
+    part-spelled-form-end
+    spelled-form-requires
+    enum-known-n
+    enum-told
+    returns-2
+    mul-good-value
+    sub-good-value
+    part-good-value-start
+    part-good-value-end
+    good-value-requires
+    returns-3)

@@ -1,0 +1,2 @@
+-- Document 01, "The listing": what one line says.
+pub mod Lines

@@ -1,0 +1,35 @@
+-- Whether one line, without its end, is a key and a value that is spelled as the listing spells it, and what it says.
+use Prim.Native.Nat.{ℕ, suc}
+use mathlib.Core.Bool.{Bool, _&&_}
+use mathlib.Core.List.{List, [], _∷_}
+use lib.ListN.{length, drop, take}
+use lib.Dec.{eqb, leb, ltb}
+use Rattle.laws.specs.Choice.{choose}
+use Rattle.laws.specs.Listed.{sameList}
+use Rattle.caches.specs.Order.{goodPrefix}
+use Rattle.listing.specs.Form.{pathLine, numberLine}
+use Rattle.unspelling.specs.Reading.{unspelled, decimalOf}
+use Rattle.unspelling.specs.declared.Number.{Number}
+use Rattle.unspelling.specs.declared.Number.the-variants.{None, Value}
+
+-- how many units stand before the next unit 0A hex, or before the end
+unfoldable pub lineLength : List ℕ → ℕ
+lineLength [] = 0
+lineLength (u ∷ s) = choose (eqb u 10) 0 (suc (lineLength s))
+
+-- what stands after a key
+unfoldable pub valueOf : List ℕ → List ℕ → List ℕ
+valueOf key line = drop (length key) line
+
+-- a line begins with a key
+unfoldable pub hasKey : List ℕ → List ℕ → Bool
+hasKey key line = sameList key (take (length key) line)
+
+-- a line of a prefix or a target
+unfoldable pub isPathLine : List ℕ → List ℕ → Bool
+isPathLine key line = sameList (pathLine key (unspelled (valueOf key line))) line && goodPrefix (unspelled (valueOf key line))
+
+-- a line of a number, and which
+unfoldable pub numberSaid : List ℕ → List ℕ → Number
+numberSaid key line =
+    choose (ltb (decimalOf (valueOf key line)) 4294967296 && sameList (numberLine key (decimalOf (valueOf key line))) line) (Value (decimalOf (valueOf key line))) None

@@ -18,9 +18,10 @@ use Rattle.questions.specs.Questions.{restFits}
 use Rattle.walks.specs.Walks.{goodLimit, goodSettings, bootIn, inForm}
 use Rattle.walks.specs.declared.Walk.{Walk}
 use Rattle.turns.specs.Turns.{coreIn}
-use Rattle.resolve.specs.Calls.{refusalNumber, Left, refused, closes, startRest, startCall, refusedAnswer, restIn, referralEvent, ioEvent, answers, answerCall, referralCall, ioCall}
-use Rattle.resolve.specs.declared.Verdict.{Verdict}
-use Rattle.resolve.specs.declared.Verdict.the-variants.{Taken, BadPath, LongPath, BadSettings, NotInOrder, OutOfForm, ShortBuffer}
+use Rattle.closing.specs.Closing.{Left, refused, closes}
+use Rattle.resolve.specs.Calls.{refusalNumber, startRest, startCall, refusedAnswer, restIn, referralEvent, ioEvent, answers, answerCall, referralCall, ioCall}
+use Rattle.closing.specs.declared.Verdict.{Verdict}
+use Rattle.closing.specs.declared.Verdict.the-variants.{Taken, BadPath, LongPath, BadSettings, NotInOrder, OutOfForm, ShortBuffer}
 use Rattle.keeps.specs.Keeps.{Proper, StartKeeps, AnswerKeeps, CallsKeep}
 use Rattle.keeps.specs.Named.{referralNames, ioNames, domainNames, Elsewhere}
 use Rattle.keeps.proofs.NamedLaws.{same-elsewhere}

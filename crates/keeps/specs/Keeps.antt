@@ -10,8 +10,9 @@ use Rattle.steps.specs.Rested.{cachesOf, nextOf, triedOf}
 use Rattle.walks.specs.Walks.{nextInForm, inForm}
 use Rattle.walks.specs.declared.Walk.{Walk}
 use Rattle.turns.specs.Turns.{coreIn}
-use Rattle.resolve.specs.Calls.{Left, refused, startCall, Answered, refusedAnswer, restIn, referralCall, ioCall}
-use Rattle.resolve.specs.declared.Verdict.the-variants.{Taken}
+use Rattle.closing.specs.Closing.{Left, refused}
+use Rattle.resolve.specs.Calls.{startCall, Answered, refusedAnswer, restIn, referralCall, ioCall}
+use Rattle.closing.specs.declared.Verdict.the-variants.{Taken}
 use Rattle.keeps.specs.Named.{referralNames, ioNames, domainNames, Elsewhere}
 
 -- both caches are in order, as what they hold

@@ -25,9 +25,10 @@ use Rattle.questions.specs.Questions.{restFits, outAfter}
 use Rattle.walks.specs.Walks.{goodLimit, goodSettings, inForm, bootIn, walkOf, textsAfter}
 use Rattle.walks.specs.declared.Walk.{Walk}
 use Rattle.turns.specs.Turns.{coreIn}
-use Rattle.resolve.specs.Calls.{Left, Answered, refused, refusedAnswer, closes, startRest, startCall, answers, answerCall, referralCall, ioCall, restIn}
-use Rattle.resolve.specs.declared.Verdict.{Verdict}
-use Rattle.resolve.specs.declared.Verdict.the-variants.{Taken, BadPath, LongPath, BadSettings, NotInOrder, OutOfForm, ShortBuffer}
+use Rattle.closing.specs.Closing.{Left, refused, closes}
+use Rattle.resolve.specs.Calls.{Answered, refusedAnswer, startRest, startCall, answers, answerCall, referralCall, ioCall, restIn}
+use Rattle.closing.specs.declared.Verdict.{Verdict}
+use Rattle.closing.specs.declared.Verdict.the-variants.{Taken, BadPath, LongPath, BadSettings, NotInOrder, OutOfForm, ShortBuffer}
 use Rattle.limits.specs.Unlimited.{Opening, opens, refuses, restsAt}
 use Rattle.limits.specs.Calls.{Held, Start, Answer, referral, io, start, run, answered, answerClock, answerOut, seen, startOpening, eventOf, eventOpening, answerOpening}
 use Rattle.limits.proofs.Classify.{Fine, Closed, Followed, CutOff, classified, turned-away}

@@ -12,8 +12,8 @@ use Rattle.steps.specs.declared.End.the-variants.{LimitReached}
 use Rattle.questions.specs.Questions.{requestName, nameFits, restFits, withRequest}
 use Rattle.walks.specs.Walks.{inForm, bootIn}
 use Rattle.resolve.specs.Calls.{Answered}
-use Rattle.resolve.specs.declared.Verdict.{Verdict}
-use Rattle.resolve.specs.declared.Verdict.the-variants.{Taken, ShortBuffer}
+use Rattle.closing.specs.declared.Verdict.{Verdict}
+use Rattle.closing.specs.declared.Verdict.the-variants.{Taken, ShortBuffer}
 use Rattle.limits.specs.Unlimited.{Move, Opening, opens, refuses, Unlimited, Made, madeIn, restsAt, lastMove, callsOne, Rests, CallsForMore, Brings, number, comes, Call, short, taken, refused, CallsFor, Within, rests as within-rests}
 use Rattle.limits.specs.Calls.{seen, Moved, no-move, to-rest, to-limit, Same, same-number, same-rest}
 use Rattle.limits.proofs.Goes.{ToRest, Cut, rests-or-cut}

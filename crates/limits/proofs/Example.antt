@@ -21,7 +21,7 @@ use Rattle.steps.specs.Steps.{Caches, Core, Called, replaces, Turn, ended, star
 use Rattle.steps.specs.Rested.{cachesOf, coreOf}
 use Rattle.steps.specs.declared.End.the-variants.{LimitReached}
 use Rattle.walks.specs.declared.Walk.{Walk}
-use Rattle.resolve.specs.declared.Verdict.the-variants.{Taken}
+use Rattle.closing.specs.declared.Verdict.the-variants.{Taken}
 use Rattle.domains.specs.Domains.{goodSize}
 use Rattle.keeps.specs.Keeps.{GoodCaches}
 use Rattle.keeps.proofs.BackLaws.{caches-back, caches-order}

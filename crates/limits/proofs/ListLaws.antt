@@ -23,9 +23,10 @@ use Rattle.steps.specs.declared.End.the-variants.{LimitReached}
 use Rattle.questions.specs.Questions.{requestName, nameFits}
 use Rattle.walks.specs.Walks.{goodLimit, inForm, bootIn}
 use Rattle.turns.specs.Turns.{coreIn}
-use Rattle.resolve.specs.Calls.{Answered, Left, refused, refusedAnswer, restIn, referralEvent, ioEvent, referralCall, ioCall}
-use Rattle.resolve.specs.declared.Verdict.{Verdict}
-use Rattle.resolve.specs.declared.Verdict.the-variants.{Taken, ShortBuffer}
+use Rattle.closing.specs.Closing.{Left, refused}
+use Rattle.resolve.specs.Calls.{Answered, refusedAnswer, restIn, referralEvent, ioEvent, referralCall, ioCall}
+use Rattle.closing.specs.declared.Verdict.{Verdict}
+use Rattle.closing.specs.declared.Verdict.the-variants.{Taken, ShortBuffer}
 use Rattle.keeps.specs.Keeps.{Proper, StartKeeps, AnswerKeeps}
 use Rattle.keeps.proofs.RestLaws.{GoodTurn, turned-proper}
 use Rattle.keeps.proofs.EventLaws.{path-counted, started-proper, referral-good, io-good}

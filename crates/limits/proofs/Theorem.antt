@@ -18,9 +18,10 @@ use Rattle.steps.specs.declared.End.{End}
 use Rattle.steps.specs.declared.End.the-variants.{LimitReached}
 use Rattle.questions.specs.Questions.{requestName, nameFits, withRequest}
 use Rattle.walks.specs.Walks.{goodLimit}
-use Rattle.resolve.specs.Calls.{Answered, Left, refused, refusedAnswer}
-use Rattle.resolve.specs.declared.Verdict.{Verdict}
-use Rattle.resolve.specs.declared.Verdict.the-variants.{Taken, BadPath, LongPath, BadSettings, NotInOrder, OutOfForm, ShortBuffer}
+use Rattle.closing.specs.Closing.{Left, refused}
+use Rattle.resolve.specs.Calls.{Answered, refusedAnswer}
+use Rattle.closing.specs.declared.Verdict.{Verdict}
+use Rattle.closing.specs.declared.Verdict.the-variants.{Taken, BadPath, LongPath, BadSettings, NotInOrder, OutOfForm, ShortBuffer}
 use Rattle.limits.specs.Unlimited.{Move, Opening, opens, refuses, Unlimited, Made, madeIn, restsAt, lastMove, callsOne, Halts, at-end, is-put, try-long, path-long, Rests, CallsForMore, Brings, number, comes, Call, refused as call-refused, short, taken, CallsFor, Within}
 use Rattle.limits.specs.Calls.{Held, Start, Answer, Calls, start, then, run, answered, InList, the-start, an-answer, answerClock, answerOut, clockOf, outOf, seen, startOpening, answerOpening, opening, before, Follows, begins, is-refused, is-taken, Comes, to-start, to-answer, Moved, no-move, to-rest, to-limit, Same, same-number, same-rest}
 use Rattle.limits.specs.Limits.{MovesOf, SameIn, EndsIn, WaitsAfter, TooShort, LimitOnlyCuts}

@@ -18,9 +18,10 @@ use Rattle.steps.specs.declared.End.the-variants.{LimitReached}
 use Rattle.walks.specs.declared.Walk.{Walk}
 use Rattle.questions.specs.Questions.{requestName, withRequest}
 use Rattle.turns.specs.Turns.{coreIn}
-use Rattle.resolve.specs.Calls.{Left, Answered, startCall, referralCall, ioCall, restIn, referralEvent, ioEvent}
-use Rattle.resolve.specs.declared.Verdict.{Verdict}
-use Rattle.resolve.specs.declared.Verdict.the-variants.{Taken, BadPath, LongPath, BadSettings, NotInOrder, OutOfForm}
+use Rattle.closing.specs.Closing.{Left}
+use Rattle.resolve.specs.Calls.{Answered, startCall, referralCall, ioCall, restIn, referralEvent, ioEvent}
+use Rattle.closing.specs.declared.Verdict.{Verdict}
+use Rattle.closing.specs.declared.Verdict.the-variants.{Taken, BadPath, LongPath, BadSettings, NotInOrder, OutOfForm}
 use Rattle.limits.specs.Unlimited.{Opening, refuses, opens, Unlimited, Move, Made, Rests, CallsForMore, Brings, Call, number, comes, CallsFor, restsAt, madeIn}
 
 -- the lent memory of a walk: the walk, its texts, both caches

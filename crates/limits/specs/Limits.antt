@@ -12,8 +12,8 @@ use Rattle.steps.specs.declared.End.{End}
 use Rattle.steps.specs.declared.End.the-variants.{LimitReached}
 use Rattle.questions.specs.Questions.{requestName}
 use Rattle.resolve.specs.Calls.{Answered}
-use Rattle.resolve.specs.declared.Verdict.{Verdict}
-use Rattle.resolve.specs.declared.Verdict.the-variants.{Taken, ShortBuffer}
+use Rattle.closing.specs.declared.Verdict.{Verdict}
+use Rattle.closing.specs.declared.Verdict.the-variants.{Taken, ShortBuffer}
 use Rattle.limits.specs.Unlimited.{Move, Opening, opens, Unlimited, Made, madeIn, restsAt, Rests, Brings, number, comes, Call, CallsFor, Within}
 use Rattle.limits.specs.Calls.{Held, Start, Answer, Calls, start, then, run, InList, clockOf, outOf, seen, Comes, opening, before, Moved, Same}
 

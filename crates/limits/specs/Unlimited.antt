@@ -14,8 +14,8 @@ use Rattle.steps.specs.declared.End.{End}
 use Rattle.steps.specs.declared.End.the-variants.{TooLong}
 use Rattle.questions.specs.Questions.{requestName, nameFits}
 use Rattle.shown.specs.Shown.{partyOf}
-use Rattle.resolve.specs.declared.Verdict.{Verdict}
-use Rattle.resolve.specs.declared.Verdict.the-variants.{ShortBuffer}
+use Rattle.closing.specs.declared.Verdict.{Verdict}
+use Rattle.closing.specs.declared.Verdict.the-variants.{ShortBuffer}
 
 -- "A move is a question put (kind, party, name, size) or a step 11 replacement (new path)." A party is its place and its text.
 pub data Move : Type 0 where

@@ -20,7 +20,7 @@ use Rattle.steps.specs.declared.End.{End}
 use Rattle.steps.specs.declared.End.the-variants.{Done, NotDfs, NoDc, Failed, LimitReached, Malformed, TooLong, Gone}
 use Rattle.walks.specs.Walks.{hasTried}
 use Rattle.resolve.specs.Calls.{referralEvent, ioEvent}
-use Rattle.keeps.proofs.EventLaws.{picked}
+use Rattle.keeps.proofs.CalledLaws.{picked}
 use Rattle.limits.specs.Unlimited.{Move, Makes, here, goes-on, Halts, at-end, is-put, try-long, path-long}
 
 abbrev atLimit : End → Bool

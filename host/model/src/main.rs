@@ -38,6 +38,8 @@ struct Host {
     units: Vec<u16>,
     caches: Option<Caches>,
     walk: Option<Walk>,
+    /// Another walk over the same caches, which waits meanwhile.
+    other: (Vec<u16>, Option<Walk>),
 }
 
 type Outcome = Result<(), String>;
@@ -77,13 +79,19 @@ impl Host {
     fn new(r: &mut Random, now: u32) -> Host {
         let caches = scenes::caches(r, now);
         let units = vec![r.one_of(&[0, FILL]); WALK];
-        Host { refs: lent::referral_units(&caches.referrals), doms: lent::domain_units(&caches.domains), units, caches: Some(caches), walk: None }
+        let (refs, doms) = (lent::referral_units(&caches.referrals), lent::domain_units(&caches.domains));
+        Host { refs, doms, units, caches: Some(caches), walk: None, other: (vec![0; WALK], None) }
     }
 
     fn lend(&mut self, caches: Caches) {
         self.refs = lent::referral_units(&caches.referrals);
         self.doms = lent::domain_units(&caches.domains);
         self.caches = Some(caches);
+    }
+
+    fn change_walks(&mut self) {
+        std::mem::swap(&mut self.units, &mut self.other.0);
+        std::mem::swap(&mut self.walk, &mut self.other.1);
     }
 
     /// Units changed or lengths off, in the caches or in the walk.
@@ -269,6 +277,7 @@ impl Host {
 fn scene(r: &mut Random, counts: &mut Counts) -> Outcome {
     let mut now = scenes::clock(r);
     let mut host = Host::new(r, now);
+    let changes = r.one_of(&[0, 0, 30]);
     for _ in 0..1 + r.below(5) {
         host.call(r, now, true, counts)?;
         // to the end of the walk; now and then an answer after it, or a walk that is left
@@ -282,6 +291,9 @@ fn scene(r: &mut Random, counts: &mut Counts) -> Outcome {
             if r.in_hundred(5) {
                 counts.calls += 1;
                 host.read_domains(r, counts)?;
+            }
+            if r.in_hundred(changes) {
+                host.change_walks();
             }
         }
     }

@@ -63,10 +63,16 @@ fn target_path(r: &mut Random) -> Text {
     path
 }
 
+// Some of them stand there more than once.
 fn targets(r: &mut Random, most: usize) -> Vec<Target> {
     let count = 1 + r.below(most);
-    let often = r.one_of(&[0, 30, 60]);
-    (0..count).map(|i| Target { path: target_path(r), boundary: i > 0 && r.in_hundred(often) }).collect()
+    let (boundaries, repeated) = (r.one_of(&[0, 30, 60]), r.one_of(&[0, 0, 60]));
+    let mut list: Vec<Target> = vec![];
+    for i in 0..count {
+        let path = if i > 0 && r.in_hundred(repeated) { r.one_of(&list).path } else { target_path(r) };
+        list.push(Target { path, boundary: i > 0 && r.in_hundred(boundaries) });
+    }
+    list
 }
 
 fn ttl(r: &mut Random) -> u32 {
@@ -242,8 +248,10 @@ fn laid_out(r: &mut Random, mut bytes: Vec<u8>, entries: Vec<Entry>) -> Vec<u8> 
     let inside = r.in_hundred(50);
     let pad = r.one_of(&[0, 0, 0, 1, 2, 5]);
     let mut later: Vec<(usize, usize, Vec<u8>)> = vec![];
+    let mut last = (0, 0);
     for e in entries {
         let at = bytes.len();
+        last = (at, e.fixed.len());
         bytes.extend(&e.fixed);
         bytes.extend(vec![0xA7; pad]);
         for (field, string) in e.strings {
@@ -266,6 +274,11 @@ fn laid_out(r: &mut Random, mut bytes: Vec<u8>, entries: Vec<Entry>) -> Vec<u8> 
             bytes.extend(string);
         }
         set(&mut bytes, at + field, to - at);
+    }
+    // the last entry is as long as its fixed part, or reaches to the end; or is a byte too short, or too long
+    if last.0 > 0 && r.in_hundred(6) {
+        let to_end = bytes.len() - last.0;
+        set(&mut bytes, last.0 + 2, r.one_of(&[last.1 - 1, last.1, to_end, to_end + 1]));
     }
     bytes
 }
@@ -290,7 +303,8 @@ fn spelled(r: &mut Random, path: &[u16]) -> Text {
 // Targets of a reply: others than those held, or those held in another order, perhaps with one more or less.
 fn reply_targets(r: &mut Random, held: Option<&Referral>) -> Vec<Target> {
     let Some(held) = held.filter(|_| r.in_hundred(70)) else {
-        return targets(r, 12);
+        let most = if r.in_hundred(1) { 200 } else { 12 };
+        return targets(r, most);
     };
     let mut list = held.targets.clone();
     for _ in 0..r.one_of(&[0, 1, 1, 4]) {
@@ -298,7 +312,7 @@ fn reply_targets(r: &mut Random, held: Option<&Referral>) -> Vec<Target> {
         let path = list[i].path.clone();
         list[i].path = std::mem::replace(&mut list[j].path, path);
     }
-    match r.below(8) {
+    match r.below(10) {
         0 if list.len() > 1 => {
             list.remove(r.below(list.len()));
         }
@@ -313,6 +327,11 @@ fn reply_targets(r: &mut Random, held: Option<&Referral>) -> Vec<Target> {
         3 => {
             let i = r.below(list.len());
             list[i].boundary ^= true;
+        }
+        4 => {
+            // one target twice, another not at all
+            let (i, j) = (r.below(list.len()), r.below(list.len()));
+            list[i].path = list[j].path.clone();
         }
         _ => {}
     }

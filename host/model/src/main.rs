@@ -96,7 +96,7 @@ impl Host {
 
     /// Units changed or lengths off, in the caches or in the walk.
     fn damage(&mut self, r: &mut Random) {
-        match r.below(8) {
+        match r.below(9) {
             0 | 1 => scenes::poked(r, &mut self.refs, PLACE),
             2 => scenes::poked(r, &mut self.doms, PLACE),
             3 => {
@@ -108,6 +108,8 @@ impl Host {
                 self.doms.resize(to, 0);
             }
             5 => self.units.resize(r.one_of(&[0, 31, 32, 799, 801]), 0),
+            // waiting for another kind of answer, or ended otherwise: of the form or not
+            6 => self.units[9] = r.one_of(&[0, 1, 2, 3, 4, 4, 5, 6, 19, 20, 21, 27, 28]),
             _ => scenes::poked(r, &mut self.units, WALK),
         }
         self.caches = lent::caches(&self.refs, &self.doms);

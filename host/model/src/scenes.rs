@@ -4,17 +4,18 @@ use crate::rules::caches::{Caches, Domain, Referral, Serves, Target};
 use crate::rules::names::{ascii, components, equal, first, normalised, Text, BACKSLASH};
 use crate::rules::walk::{Kind, Question, Walk, BUFFER_OVERFLOW, NEXT_TARGET, PATH_NOT_COVERED};
 
-const FIRST: [&str; 7] = ["corp", "a", "files", "nas1", "Dfs", "A", "\u{e9}[@`{"];
+const FIRST: [&str; 8] = ["corp", "a", "files", "nas1", "Dfs", "A", "k[", "k@"];
 const SECOND: [&str; 8] = ["s1", "s10", "dfs", "SYSVOL", "NetLogon", "leak", "b", "b"];
 const THIRD: [&str; 6] = ["d", "E", "s1", "s10", "\u{c9}z", "..."];
 const DCS: [&str; 5] = ["dc1", "dc2", "DC3", "dc4.corp.example", "\u{ffff}"];
 const STATUSES: [u32; 10] = [0, 1, 0x4000_0000, 0x7FFF_FFFF, 0x8000_0006, 0x8000_0000, 0xC000_0001, 0xC000_003A, 0xC000_0225, 0xFFFF_FFFF];
 
-/// Letters in another case here and there.
+/// Letters in another case here and there, and units that only look like letters in another case.
 pub fn respelled(r: &mut Random, text: &[u16]) -> Text {
     let often = r.one_of(&[0, 0, 30, 100]);
     let letter = |u: u16| (0x41..=0x5A).contains(&(u & !32));
-    text.iter().map(|u| if letter(*u) && r.in_hundred(often) { u ^ 32 } else { *u }).collect()
+    let like_a_letter = |u: u16| [0x40, 0x5B, 0xC9].contains(&(u & !32));
+    text.iter().map(|u| if (letter(*u) || like_a_letter(*u) && r.in_hundred(8)) && r.in_hundred(often) { u ^ 32 } else { *u }).collect()
 }
 
 fn component(r: &mut Random, words: &[&str]) -> Text {
@@ -207,12 +208,13 @@ pub fn size(r: &mut Random) -> u32 {
 
 pub fn status(r: &mut Random, kind: Option<Kind>) -> u32 {
     let any = r.next() as u32;
+    let close = r.one_of(&[PATH_NOT_COVERED, BUFFER_OVERFLOW, NEXT_TARGET[0], NEXT_TARGET[5], 0xC000_0256, 0xC000_00B6, any]);
     match (r.below(20), kind) {
-        (0..=7, Some(Kind::Io)) => r.one_of(&NEXT_TARGET),
+        (0, _) => close,
+        (1, _) => r.one_of(&STATUSES),
+        (2..=7, Some(Kind::Io)) => r.one_of(&NEXT_TARGET),
         (8..=12, Some(Kind::Io)) => PATH_NOT_COVERED,
-        (0..=2, _) => BUFFER_OVERFLOW,
-        (3, _) => r.one_of(&STATUSES),
-        (4, _) => r.one_of(&[any, PATH_NOT_COVERED, NEXT_TARGET[0], NEXT_TARGET[5], 0xC000_0256, 0xC000_00B6]),
+        (2..=4, Some(Kind::Dc | Kind::Root | Kind::Link | Kind::Sysvol)) => BUFFER_OVERFLOW,
         (5..=7, Some(Kind::Root | Kind::Link)) => r.one_of(&[0xC000_0001, 0xC000_0225, 0x8000_0006]),
         _ => r.one_of(&[0, 0, 0, 0, 1, 0x4000_0016]),
     }

@@ -1,55 +1,171 @@
-/* The DFS client library: functions over lent memory. A pointer is followed by the number of its elements; nothing is kept after a call.
+/*
+ * dfsc.h - a DFS client's path resolution (MS-DFSC), as functions over memory that the caller lends.
  *
- * Caches: 1 to 32 places of DFSC_PLACE units each (crates/places/specs/Layout.antt). A cache of zeros is empty.
- * A walk: DFSC_WALK units. The first 32 are its packed form (crates/packing/specs/Packing.antt); then path, path tried and bootstrap DC, 256 units
- * each. It is made by dfsc_start from units of any content. Units of another number or not of that form are a walk out of form.
+ * The library does no I/O. A host starts a walk with a UNC path and is given a question: a referral request to send to a server, or an I/O
+ * operation to try on a path. It asks the question over its own network and brings the status and the reply back, until the walk ends:
  *
- * A start and the answers give 0, or the number of a refusal; then nothing lent has changed:
- *   1 bad path, 2 path over 256 units, 3 limit, size or bootstrap DC, 4 either cache not in order, 5 walk ended, out of form, or waiting for another
- *   kind of answer, 10 output buffer shorter than the request.
- * Where the walk then waits for a referral's answer, the request stands at the start of `out`: 4 bytes more than twice the units of the name asked
- * (dfsc_question_name), at most 516.
+ *     uint16_t refs[8 * DFSC_PLACE_UNITS] = {0}, doms[8 * DFSC_PLACE_UNITS] = {0}, walk[DFSC_WALK_UNITS];
+ *     uint8_t request[DFSC_REQUEST_BYTES];
+ *     uint32_t q[3], end[3];
+ *     uint32_t r = dfsc_start(refs, LEN(refs), doms, LEN(doms), walk, LEN(walk), path, path_len, dc, dc_len, 16, 8192, now(), request, sizeof request);
+ *     while (r == 0 && dfsc_question(walk, LEN(walk), q, 3) == 3) {
+ *         uint16_t to[256], name[256];
+ *         uint32_t to_len = dfsc_question_party(refs, LEN(refs), doms, LEN(doms), walk, LEN(walk), to, 256);
+ *         uint32_t name_len = dfsc_question_name(walk, LEN(walk), name, 256);
+ *         if (q[0] == DFSC_ASK_IO) {
+ *             status = open_on(to, to_len, name, name_len);
+ *             r = dfsc_answer_io(refs, LEN(refs), doms, LEN(doms), walk, LEN(walk), status, now(), request, sizeof request);
+ *         } else {
+ *             status = get_referral(to, to_len, request, 4 + 2 * name_len, reply, q[1], &reply_len);
+ *             r = dfsc_answer_referral(refs, LEN(refs), doms, LEN(doms), walk, LEN(walk), status, reply, reply_len, now(), request, sizeof request);
+ *         }
+ *     }
+ *     if (r == 0 && dfsc_end(walk, LEN(walk), end, 3) == 3) ... end[0] is the end's number, end[1] its status, end[2] the moves made
  *
- * What is shown is given as the number of elements written, or as 65,536 times the number that says why there are none: 4, 5, 10, or 27 where the
- * entry in use is gone or too short. Then the buffer has not changed. */
+ * (A host whose caches others change between calls tests to_len: it is DFSC_REFUSED(27) where the entry in use is gone. Whatever it then
+ * answers ends the walk with 27.) host/examples/resolve.c is a whole program.
+ *
+ * MEMORY. Everything lent belongs to the caller. The library allocates nothing, keeps no pointer after a call and has no state of its own, so
+ * that calls on memory that they do not share may run at once. A pointer and the length after it are one slice; lengths count elements
+ * (units of 16 bits, bytes, or numbers of 32 bits), not bytes. Pointers are valid and aligned for their type, also where the length is 0;
+ * a slice that a call may write (no const) overlaps no other slice of that call. Every content and every length is safe to lend: what is not
+ * as it should be is refused by a number. A call that is refused changes nothing that was lent. Elements past what a call writes stay.
+ *
+ * TEXT is UTF-16 code units without a terminator. A path has one or two leading backslashes and at most 256 units once it is normalised to
+ * one. Names are equal where they differ in the case of A to Z only.
+ *
+ * A CACHE is 1 to 32 places of DFSC_PLACE_UNITS units; all zero is an empty cache. Both caches have one layout, so that hosts may
+ * save, inspect or change entries. In a place:
+ *
+ *     unit       referral cache                                domain cache
+ *     0          length of the prefix; 0: the place is free    length of the domain's name; 0: the place is free
+ *     1 .. 8     lengths of the targets                        lengths of the DCs' names
+ *     9          number of targets, 1 to 8                     number of DCs, 0 to 8
+ *     10         the target hinted at, from 0                  the DC hinted at, from 0 (0 where there are none)
+ *     11 .. 18   1: a target set begins with this target       0
+ *                (0 for the first target)
+ *     19         1 root, 0 link                                0
+ *     20         1: Interlink                                  0
+ *     21         1: TargetFailback                             0
+ *     22, 23     TTL in seconds: low unit, high unit           0
+ *     24, 25     clock when the entry was taken: low, high     0
+ *     26 .. 31   0                                             0
+ *     32 ..      nine rooms of 256 units: the prefix, then     nine rooms of 256 units: the name, then the DCs' names
+ *                the targets
+ *
+ * Prefix and targets are normalised paths of 2 components or more; names are single components of at most 255 units. All that is not in use is
+ * zero, and no two prefixes (or names) are equal. A cache that is not so is "not in order". Walks that share caches are called one at a time.
+ *
+ * A WALK is DFSC_WALK_UNITS units of any content before the start. After it they hold all of the walk: 32 units of numbers, then three rooms
+ * of 256 units (the path, the path that an I/O tries, the bootstrap DC). They may be copied or saved, and are not for others to change: what
+ * is not of the form is refused with 5.
+ */
 #ifndef DFSC_H
 #define DFSC_H
 
 #include <stddef.h>
 #include <stdint.h>
 
-#define DFSC_PLACE 2336
-#define DFSC_WALK 800
+#ifdef __cplusplus
+extern "C" {
+#endif
 
-/* of a result of what is shown: the number of its refusal, 0 where it is shown; and the elements written */
-#define DFSC_NUMBER(result) ((result) >> 16)
-#define DFSC_COUNT(result) ((result) & 0xFFFF)
+#define DFSC_PLACE_UNITS 2336   /* units of one place of a cache */
+#define DFSC_MOST_PLACES 32     /* places of a cache */
+#define DFSC_WALK_UNITS 800     /* units of a walk */
+#define DFSC_REQUEST_BYTES 516  /* the longest request; with a buffer of so many bytes DFSC_SHORT_BUFFER never comes of a walk */
+#define DFSC_MOST_LIMIT 64      /* a walk's limit is 1 to 64 moves */
+#define DFSC_LEAST_SIZE 1024    /* bytes that a referral reply may have: the size given at the start, */
+#define DFSC_MOST_SIZE 57344    /* doubled up to this when a server says 0x80000005 */
 
-enum { DFSC_DC = 1, DFSC_ROOT, DFSC_LINK, DFSC_SYSVOL, DFSC_IO };
+/* Refusals: what the calls that move a walk give back, 0 where they are taken. If several hold, 4 comes first, then the lowest. */
+enum {
+    DFSC_TAKEN = 0,
+    DFSC_BAD_PATH = 1,
+    DFSC_LONG_PATH = 2,        /* good, but over 256 units */
+    DFSC_BAD_SETTINGS = 3,     /* limit, size or bootstrap DC */
+    DFSC_NOT_IN_ORDER = 4,     /* either cache */
+    DFSC_OUT_OF_FORM = 5,      /* the walk has ended, is out of form, or waits for another kind of answer */
+    DFSC_TOO_MANY_NAMES = 6,   /* a domain reply has more different names than the cache has places */
+    DFSC_BAD_DOMAIN_REPLY = 7, /* malformed or empty */
+    DFSC_SHORT_BUFFER = 10     /* the request, text or numbers are longer than the buffer */
+};
 
-uint32_t dfsc_start(const uint16_t *refs, size_t refs_units, const uint16_t *doms, size_t doms_units, uint16_t *walk, size_t walk_units,
-                    const uint16_t *path, size_t path_units, const uint16_t *boot, size_t boot_units, uint32_t limit, uint32_t size,
-                    uint32_t clock, uint8_t *out, size_t out_bytes);
+/* What the calls that show something give back: the elements written, or one of these. */
+#define DFSC_REFUSED(number) ((uint32_t)(number) << 16)
 
-uint32_t dfsc_answer_referral(uint16_t *refs, size_t refs_units, uint16_t *doms, size_t doms_units, uint16_t *walk, size_t walk_units,
-                              uint32_t status, const uint8_t *reply, size_t reply_bytes, uint32_t clock, uint8_t *out, size_t out_bytes);
+/* Kinds of question. */
+enum {
+    DFSC_ASK_DC = 1,     /* a DC referral request, to the bootstrap DC */
+    DFSC_ASK_ROOT = 2,   /* a root referral request, to a DC or to the path's host */
+    DFSC_ASK_LINK = 3,   /* a link referral request, to a root target */
+    DFSC_ASK_SYSVOL = 4, /* a SYSVOL referral request, to a DC */
+    DFSC_ASK_IO = 5      /* the I/O operation itself, on a target */
+};
 
-uint32_t dfsc_answer_io(uint16_t *refs, size_t refs_units, const uint16_t *doms, size_t doms_units, uint16_t *walk, size_t walk_units,
-                        uint32_t status, uint32_t clock, uint8_t *out, size_t out_bytes);
+/* Ends. The status is 0 but for 20, 22 and 23. The path is the one tried for 20, else the one that was being resolved. */
+enum {
+    DFSC_END_DONE = 20,          /* the I/O was done, with this status */
+    DFSC_END_NOT_DFS = 21,       /* no DFS path: the host goes on with the path as it is */
+    DFSC_END_NO_DC = 22,         /* no DC of the domain could be asked */
+    DFSC_END_FAILED = 23,        /* a DFS path, and it failed */
+    DFSC_END_LIMIT_REACHED = 24,
+    DFSC_END_MALFORMED = 25,     /* a reply was malformed, and nothing of it stored */
+    DFSC_END_TOO_LONG = 26,      /* a path with a target in place of its prefix has over 256 units */
+    DFSC_END_GONE = 27           /* the entry in use is gone from its cache, or has lost the target or DC that was asked */
+};
 
-/* the question that waits: kind, size asked, moves; its party; the name asked, or the path of an I/O try */
-uint32_t dfsc_question(const uint16_t *walk, size_t walk_units, uint32_t *out, size_t out_numbers);
-uint32_t dfsc_question_party(const uint16_t *refs, size_t refs_units, const uint16_t *doms, size_t doms_units, const uint16_t *walk,
-                             size_t walk_units, uint16_t *out, size_t out_units);
-uint32_t dfsc_question_name(const uint16_t *walk, size_t walk_units, uint16_t *out, size_t out_units);
+/*
+ * A new walk for a path. boot is the name of the DC to ask where a domain's DCs are not known; limit the most questions and replacements of the path
+ * by interlinks; size the bytes that a referral reply may have at first; clock a count of seconds that may roll over. If a referral request follows,
+ * out begins with its bytes (4 + twice the units of the name asked). The caches are read only.
+ * 0, or a refusal: 4, 1, 2, 3, 5 (the walk has not DFSC_WALK_UNITS units), 10.
+ */
+uint32_t dfsc_start(const uint16_t *refs, size_t refs_len, const uint16_t *doms, size_t doms_len, uint16_t *walk, size_t walk_len,
+                    const uint16_t *path, size_t path_len, const uint16_t *boot, size_t boot_len, uint32_t limit, uint32_t size, uint32_t clock,
+                    uint8_t *out, size_t out_len);
 
-/* the end: number (20 to 27), status, moves; its path */
-uint32_t dfsc_end(const uint16_t *walk, size_t walk_units, uint32_t *out, size_t out_numbers);
-uint32_t dfsc_end_path(const uint16_t *walk, size_t walk_units, uint16_t *out, size_t out_units);
+/*
+ * The answer to a referral request (kinds 1 to 4): the NTSTATUS with which it came back and the bytes of RESP_GET_DFS_REFERRAL; of a failing status the
+ * bytes are not read. What it says is stored in the caches. 0, or a refusal: 4, 5, 10.
+ */
+uint32_t dfsc_answer_referral(uint16_t *refs, size_t refs_len, uint16_t *doms, size_t doms_len, uint16_t *walk, size_t walk_len, uint32_t status,
+                              const uint8_t *reply, size_t reply_len, uint32_t clock, uint8_t *out, size_t out_len);
 
-/* the request for a domain reply, 4 bytes: 0 or 10; and a domain reply into the domain cache: 0, 4, 3, 6 (more names than places) or 7 (malformed or
- * empty) */
-uint32_t dfsc_domain_request(uint8_t *out, size_t out_bytes);
-uint32_t dfsc_read_domains(const uint8_t *reply, size_t reply_bytes, uint32_t size, uint16_t *doms, size_t doms_units);
+/* The answer to an I/O try (kind 5): its NTSTATUS. 0, or a refusal: 4, 5, 10. */
+uint32_t dfsc_answer_io(uint16_t *refs, size_t refs_len, const uint16_t *doms, size_t doms_len, uint16_t *walk, size_t walk_len, uint32_t status,
+                        uint32_t clock, uint8_t *out, size_t out_len);
+
+/*
+ * Whom the question is for: the path of a target (kinds 3 and 5), the name of a DC or of a host. At most 256 units.
+ * Its units, or DFSC_REFUSED of 4, 5, 27 (as the end of that number) or 10.
+ */
+uint32_t dfsc_question_party(const uint16_t *refs, size_t refs_len, const uint16_t *doms, size_t doms_len, const uint16_t *walk, size_t walk_len,
+                             uint16_t *out, size_t out_len);
+
+/* The name that is asked for, or the path that the I/O tries. At most 256 units. Its units, or DFSC_REFUSED of 5 or 10. */
+uint32_t dfsc_question_name(const uint16_t *walk, size_t walk_len, uint16_t *out, size_t out_len);
+
+/* The question's kind, the bytes that its reply may have (0 for I/O) and the moves made with it. 3, or DFSC_REFUSED of 5 (none waits) or 10. */
+uint32_t dfsc_question(const uint16_t *walk, size_t walk_len, uint32_t *out, size_t out_len);
+
+/* The end's path. At most 256 units. Its units, or DFSC_REFUSED of 5 (the walk has not ended) or 10. */
+uint32_t dfsc_end_path(const uint16_t *walk, size_t walk_len, uint16_t *out, size_t out_len);
+
+/* The end's number, its status and the moves made. 3, or DFSC_REFUSED of 5 (the walk has not ended) or 10. */
+uint32_t dfsc_end(const uint16_t *walk, size_t walk_len, uint32_t *out, size_t out_len);
+
+/* The request for a domain reply, 4 bytes. 0, or the refusal 10. */
+uint32_t dfsc_domain_request(uint8_t *out, size_t out_len);
+
+/*
+ * A domain reply, asked for with this size, in place of all that the domain cache holds; of the cache only the number of places matters.
+ * 0, or a refusal: 4, 3 (the size), 6, 7.
+ */
+uint32_t dfsc_read_domains(const uint8_t *reply, size_t reply_len, uint32_t size, uint16_t *doms, size_t doms_len);
+
+#ifdef __cplusplus
+}
+#endif
 
 #endif

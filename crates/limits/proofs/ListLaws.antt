@@ -16,7 +16,7 @@ use Rattle.unc.specs.Names.{goodName}
 use Rattle.unc.specs.Paths.{normalised}
 use Rattle.caches.specs.Memory.{referrals, domains, inOrder}
 use Rattle.domains.specs.Domains.{goodSize}
-use Rattle.steps.specs.Steps.{Turn, Core, Rest, waits, ended, Question, Resting, turned}
+use Rattle.steps.specs.Steps.{started, Turn, Core, Rest, waits, ended, Question, Resting, turned}
 use Rattle.steps.specs.Rested.{cachesOf, coreOf}
 use Rattle.steps.specs.declared.End.{End}
 use Rattle.steps.specs.declared.End.the-variants.{LimitReached}
@@ -164,13 +164,16 @@ unfolding eventOpening
 opening-event none t h = absurd (not-refused t (sym h))
 opening-event (some u) t h = ap some (opens-same h)
 
-answer-no : (u : Unlimited) (a : Answer) (t : Turn) → answerOpening u a ≡ opens t → NoLimit (t .called)
+pub answer-goes-on : (u : Unlimited) (a : Answer) (t : Turn) → answerOpening u a ≡ opens t → eventOf u a ≡ some t
 unfolding answerOpening
-answer-no u a t h = go (told (inOrder referrals (u .refs) && inOrder domains (u .doms)))
+answer-goes-on u a t h = go (told (inOrder referrals (u .refs) && inOrder domains (u .doms)))
   where
-    go : ((inOrder referrals (u .refs) && inOrder domains (u .doms)) ≡ true) ⊎ ((inOrder referrals (u .refs) && inOrder domains (u .doms)) ≡ false) → NoLimit (t .called)
-    go (inl o) = event-no u a t (opening-event (eventOf u a) t (sym (choose-yes _ _ o) ∙ h))
+    go : ((inOrder referrals (u .refs) && inOrder domains (u .doms)) ≡ true) ⊎ ((inOrder referrals (u .refs) && inOrder domains (u .doms)) ≡ false) → eventOf u a ≡ some t
+    go (inl o) = opening-event (eventOf u a) t (sym (choose-yes _ _ o) ∙ h)
     go (inr o) = absurd (not-refused t (sym h ∙ choose-no _ _ o))
+
+answer-no : (u : Unlimited) (a : Answer) (t : Turn) → answerOpening u a ≡ opens t → NoLimit (t .called)
+answer-no u a t h = event-no u a t (answer-goes-on u a t h)
 
 -- the call that is cut is determined
 pub one-cut : {p : Opening} {clock n k : ℕ} (a b : CallsFor p clock n k) → (a .turn ≡ b .turn) × ((a .moves ≡ b .moves) × (a .core ≡ b .core))
@@ -197,10 +200,14 @@ unfolding choose
 passed true v e = e
 passed false v {t = t} e = absurd (not-refused t (sym e))
 
-start-no : (h : Held) (s : Start) (t : Turn) → startOpening h s ≡ opens t → NoLimit (t .called)
+pub start-goes-on : (h : Held) (s : Start) (t : Turn) → startOpening h s ≡ opens t
+    → started (cachesOf (h .refs) (h .doms)) (coreOf (normalised (s .path)) (s .size) false) (s .clock) ≡ t
 unfolding startOpening
+start-goes-on h s t e = opens-same (passed _ _ (passed _ _ (passed _ _ (passed _ _ (passed _ _ e)))))
+
+start-no : (h : Held) (s : Start) (t : Turn) → startOpening h s ≡ opens t → NoLimit (t .called)
 start-no h s t e =
-    subst (λ (u : Turn). NoLimit (u .called)) (opens-same (passed _ _ (passed _ _ (passed _ _ (passed _ _ (passed _ _ e))))))
+    subst (λ (u : Turn). NoLimit (u .called)) (start-goes-on h s t e)
     (started-no (cachesOf (h .refs) (h .doms)) (coreOf (normalised (s .path)) (s .size) false) (s .clock))
 
 -- along a list

@@ -9,27 +9,30 @@ use native.Mathlib.Omega.{arith}
 use lib.ListN.{length, length-append}
 use borrow.Author.Tests.{le-leb, lt-leb, leb-false}
 use Rattle.laws.proofs.Choices.{and-both}
+use Rattle.laws.proofs.Orders.{lt-or-le}
 use Rattle.laws.proofs.Tests.{not-both}
+use Rattle.unc.specs.Paths.{pathUnits}
 use Rattle.referral.specs.Request.{request}
-use Rattle.steps.specs.Steps.{Core, Question, Called, stops, asks, replaces, Rest, waits, ended, Turn, Caches}
+use Rattle.steps.specs.Steps.{Core, Question, Called, stops, asks, replaces, Rest, waits, ended, Turn, Caches, withPath, withHit, hitAt, step2}
 use Rattle.steps.specs.declared.Kind.{Kind}
 use Rattle.steps.specs.declared.Kind.the-variants.{Dc, Root, Link, Sysvol, Io}
 use Rattle.steps.specs.declared.End.{End}
-use Rattle.steps.specs.declared.End.the-variants.{LimitReached}
+use Rattle.steps.specs.declared.End.the-variants.{LimitReached, TooLong}
 use Rattle.questions.specs.Questions.{requestName, nameFits, withRequest}
 use Rattle.walks.specs.Walks.{goodLimit}
 use Rattle.closing.specs.Closing.{Left, refused}
 use Rattle.resolve.specs.Calls.{Answered, refusedAnswer}
 use Rattle.closing.specs.declared.Verdict.{Verdict}
 use Rattle.closing.specs.declared.Verdict.the-variants.{Taken, BadPath, LongPath, BadSettings, NotInOrder, OutOfForm, ShortBuffer}
-use Rattle.limits.specs.Unlimited.{Move, Opening, opens, refuses, Unlimited, Made, madeIn, restsAt, lastMove, callsOne, Halts, at-end, is-put, try-long, path-long, Rests, CallsForMore, Brings, number, comes, Call, refused as call-refused, short, taken, CallsFor, Within}
+use Rattle.limits.specs.Unlimited.{Move, Opening, opens, refuses, Unlimited, Made, madeIn, restsAt, lastMove, callsOne, Halts, at-end, is-put, try-long, path-long, Rests, CallsForMore, Brings, number, comes, Call, refused as call-refused, short, taken, CallsFor, Within, refused as within-refused, rests as within-rests, replacement, Makes, here, goes-on}
 use Rattle.limits.specs.Calls.{Held, Start, Answer, Calls, start, then, run, answered, InList, the-start, an-answer, answerClock, answerOut, clockOf, outOf, seen, startOpening, answerOpening, opening, before, Follows, begins, is-refused, is-taken, Comes, to-start, to-answer, Moved, no-move, to-rest, to-limit, Same, same-number, same-rest}
-use Rattle.limits.specs.Limits.{MovesOf, SameIn, EndsIn, WaitsAfter, TooShort, LimitOnlyCuts}
+use Rattle.limits.specs.Limits.{MovesOf, SameIn, EndsIn, WaitsAfter, TooShort, CutBy, in-it, before-it, LimitOnlyCuts}
+use Rattle.limits.proofs.Goes.{ToRest, Cut, rests-or-cut}
 use Rattle.limits.proofs.Once.{behind, as-many, rest-once, goes-further}
 use Rattle.limits.proofs.Classify.{Fine, Followed, CutOff, never-both, opens-same, short-not, not-refused}
 use Rattle.limits.proofs.CallLaws.{Either}
 use Rattle.limits.proofs.NoLimit.{NoLimit, rests-no}
-use Rattle.limits.proofs.ListLaws.{one-walk, same-way, answer-identity, start-identity, same-comes, same-numbered, taken-opens, short-opens, one-cut, earlier, Agrees, at-start, Later, later, agrees, few, comes-either, comes-no, comes-few, comes-opening, seen-kept, fine-kept, event-ended, no-opening}
+use Rattle.limits.proofs.ListLaws.{one-walk, same-way, answer-identity, start-identity, same-comes, same-numbered, taken-opens, short-opens, one-cut, earlier, Agrees, at-start, Later, later, agrees, few, comes-either, comes-no, comes-few, comes-opening, seen-kept, fine-kept, event-ended, no-opening, start-goes-on, answer-goes-on}
 
 -- a rest that a move called for has brought is no end 24
 halts-move : {a : Called} {r : Rest} → Halts a r → callsOne a ≡ 1 → r ≡ ended LimitReached 0 [] → ⊥
@@ -165,6 +168,50 @@ longer-cut f x y =
     let g = goes-further (z .made) (y .more .made) (omega (arith, x .number, y .number)) in
     subst (λ (d : Caches). Begins (madeIn d (x .moves)) (madeIn (y .turn .caches) (y .moves))) (caches-of (y .turn) x (y .opening)) (begins-with (y .turn .caches) (x .moves) (g .0) (g .1))
 
+-- every call rests within the limit or calls for a move over it
+rests-or-calls : (l : ℕ) (p : Opening) (clock n : ℕ) (boot : List ℕ) → n ≤ l → Within clock boot n l p ⊎ CallsFor p clock n (suc l)
+rests-or-calls l (refuses v) clock n boot f = inl within-refused
+rests-or-calls l (opens t) clock n boot f = go (rests-or-cut (t .caches) clock boot (l - n) (t .core) (t .called))
+  where
+    go : ToRest (t .caches) clock boot (l - n) (t .core) (t .called) ⊎ Cut (t .caches) clock (l - n) (t .core) (t .called)
+        → Within clock boot n l (opens t) ⊎ CallsFor (opens t) clock n (suc l)
+    go (inl x) =
+        inl (within-rests (record { replacements = x .replacements; called = x .called; made = x .made; halts = x .halts; moves = refl }) (omega (arith, x .few)))
+    go (inr x) = inr (record {
+      turn = t;
+      opening = refl;
+      moves = x .replacements;
+      core = x .core;
+      more = record { called = x .called; made = x .made; move = x .move };
+      number = omega (arith, x .long);
+    })
+
+-- the sentences that the definitions say
+started-list : {l : ℕ} {h : Held} {s : Start} (cs : Calls) (a : Answer) → InList l h s (then cs a) → run l h s start .left .verdict ≡ Taken
+started-list cs a (an-answer e) = e
+
+gets : (l : ℕ) (h : Held) (s : Start) (cs : Calls) (a : Answer) → run l h s (then cs a) ≡ answered (run l h s cs) a
+unfolding run
+gets l h s cs a = refl
+
+first-zero : {l : ℕ} {h : Held} {s : Start} {p : Opening} {n : ℕ} → Comes h s l start p n → n ≡ 0
+first-zero to-start = refl
+
+question-halts : {q : Question} {r : Rest} → Halts (asks q) r → (r ≡ ended TooLong 0 []) ⊎ (r ≡ waits q)
+question-halts (is-put f) = inr refl
+question-halts (try-long f) = inl refl
+
+replacement-made : (c : Caches) (clock : ℕ) (w : Core) (p : List ℕ)
+    → Halts (replaces p) (ended TooLong 0 [])
+    ⊎ Makes c clock w (replaces p) (replacement p ∷ []) (withHit (hitAt c (withPath p w)) (withPath p w)) (step2 c (withPath p w) clock)
+replacement-made c clock w p = go (lt-or-le pathUnits (length p))
+  where
+    go : (pathUnits < length p) ⊎ (length p ≤ pathUnits)
+        → Halts (replaces p) (ended TooLong 0 [])
+        ⊎ Makes c clock w (replaces p) (replacement p ∷ []) (withHit (hitAt c (withPath p w)) (withPath p w)) (step2 c (withPath p w) clock)
+    go (inl f) = inl (path-long f)
+    go (inr f) = inr (goes-on f here)
+
 -- one limit
 module _ (l : ℕ) (good : goodLimit l ≡ true) (h : Held) (s : Start) where
   to-list : {cs : Calls} {p : Opening} {n : ℕ} {ms : List Made} → Comes h s l cs p n → Moved l (clockOf s cs) (s .boot) n (run l h s cs) p ms → MovesOf l h s cs ms
@@ -205,13 +252,6 @@ module _ (l : ℕ) (good : goodLimit l ≡ true) (h : Held) (s : Start) where
                   (subst (λ (ms : List Made). Moved l (clockOf s cs) (s .boot) n (run l h s cs) p ms) (λ j. madeIn (z .0 j .caches) (z .1 .0 j)) (f .moves)),
             ),
           )
-
-  either : {cs : Calls} {p : Opening} {n : ℕ} → Comes h s l cs p n → Within (clockOf s cs) (s .boot) n l p ⊎ CallsFor p (clockOf s cs) n (suc l)
-  either {cs} {p} {n} c = go (comes-either l good h s c)
-    where
-      go : Either l (clockOf s cs) (s .boot) (outOf s cs) n (run l h s cs) p → Within (clockOf s cs) (s .boot) n l p ⊎ CallsFor p (clockOf s cs) n (suc l)
-      go (inl f) = inl (f .within)
-      go (inr k) = inr (k .calls)
 
   -- the walk has been cut
   record Dead (cs : Calls) : Type 0 where
@@ -275,6 +315,28 @@ module _ (l : ℕ) (good : goodLimit l ≡ true) (h : Held) (s : Start) where
   alive : run l h s start .left .verdict ≡ Taken → (cs : Calls) → Alive cs
   alive e start = alive-start e (at-start l good h s)
   alive e (then cs a) = alive-then cs a (alive e cs)
+
+  -- the unlimited walk comes to every call, unless one before it called for a move over the limit
+  abbrev Somewhere : Calls → Type 0
+  Somewhere cs = ((u : Unlimited) × Follows h s l cs u) ⊎ CutBy l h s cs
+
+  first-somewhere : run l h s start .left .verdict ≡ Taken → Either l (s .clock) (s .boot) (s .out) 0 (run l h s start) (startOpening h s) → Somewhere start
+  unfolding clockOf
+  first-somewhere e (inl f) = inl (begun (f .brings) (f .call) (f .same) (never-both (f .within)) e)
+  first-somewhere e (inr k) = inr (in-it to-start (k .calls))
+
+  next-somewhere : (cs : Calls) (u : Unlimited) (a : Answer) → Follows h s l cs u → Later l good h s cs u a → Somewhere (then cs a)
+  unfolding clockOf
+  next-somewhere cs u a f (inl g) = inl (next cs u a f (g .brings) (g .call) (never-both (g .within)))
+  next-somewhere cs u a f (inr k) = inr (in-it (to-answer f) (k .calls))
+
+  then-somewhere : (cs : Calls) (a : Answer) → Somewhere cs → Somewhere (then cs a)
+  then-somewhere cs a (inl f) = next-somewhere cs (f .0) a (f .1) (later l good h s cs (f .0) a (agrees l good h s (f .1)))
+  then-somewhere cs a (inr k) = inr (before-it k)
+
+  somewhere : run l h s start .left .verdict ≡ Taken → (cs : Calls) → Somewhere cs
+  somewhere e start = first-somewhere e (at-start l good h s)
+  somewhere e (then cs a) = then-somewhere cs a (somewhere e cs)
 
   -- the unlimited walk comes to the last call of a list, or the walk was cut before it
   abbrev ComesTo : Calls → Type 0
@@ -520,13 +582,21 @@ limit-only-cuts h s l m a b c =
     let low = good-limit l a (omega arith) in
     let high = good-limit m (omega arith) c in
     record {
+      each-gets = gets l h s;
+      start-ends = started-list;
+      every-call = λ cs e. somewhere l low h s e cs;
       one-walk = one-walk;
-      rests-or-calls = λ cs x. either l low h s x;
-      never-both = λ cs x k. never-both x k;
+      rests-or-calls = rests-or-calls l;
+      never-both = never-both;
       ten-then = ten-then l low h s;
       ten-only-then = ten-only l low h s;
+      first-zero = first-zero;
+      start-goes-on = start-goes-on h s;
+      answer-goes-on = answer-goes-on;
       start-changes-nothing = start-kept l low h s;
       no-change = answer-kept l low h s;
+      question-called-for = question-halts;
+      replacement-called-for = replacement-made;
       until-then-same = λ cs x nc. until l low h s x nc;
       then-cut = λ cs x k. cut l low h s x k;
       moves-of-a-call = moves-of l low h s;

@@ -1,21 +1,23 @@
 -- Demand 3: "A limit only cuts a walk short", and document 01's paragraph on it ("Demand 3's list .."), as one claim about any list of calls.
 use Prim.Native.Nat.{ℕ, suc, _≤_, _<_}
 use mathlib.Core.Path.{_≡_}
-use mathlib.Core.Bool.{Bool, true}
-use mathlib.Core.List.{List, [], _++_}
+use mathlib.Core.Bool.{Bool, true, false}
+use mathlib.Core.List.{List, [], _∷_, _++_}
 use mathlib.Core.Logic.{_⊎_}
 use mathlib.Core.Option.{some}
 use lib.ListN.{length}
 use Rattle.referral.specs.Request.{request}
-use Rattle.steps.specs.Steps.{Core, Question, Rest, waits, ended, Turn}
+use Rattle.unc.specs.Paths.{normalised}
+use Rattle.steps.specs.Steps.{Caches, Core, Question, asks, replaces, Rest, waits, ended, Turn, started, withPath, withHit, hitAt, step2}
+use Rattle.steps.specs.Rested.{cachesOf, coreOf}
 use Rattle.steps.specs.declared.End.{End}
-use Rattle.steps.specs.declared.End.the-variants.{LimitReached}
+use Rattle.steps.specs.declared.End.the-variants.{LimitReached, TooLong}
 use Rattle.questions.specs.Questions.{requestName}
 use Rattle.resolve.specs.Calls.{Answered}
 use Rattle.closing.specs.declared.Verdict.{Verdict}
 use Rattle.closing.specs.declared.Verdict.the-variants.{Taken, ShortBuffer}
-use Rattle.limits.specs.Unlimited.{Move, Opening, opens, Unlimited, Made, madeIn, restsAt, Rests, Brings, number, comes, Call, CallsFor, Within}
-use Rattle.limits.specs.Calls.{Held, Start, Answer, Calls, start, then, run, InList, clockOf, outOf, seen, Comes, opening, before, Moved, Same}
+use Rattle.limits.specs.Unlimited.{Move, replacement, Makes, Halts, Opening, opens, Unlimited, Made, madeIn, restsAt, Rests, Brings, number, comes, Call, CallsFor, Within}
+use Rattle.limits.specs.Calls.{Held, Start, Answer, Calls, start, then, run, answered, InList, startOpening, eventOf, answerOpening, Follows, clockOf, outOf, seen, Comes, opening, before, Moved, Same}
 
 -- the moves that the last call of a list gives the walk with limit l
 abbrev pub MovesOf : ℕ → Held → Start → Calls → List Made → Type 0
@@ -49,15 +51,32 @@ pub record TooShort (l : ℕ) (h : Held) (s : Start) (cs : Calls) : Type 0 where
   pub named : requestName core (waits question) ≡ some name
   pub long : length (outOf s cs) < length (request name)
 
+-- some call of a list called for move l + 1
+pub data CutBy (l : ℕ) (h : Held) (s : Start) : Calls → Type 0 where
+  in-it : {cs : Calls} {p : Opening} {n : ℕ} → Comes h s l cs p n → CallsFor p (clockOf s cs) n (suc l) → CutBy l h s cs
+  before-it : {cs : Calls} {a : Answer} → CutBy l h s cs → CutBy l h s (then cs a)
+
 pub record LimitOnlyCuts (h : Held) (s : Start) (l m : ℕ) : Type 0 where
-  -- The unlimited walk is one walk: what a call brings it is determined, and for every call it comes to rest with l moves called for at most, or calls for
-  -- move l + 1, and never both.
+  -- Document 01. "Demand 3's list is one start, from any caches, then referral answers and I/O answers. Each gets the walk and caches that the last one left;"
+  pub each-gets : (cs : Calls) (a : Answer) → run l h s (then cs a) ≡ answered (run l h s cs) a
+  -- "a refused start ends the list"
+  pub start-ends : (cs : Calls) (a : Answer) → InList l h s (then cs a) → run l h s start .left .verdict ≡ Taken
+  -- "It is one claim about the list": the unlimited walk has followed all calls of it, unless one called for move L + 1.
+  pub every-call : (cs : Calls) → run l h s start .left .verdict ≡ Taken → ((u : Unlimited) × Follows h s l cs u) ⊎ CutBy l h s cs
+  -- The unlimited walk is one walk: what a call brings it is determined, and every call comes to rest with L moves called for at most, or calls for move
+  -- L + 1, and never both.
   pub one-walk : {p : Opening} {clock count : ℕ} {boot out : List ℕ} {a b : Brings} → Call clock boot out count p a → Call clock boot out count p b → a ≡ b
-  pub rests-or-calls : (cs : Calls) {p : Opening} {n : ℕ} → Comes h s l cs p n → Within (clockOf s cs) (s .boot) n l p ⊎ CallsFor p (clockOf s cs) n (suc l)
-  pub never-both : (cs : Calls) {p : Opening} {n : ℕ} → Within (clockOf s cs) (s .boot) n l p → CallsFor p (clockOf s cs) n (suc l) → ⊥
+  pub rests-or-calls : (p : Opening) (clock n : ℕ) (boot : List ℕ) → n ≤ l → Within clock boot n l p ⊎ CallsFor p clock n (suc l)
+  pub never-both : {p : Opening} {clock n : ℕ} {boot : List ℕ} → Within clock boot n l p → CallsFor p clock n (suc l) → ⊥
   -- Document 01. "On this list 10 comes exactly when the request of the question then put is longer than the buffer; no end needs one."
   pub ten-then : (cs : Calls) → InList l h s cs → run l h s cs .left .verdict ≡ ShortBuffer → TooShort l h s cs
   pub ten-only-then : (cs : Calls) → TooShort l h s cs → run l h s cs .left .verdict ≡ ShortBuffer
+  -- "It holds what the steps use, the caches and a count, first 0."
+  pub first-zero : {p : Opening} {n : ℕ} → Comes h s l start p n → n ≡ 0
+  -- "A start that no number but 10 refuses, or an answer to its question, goes on by the steps;"
+  pub start-goes-on : (t : Turn) → startOpening h s ≡ opens t
+      → started (cachesOf (h .refs) (h .doms)) (coreOf (normalised (s .path)) (s .size) false) (s .clock) ≡ t
+  pub answer-goes-on : (u : Unlimited) (a : Answer) (t : Turn) → answerOpening u a ≡ opens t → eventOf u a ≡ some t
   -- "all other calls, and those with 10, give their number below and change nothing"
   pub start-changes-nothing : (run l h s start .left .verdict ≡ Taken → ⊥)
       → (run l h s start .left .walk ≡ h .walk) × ((run l h s start .left .texts ≡ h .texts) × (run l h s start .left .out ≡ s .out))
@@ -65,6 +84,11 @@ pub record LimitOnlyCuts (h : Held) (s : Start) (l m : ℕ) : Type 0 where
       → (run l h s (then cs a) .left .walk ≡ run l h s cs .left .walk) × ((run l h s (then cs a) .left .texts ≡ run l h s cs .left .texts)
       × ((run l h s (then cs a) .refs ≡ run l h s cs .refs) × ((run l h s (then cs a) .doms ≡ run l h s cs .doms)
       × (run l h s (then cs a) .left .out ≡ outOf s (then cs a)))))
+  -- "A move called for ends 26 or is made and counted; then a replacement goes on and a question waits."
+  pub question-called-for : {q : Question} {r : Rest} → Halts (asks q) r → (r ≡ ended TooLong 0 []) ⊎ (r ≡ waits q)
+  pub replacement-called-for : (c : Caches) (clock : ℕ) (w : Core) (p : List ℕ)
+      → Halts (replaces p) (ended TooLong 0 [])
+      ⊎ Makes c clock w (replaces p) (replacement p ∷ []) (withHit (hitAt c (withPath p w)) (withPath p w)) (step2 c (withPath p w) clock)
   -- "The L walk's moves, its caches after each, its refusal numbers, its end and its count are those of the unlimited walk until that calls for move L + 1"
   pub until-then-same : (cs : Calls) {p : Opening} {n : ℕ} → Comes h s l cs p n → (CallsFor p (clockOf s cs) n (suc l) → ⊥)
       → (b : Brings) × (Call (clockOf s cs) (s .boot) (outOf s cs) n p b × SameIn l h s cs b)

@@ -492,9 +492,14 @@ pub fn altered(r: &mut Random, caches: &mut Caches, walk: Option<&Walk>) {
     }
     for place in &mut caches.domains {
         let Some(d) = place.as_mut().filter(|d| !in_use_only || same(&d.name)) else { continue };
-        match r.below(3) {
+        match r.below(4) {
             0 => *place = None,
             1 => {
+                // it has been told other DCs
+                d.dcs = (0..1 + r.below(8)).map(|_| dc_name(r)).collect();
+                d.hint = Some(r.below(d.dcs.len()));
+            }
+            2 => {
                 d.dcs.truncate(r.below(1 + d.dcs.len()));
                 d.hint = d.hint.filter(|_| !d.dcs.is_empty()).map(|h| h.min(d.dcs.len() - 1));
             }

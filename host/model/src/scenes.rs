@@ -132,6 +132,30 @@ pub fn clock(r: &mut Random) -> u32 {
     r.one_of(&[100, 0, 1, 0x7FFF_FFFF, u32::MAX - 5, u32::MAX, any])
 }
 
+// Another spelling of the same path now and then, or a bad or long one.
+fn misspell(r: &mut Random, path: &mut Text) {
+    match r.below(60) {
+        0 => path.insert(0, BACKSLASH),
+        1 | 2 => path.push(BACKSLASH),
+        3 => *path = first(path, 1),
+        4 => {
+            path.remove(0);
+        }
+        5 => path.truncate(1),
+        6 => {
+            let at = r.below(path.len());
+            path[at] = r.one_of(&[0, b'/' as u16, b'.' as u16, BACKSLASH]);
+        }
+        7 => path.extend(ascii(r.one_of(&["\\.", "\\..", "\\\\", "\\...", "\\"]))),
+        8 => path.resize(r.one_of(&[256, 257, 258, 300]).max(path.len()), b'z' as u16),
+        9 => {
+            let n = r.below(4);
+            *path = vec![BACKSLASH; n];
+        }
+        _ => {}
+    }
+}
+
 /// A path that a host may give: mostly good, often one that the cache matches.
 pub fn path(r: &mut Random, caches: Option<&Caches>) -> Text {
     let prefixes: Vec<Text> = caches.map_or(vec![], |c| c.referrals.iter().flatten().map(|e| e.prefix.clone()).collect());
@@ -154,25 +178,10 @@ pub fn path(r: &mut Random, caches: Option<&Caches>) -> Text {
         path.push(BACKSLASH);
         path.extend(component(r, &THIRD));
     }
-    match r.below(60) {
-        0 => path.insert(0, BACKSLASH),
-        1 | 2 => path.push(BACKSLASH),
-        3 => path = first(&path, 1),
-        4 => {
-            path.remove(0);
+    for _ in 0..r.one_of(&[1, 1, 2, 3]) {
+        if !path.is_empty() {
+            misspell(r, &mut path);
         }
-        5 => path.truncate(1),
-        6 => {
-            let at = r.below(path.len());
-            path[at] = r.one_of(&[0, b'/' as u16, b'.' as u16, BACKSLASH]);
-        }
-        7 => path.extend(ascii(r.one_of(&["\\.", "\\..", "\\\\", "\\...", "\\"]))),
-        8 => path.resize(r.one_of(&[256, 257, 258, 300]).max(path.len()), b'z' as u16),
-        9 => {
-            let n = r.below(4);
-            path = vec![BACKSLASH; n];
-        }
-        _ => {}
     }
     path
 }
@@ -347,6 +356,7 @@ fn referral_reply(r: &mut Random, asked: &[u16], caches: Option<&Caches>, covere
     let held = caches.and_then(|c| c.referrals.iter().flatten().find(|e| equal(&e.prefix, &prefix)));
     let list = reply_targets(r, held);
     let server_type = if covered && r.in_hundred(80) { 0 } else { r.below(2) };
+    let server_type = if r.in_hundred(1) { r.one_of(&[2, 256, 257]) } else { server_type };
     let flags = r.one_of(&[0, 1, 2, 3, 1, 2, 3]) | r.one_of(&[0, 4]) | r.one_of(&[0, 0, 8, 0xFFFF_0000]);
     let mut entries = vec![];
     for t in &list {
@@ -357,6 +367,16 @@ fn referral_reply(r: &mut Random, asked: &[u16], caches: Option<&Caches>, covere
         fixed.extend([r.below(256) as u8; 16]);
         let strings = vec![(12, string(&spelled(r, &prefix))), (16, string(&spelled(r, &t.path)))];
         entries.push(Entry { fixed, strings });
+    }
+    if r.in_hundred(3) {
+        // one entry is not like the others: version, ServerType, flags or DFSPath
+        let i = r.below(entries.len());
+        match r.below(4) {
+            0 => entries[i].fixed[0] = r.one_of(&[1, 2, 3, 4, 5]),
+            1 => entries[i].fixed[4] ^= 1,
+            2 => entries[i].fixed[6] |= 2,
+            _ => entries[i].strings[0].1 = string(&good_path(r, 3)),
+        }
     }
     let header = header(r, list.len(), flags);
     laid_out(r, header, entries)
@@ -373,7 +393,9 @@ fn dc_reply(r: &mut Random) -> Vec<u8> {
         put_string(&mut names, &name);
     }
     let mut fixed = vec![];
-    put(&mut fixed, &[r.one_of(&[3, 4]), 0, r.below(2) as u16, 2 | r.one_of(&[0, 4, 8]), 7, 0, 0, count as u16, 0]);
+    let version = if r.in_hundred(2) { r.one_of(&[2, 5]) } else { r.one_of(&[3, 4]) };
+    let told = if r.in_hundred(3) { 0 } else { count as u16 };
+    put(&mut fixed, &[version, 0, r.below(2) as u16, 2 | r.one_of(&[0, 4, 8]), 7, 0, 0, told, 0]);
     let more = r.in_hundred(5) as usize;
     let header = header(r, 1 + more, 0);
     laid_out(r, header, vec![Entry { fixed, strings: vec![(12, string(&ascii("\\corp"))), (16, names)] }])
@@ -386,7 +408,11 @@ pub fn domain_reply(r: &mut Random) -> Vec<u8> {
         let mut name = vec![BACKSLASH];
         name.extend(component(r, &FIRST));
         let mut fixed = vec![];
-        put(&mut fixed, &[3, 0, 0, 2, 7, 0, 0, 0, 0]);
+        if r.in_hundred(1) {
+            name.remove(0);
+        }
+        let version = if r.in_hundred(1) { 4 } else { 3 };
+        put(&mut fixed, &[version, 0, 0, 2, 7, 0, 0, 0, 0]);
         entries.push(Entry { fixed, strings: vec![(12, string(&name))] });
     }
     let header = header(r, count, 0);
@@ -466,9 +492,14 @@ pub fn altered(r: &mut Random, caches: &mut Caches, walk: Option<&Walk>) {
     }
     for place in &mut caches.domains {
         let Some(d) = place.as_mut().filter(|d| !in_use_only || same(&d.name)) else { continue };
-        match r.below(3) {
+        match r.below(4) {
             0 => *place = None,
             1 => {
+                // it has been told other DCs
+                d.dcs = (0..1 + r.below(8)).map(|_| dc_name(r)).collect();
+                d.hint = Some(r.below(d.dcs.len()));
+            }
+            2 => {
                 d.dcs.truncate(r.below(1 + d.dcs.len()));
                 d.hint = d.hint.filter(|_| !d.dcs.is_empty()).map(|h| h.min(d.dcs.len() - 1));
             }

@@ -9,3 +9,4 @@ pub mod NamedLaws
 pub mod EventLaws
 pub mod BackLaws
 pub mod CallLaws
+pub mod StoreLaws

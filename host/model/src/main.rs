@@ -96,7 +96,7 @@ impl Host {
 
     /// Units changed or lengths off, in the caches or in the walk.
     fn damage(&mut self, r: &mut Random) {
-        match r.below(9) {
+        match r.below(12) {
             0 | 1 => scenes::poked(r, &mut self.refs, PLACE),
             2 => scenes::poked(r, &mut self.doms, PLACE),
             3 => {
@@ -109,7 +109,16 @@ impl Host {
             }
             5 => self.units.resize(r.one_of(&[0, 31, 32, 799, 801]), 0),
             // waiting for another kind of answer, or ended otherwise: of the form or not
-            6 => self.units[9] = r.one_of(&[0, 1, 2, 3, 4, 4, 5, 6, 19, 20, 21, 27, 28]),
+            6 if r.in_hundred(60) => self.units[9] = r.one_of(&[0, 1, 2, 3, 4, 4, 5, 6, 19, 20, 21, 27, 28]),
+            // a root request to a host in place of what waits
+            6 if r.in_hundred(50) => self.units[9..16].copy_from_slice(&[2, 0, 0, 0, 8192, 0, 0]),
+            // another party, another place where the round began, or PATH_NOT_COVERED
+            6 => self.units[r.one_of(&[11, 12, 15])] = 1,
+            7..=9 => {
+                let mut caches = self.caches.clone().unwrap();
+                scenes::disordered(r, &mut caches);
+                self.lend(caches);
+            }
             _ => scenes::poked(r, &mut self.units, WALK),
         }
         self.caches = lent::caches(&self.refs, &self.doms);

@@ -508,6 +508,43 @@ pub fn altered(r: &mut Random, caches: &mut Caches, walk: Option<&Walk>) {
     }
 }
 
+/// One rule of order broken by one entry.
+pub fn disordered(r: &mut Random, caches: &mut Caches) {
+    let (i, j) = (r.below(caches.referrals.len()), r.below(caches.referrals.len()));
+    let bad = r.one_of(&["\\a", "\\a\\..", "\\\\a\\b", "\\a\\b\\", "a\\b", "\\a\\/"]);
+    if let Some(mut e) = caches.referrals[i].clone().filter(|_| r.in_hundred(60)) {
+        match r.below(6) {
+            0 => e.prefix = respelled(r, &e.prefix),
+            1 => e.prefix = ascii(bad),
+            2 => {
+                let t = r.below(e.targets.len());
+                e.targets[t].path = ascii(bad);
+            }
+            3 => e.hint = e.targets.len(),
+            4 => e.targets[0].boundary = true,
+            _ => e.targets.clear(),
+        }
+        // an equal prefix stands twice where i and j are two places
+        caches.referrals[j] = Some(e);
+        return;
+    }
+    let (i, j) = (r.below(caches.domains.len()), r.below(caches.domains.len()));
+    if let Some(mut d) = caches.domains[i].clone() {
+        match r.below(4) {
+            0 => d.name = respelled(r, &d.name),
+            1 => d.name = ascii(bad),
+            2 if !d.dcs.is_empty() => d.hint = Some(d.dcs.len()),
+            _ => {
+                let name = ascii(r.one_of(&["", "..", "a\\b", "/"]));
+                d.dcs.truncate(7);
+                d.dcs.push(name);
+                d.hint = Some(0);
+            }
+        }
+        caches.domains[j] = Some(d);
+    }
+}
+
 /// One unit of lent memory changed: mostly in a head.
 pub fn poked(r: &mut Random, units: &mut [u16], every: usize) {
     if units.is_empty() {

@@ -186,6 +186,13 @@ rests-or-calls l (opens t) clock n boot f = go (rests-or-cut (t .caches) clock b
       number = omega (arith, x .long);
     })
 
+no-halt-at : {a : Called} {r : Rest} {p : List ℕ} → Halts a r → a ≡ replaces p → length p ≤ pathUnits → ⊥
+no-halt-at at-end e f = let z : _≡_ {A = ℕ} 0 1 = cc in omega arith
+no-halt-at (is-put g) e f = let z : _≡_ {A = ℕ} 0 1 = cc in omega arith
+no-halt-at (try-long g) e f = let z : _≡_ {A = ℕ} 0 1 = cc in omega arith
+no-halt-at {p = p} (path-long {p = o} g) e f =
+    let z : o ≡ p = cc in omega (arith, ap length z)
+
 -- the sentences that the definitions say
 started-list : {l : ℕ} {h : Held} {s : Start} (cs : Calls) (a : Answer) → InList l h s (then cs a) → run l h s start .left .verdict ≡ Taken
 started-list cs a (an-answer e) = e
@@ -211,6 +218,19 @@ replacement-made c clock w p = go (lt-or-le pathUnits (length p))
         ⊎ Makes c clock w (replaces p) (replacement p ∷ []) (withHit (hitAt c (withPath p w)) (withPath p w)) (step2 c (withPath p w) clock)
     go (inl f) = inl (path-long f)
     go (inr f) = inr (goes-on f here)
+
+-- a replacement that is called for and fits is the first move
+first-replaced : {c : Caches} {clock : ℕ} {w v : Core} {a b : Called} {rs : List Move} {r : Rest} (p : List ℕ) → Makes c clock w a rs v b → Halts b r → a ≡ replaces p
+    → length p ≤ pathUnits → (more : List Move) × (rs ≡ replacement p ∷ more)
+first-replaced p here h e f = absurd (no-halt-at h e f)
+first-replaced p (goes-on {p = o} {ms = ms} g x) h e f =
+    let z : o ≡ p = cc in (ms, ap (λ (l : List ℕ). replacement l ∷ ms) z)
+
+is-a-move : {t : Turn} {clock : ℕ} {boot : List ℕ} {ms : List Move} {w : Core} {r : Rest} (p : List ℕ) → Rests t clock boot ms w r → t .called ≡ replaces p
+    → length p ≤ pathUnits → (more : List Move) × (ms ≡ replacement p ∷ more)
+is-a-move {t} {clock} {boot} {ms} {w} {r} p x e f =
+    let z = first-replaced p (x .made) (x .halts) e f in
+    (z .0 ++ lastMove (t .caches) boot w r, x .moves ∙ ap (λ (l : List Move). l ++ lastMove (t .caches) boot w r) (z .1))
 
 -- one limit
 module _ (l : ℕ) (good : goodLimit l ≡ true) (h : Held) (s : Start) where
@@ -585,6 +605,7 @@ limit-only-cuts h s l m a b c =
       each-gets = gets l h s;
       start-ends = started-list;
       every-call = λ cs e. somewhere l low h s e cs;
+      without-limit = further l m low high b h s;
       one-walk = one-walk;
       rests-or-calls = rests-or-calls l;
       never-both = never-both;
@@ -606,4 +627,5 @@ limit-only-cuts h s l m a b c =
       ends-alike = λ cs i n x. ends-alike l m low high b h s cs i n x;
       first-the-same = first-the-same l m low high b h s;
       limit-reached-then = reached l low h s;
+      replacement-is-a-move = is-a-move;
     }

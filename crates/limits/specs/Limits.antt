@@ -7,7 +7,7 @@ use mathlib.Core.Logic.{_⊎_}
 use mathlib.Core.Option.{some}
 use lib.ListN.{length}
 use Rattle.referral.specs.Request.{request}
-use Rattle.unc.specs.Paths.{normalised}
+use Rattle.unc.specs.Paths.{normalised, pathUnits}
 use Rattle.steps.specs.Steps.{Caches, Core, Question, asks, replaces, Rest, waits, ended, Turn, started, withPath, withHit, hitAt, step2}
 use Rattle.steps.specs.Rested.{cachesOf, coreOf}
 use Rattle.steps.specs.declared.End.{End}
@@ -63,6 +63,8 @@ pub record LimitOnlyCuts (h : Held) (s : Start) (l m : ℕ) : Type 0 where
   pub start-ends : (cs : Calls) (a : Answer) → InList l h s (then cs a) → run l h s start .left .verdict ≡ Taken
   -- "It is one claim about the list": the unlimited walk has followed all calls of it, unless one called for move L + 1.
   pub every-call : (cs : Calls) → run l h s start .left .verdict ≡ Taken → ((u : Unlimited) × Follows h s l cs u) ⊎ CutBy l h s cs
+  -- "The unlimited walk is fed these calls alone, without L.": a greater limit to compare with changes nothing of it.
+  pub without-limit : {cs : Calls} {u : Unlimited} → Follows h s l cs u → Follows h s m cs u
   -- The unlimited walk is one walk: what a call brings it is determined, and every call comes to rest with L moves called for at most, or calls for move
   -- L + 1, and never both.
   pub one-walk : {p : Opening} {clock count : ℕ} {boot out : List ℕ} {a b : Brings} → Call clock boot out count p a → Call clock boot out count p b → a ≡ b
@@ -116,3 +118,6 @@ pub record LimitOnlyCuts (h : Held) (s : Start) (l m : ℕ) : Type 0 where
   -- ""Limit reached" comes exactly when the steps, taken without a limit, call for move L + 1." (`then-cut` is the other direction.)
   pub limit-reached-then : (cs : Calls) → InList l h s cs → EndsIn l h s cs LimitReached
       → (p : Opening) × ((n : ℕ) × (Comes h s l cs p n × CallsFor p (clockOf s cs) n (suc l)))
+  -- "Step 11 replacements made from a warm cache are moves too."
+  pub replacement-is-a-move : {t : Turn} {clock : ℕ} {boot : List ℕ} {ms : List Move} {w : Core} {r : Rest} (p : List ℕ) → Rests t clock boot ms w r → t .called ≡ replaces p
+      → length p ≤ pathUnits → (more : List Move) × (ms ≡ replacement p ∷ more)

@@ -18,7 +18,7 @@ fn text_good(text: &[u16], domain: bool) -> bool
     if domain {
         return unc::good_name(text);
     }
-    2 <= unc::normalised_count(text)
+    2 <= forms::normalised_count(text)
 }
 
 // Whether the key and the texts of the list of a place are good.

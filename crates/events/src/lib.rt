@@ -204,7 +204,7 @@ fn succeeded(
     ensures doms { λ r. ⌜ now (doms .exit) ≡ domainsLeft room left clock (referralSucceeds (cachesOf (now (refs .entry)) (now (doms .entry))) (coreOf (take len (now (rooms .entry))) size hit) (questionOf q []) (now (reply .entry)) clock) (now (doms .entry)) ⌝ }
 {
     let kind = q.kind;
-    let two = unc::first_end(&rooms[..len], 2);
+    let two = matching::first_end(&rooms[..len], 2);
     match kind {
         Kind::Dc => dc_reply(
             refs,

@@ -59,7 +59,7 @@ fn good_text(room: &[u16], n: usize) -> bool
     requires { ⌜ n ≤ length (now room) ⌝ }
     ensures { λ r. ⌜ r ≡ goodPrefix (take n (now (room .entry))) ⌝ }
 {
-    2 <= unc::normalised_count(&room[..n])
+    2 <= forms::normalised_count(&room[..n])
 }
 
 // Whether a spelling of n units says a normalised path of two components or more.

@@ -24,7 +24,7 @@ fn longer_match(prefix: &[u16], path: &[u16], units: usize) -> bool
     if prefix.len() <= units {
         return false;
     }
-    unc::matches(prefix, path)
+    matching::matches(prefix, path)
 }
 
 // The place of the entry whose prefix is the longest that matches the path.

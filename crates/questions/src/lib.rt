@@ -16,10 +16,10 @@ fn name_units(kind: Kind, path: &[u16]) -> Name
     ensures { λ r. ⌜ r ≡ nameUnits kind (now (path .entry)) ⌝ }
 {
     match kind {
-        Kind::Dc => Name::First(unc::first_end(path, 1)),
-        Kind::Root => Name::First(unc::first_end(path, 2)),
+        Kind::Dc => Name::First(matching::first_end(path, 1)),
+        Kind::Root => Name::First(matching::first_end(path, 2)),
         Kind::Link => Name::First(path.len()),
-        Kind::Sysvol => Name::First(unc::first_end(path, 2)),
+        Kind::Sysvol => Name::First(matching::first_end(path, 2)),
         Kind::Io => Name::Absent,
     }
 }

@@ -177,7 +177,7 @@ fn failed_dc(doms: &[u16], path: &[u16], left: u16, hit: bool, size: u32, q: Ask
     if dc == q.began {
         return steps::end_at(End::NoDc, NOT_FOUND, path.len(), left, hit);
     }
-    let entry = unc::first_end(path, 1) as u16;
+    let entry = matching::first_end(path, 1) as u16;
     let asked = Asking {
         kind: Kind::Root,
         entry,

@@ -26,7 +26,7 @@ pub fn put_path(path: &[u16], rooms: &mut [u16]) -> Form
     ensures rooms { λ r. ⌜ now (rooms .exit) ≡ pathRooms (now (path .entry)) (now (rooms .entry)) ⌝ }
 {
     rooms::clear_units(rooms, ROOM, ROOM);
-    unc::normalise(path, &mut rooms[..ROOM])
+    forms::normalise(path, &mut rooms[..ROOM])
 }
 
 // Where the steps rest after a start with a path of n units and k components.

@@ -101,7 +101,7 @@ pub enum Matched {
 fn step9(refs: &[u16], path: &[u16]) -> Matched
     ensures { λ r. ⌜ r ≡ step9In (now (path .entry)) (now (refs .entry)) ⌝ }
 {
-    let n = unc::first_end(path, 2);
+    let n = matching::first_end(path, 2);
     let Found::At(i) = lookup::find_prefix(refs, &path[..n]) else {
         return Matched::Stale;
     };
@@ -149,7 +149,7 @@ fn domain_asking(kind: Kind, path: &[u16], party: u16, size: u32) -> Asking
     requires { ⌜ length (now path) ≤ 256 ⌝ }
     ensures { λ r. ⌜ r ≡ domainAsking kind (now (path .entry)) party size ⌝ }
 {
-    let n = unc::first_end(path, 1);
+    let n = matching::first_end(path, 1);
     Asking {
         kind,
         entry: n as u16,
@@ -174,7 +174,7 @@ fn ask_domain(doms: &[u16], path: &[u16], i: usize, left: u16, hit: bool, size: 
         );
     }
     let hint = lookup::dc_hint(doms, i);
-    if unc::is_sysvol(path) {
+    if matching::is_sysvol(path) {
         return ask(
             domain_asking(Kind::Sysvol, path, hint, size),
             path.len(),
@@ -195,7 +195,7 @@ pub fn host(path: &[u16]) -> &[u16]
     requires { ⌜ goodPrefix (now path) ≡ true ⌝ }
     ensures { λ r. ⌜ now r ≡ getD (components (now (path .entry))) 0 [] ⌝ }
 {
-    let n = unc::first_end(path, 1);
+    let n = matching::first_end(path, 1);
     &path[1..n]
 }
 
@@ -226,7 +226,7 @@ pub fn turns(refs: &[u16], path: &[u16], i: usize) -> bool
     if lookup::is_root(refs, i) {
         return false;
     }
-    if unc::is_sysvol(path) {
+    if matching::is_sysvol(path) {
         return false;
     }
     lookup::is_interlink(refs, i)

@@ -66,7 +66,7 @@ pub fn good_settings(limit: u32, size: u32, boot: &[u16]) -> bool
 fn names_domain(path: &[u16], q: Asking) -> bool
     ensures { λ r. ⌜ r ≡ namesDomain (now (path .entry)) q ⌝ }
 {
-    q.entry as usize == unc::first_end(path, 1)
+    q.entry as usize == matching::first_end(path, 1)
 }
 
 fn names_prefix(path: &[u16], q: Asking) -> bool
@@ -76,10 +76,10 @@ fn names_prefix(path: &[u16], q: Asking) -> bool
     if path.len() < n {
         return false;
     }
-    if unc::normalised_count(&path[..n]) < 2 {
+    if forms::normalised_count(&path[..n]) < 2 {
         return false;
     }
-    unc::matches(&path[..n], path)
+    matching::matches(&path[..n], path)
 }
 
 fn no_party(q: Asking) -> bool
@@ -206,7 +206,7 @@ fn good_tried(has: bool, tried: &[u16]) -> bool
     ensures { λ r. ⌜ r ≡ goodTried has (now (tried .entry)) ⌝ }
 {
     if has {
-        return 1 <= unc::normalised_count(tried);
+        return 1 <= forms::normalised_count(tried);
     }
     tried.len() == 0
 }
@@ -229,7 +229,7 @@ fn end_status(end: End, status: u32) -> bool
 fn asking_form(path: &[u16], tried: &[u16], q: Asking) -> bool
     ensures { λ r. ⌜ r ≡ askingForm (now (path .entry)) (now (tried .entry)) q ⌝ }
 {
-    if unc::normalised_count(path) < 2 {
+    if forms::normalised_count(path) < 2 {
         return false;
     }
     let kind = q.kind;
@@ -242,7 +242,7 @@ fn asking_form(path: &[u16], tried: &[u16], q: Asking) -> bool
 fn end_form(path: &[u16], tried: &[u16], end: End, status: u32) -> bool
     ensures { λ r. ⌜ r ≡ endForm (now (path .entry)) (now (tried .entry)) end status ⌝ }
 {
-    if unc::normalised_count(path) < 1 {
+    if forms::normalised_count(path) < 1 {
         return false;
     }
     if !good_tried(end_tried(end), tried) {

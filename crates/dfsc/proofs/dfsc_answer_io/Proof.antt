@@ -1,4 +1,4 @@
-use Rattle.dfsc.proofs.UnitLaws.{io-room, io-closed}
+use Rattle.holding.proofs.UnitLaws.{io-room, io-closed}
 use denote.Ref.{now}
 use borrow.Author.Needs.{needs}
 use Rattle.dfsc.proofs.dfsc_answer_io.Statement.{statement}

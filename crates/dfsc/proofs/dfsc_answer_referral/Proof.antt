@@ -1,4 +1,4 @@
-use Rattle.dfsc.proofs.UnitLaws.{referral-room, referral-closed}
+use Rattle.holding.proofs.UnitLaws.{referral-room, referral-closed}
 use denote.Ref.{now}
 use borrow.Author.Needs.{needs}
 use Rattle.dfsc.proofs.dfsc_answer_referral.Statement.{statement}

@@ -1,4 +1,4 @@
-use Rattle.dfsc.proofs.UnitLaws.{asked-bytes, asked-short}
+use Rattle.holding.proofs.UnitLaws.{asked-bytes, asked-short}
 use borrow.Author.Needs.{needs}
 use Rattle.dfsc.proofs.dfsc_domain_request.Statement.{statement}
 use Rattle.dfsc.proofs.dfsc_domain_request.Tie as tie

@@ -1,4 +1,4 @@
-use Rattle.dfsc.proofs.UnitLaws.{end-seen}
+use Rattle.holding.proofs.UnitLaws.{end-seen}
 use borrow.Author.Needs.{needs}
 use Rattle.dfsc.proofs.dfsc_end.Statement.{statement}
 use Rattle.dfsc.proofs.dfsc_end.Tie as tie

@@ -1,4 +1,4 @@
-use Rattle.dfsc.proofs.UnitLaws.{path-seen}
+use Rattle.holding.proofs.UnitLaws.{path-seen}
 use borrow.Author.Needs.{needs}
 use Rattle.dfsc.proofs.dfsc_end_path.Statement.{statement}
 use Rattle.dfsc.proofs.dfsc_end_path.Tie as tie

@@ -1,4 +1,4 @@
-use Rattle.dfsc.proofs.UnitLaws.{question-seen}
+use Rattle.holding.proofs.UnitLaws.{question-seen}
 use borrow.Author.Needs.{needs}
 use Rattle.dfsc.proofs.dfsc_question.Statement.{statement}
 use Rattle.dfsc.proofs.dfsc_question.Tie as tie

@@ -1,4 +1,4 @@
-use Rattle.dfsc.proofs.UnitLaws.{name-seen}
+use Rattle.holding.proofs.UnitLaws.{name-seen}
 use borrow.Author.Needs.{needs}
 use Rattle.dfsc.proofs.dfsc_question_name.Statement.{statement}
 use Rattle.dfsc.proofs.dfsc_question_name.Tie as tie

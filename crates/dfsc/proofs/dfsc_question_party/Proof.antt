@@ -1,4 +1,4 @@
-use Rattle.dfsc.proofs.UnitLaws.{party-seen}
+use Rattle.holding.proofs.UnitLaws.{party-seen}
 use borrow.Author.Needs.{needs}
 use Rattle.dfsc.proofs.dfsc_question_party.Statement.{statement}
 use Rattle.dfsc.proofs.dfsc_question_party.Tie as tie

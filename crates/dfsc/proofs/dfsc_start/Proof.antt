@@ -1,4 +1,4 @@
-use Rattle.dfsc.proofs.UnitLaws.{start-room, start-closed}
+use Rattle.holding.proofs.UnitLaws.{start-room, start-closed}
 use denote.Ref.{now}
 use borrow.Author.Needs.{needs}
 use Rattle.dfsc.proofs.dfsc_start.Statement.{statement}

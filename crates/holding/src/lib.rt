@@ -1,0 +1,106 @@
+// What a host lends: a walk as units, and the numbers that are given back. A walk is lent as 800 units: its packed form in 32, then its texts.
+ghost use mathlib.Core.Path.{_≡_};
+ghost use Prim.Native.Nat.{_≤_, min};
+ghost use lib.ListN.{length};
+ghost use Rattle.resolve.specs.Calls.{refusalNumber};
+ghost use Rattle.holding.specs.Units.{noWalk, walkIn, closedUnits, shownResult, domainsRefusal};
+use closing::Outcome;
+use closing::Verdict;
+use domains::DomainsRead;
+use packing::HEAD;
+use packing::Unpacked;
+use shown::Shown;
+use steps::End;
+use steps::Next;
+use walks::Walk;
+
+// The units of the packed form that are there.
+pub fn head_units(units: &[u16]) -> usize
+    ensures { λ r. ⌜ r ≡ min 32 (length (now (units .entry))) ⌝ }
+{
+    if units.len() < HEAD {
+        return units.len();
+    }
+    HEAD
+}
+
+// A walk that is out of form.
+pub fn no_walk() -> Walk
+    ensures { λ r. ⌜ r ≡ noWalk ⌝ }
+{
+    Walk {
+        limit: 0,
+        size: 0,
+        boot: 0,
+        moves: 0,
+        path: 0,
+        tried: 0,
+        hit: false,
+        next: Next::Ends(End::Gone, 0),
+    }
+}
+
+// The walk in its units; one out of form where they are not of its form.
+pub fn held(units: &[u16]) -> Walk
+    ensures { λ r. ⌜ r ≡ walkIn (now (units .entry)) ⌝ }
+{
+    let n = head_units(units);
+    let Unpacked::Held(walk) = packing::unpack(&units[..n]) else {
+        return no_walk();
+    };
+    walk
+}
+
+pub fn refusal_number(verdict: Verdict) -> u32
+    ensures { λ r. ⌜ r ≡ refusalNumber verdict ⌝ }
+{
+    match verdict {
+        Verdict::Taken => 0,
+        Verdict::BadPath => 1,
+        Verdict::LongPath => 2,
+        Verdict::BadSettings => 3,
+        Verdict::NotInOrder => 4,
+        Verdict::OutOfForm => 5,
+        Verdict::ShortBuffer => 10,
+    }
+}
+
+// The number of a call, and its walk into the units where it is taken.
+pub fn close(o: Outcome, units: &mut [u16]) -> u32
+    requires { ⌜ (refusalNumber (o .verdict) ≡ 0 → 32 ≤ length (now units)) ⌝ }
+    ensures number { λ r. ⌜ r ≡ refusalNumber (o .verdict) ⌝ }
+    ensures units { λ r. ⌜ now (units .exit) ≡ closedUnits (refusalNumber (o .verdict)) (o .walk) (now (units .entry)) ⌝ }
+{
+    let verdict = o.verdict;
+    let number = refusal_number(verdict);
+    if number != 0 {
+        return number;
+    }
+    let walk = o.walk;
+    packing::pack(walk, units);
+    0
+}
+
+pub fn shown_result(s: Shown) -> u32
+    ensures { λ r. ⌜ r ≡ shownResult s ⌝ }
+{
+    match s {
+        Shown::Units(n) => n as u32,
+        Shown::NotInOrder => 262144,
+        Shown::OutOfForm => 327680,
+        Shown::ShortBuffer => 655360,
+        Shown::NoEntry => 1769472,
+    }
+}
+
+pub fn domains_number(read: DomainsRead) -> u32
+    ensures { λ r. ⌜ r ≡ domainsRefusal read ⌝ }
+{
+    match read {
+        DomainsRead::Done => 0,
+        DomainsRead::BadSize => 3,
+        DomainsRead::NotInOrder => 4,
+        DomainsRead::TooMany => 6,
+        DomainsRead::Unreadable => 7,
+    }
+}

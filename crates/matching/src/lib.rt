@@ -1,0 +1,102 @@
+// Components of a path, prefix match, and the replaced path: document 01, "Paths".
+ghost use mathlib.Core.Path.{_≡_};
+ghost use Prim.Native.Nat.{min};
+ghost use lib.ListN.{length};
+ghost use Rattle.unc.specs.Paths.{componentCount, firstOf, matches, isSysvol, replaced, written, roomWith};
+use unc::Written;
+
+const BACKSLASH: u16 = 92;
+
+const SYSVOL: [u16; 6] = [83, 89, 83, 86, 79, 76];
+
+const NETLOGON: [u16; 8] = [78, 69, 84, 76, 79, 71, 79, 78];
+
+pub fn component_count(s: &[u16]) -> usize
+    ensures { λ r. ⌜ r ≡ componentCount (now (s .entry)) ⌝ }
+{
+    let mut n = 0;
+    let mut i = 0;
+    while i < s.len() {
+        if s[i] == BACKSLASH {
+            n += 1;
+        }
+        i += 1;
+    }
+    n
+}
+
+// Where the first `k` components of a path end: they are the units before that place, and the component after them starts one past it.
+pub fn first_end(s: &[u16], k: usize) -> usize
+    ensures { λ r. ⌜ r ≡ length (firstOf k (now (s .entry))) ⌝ }
+{
+    let mut left = k;
+    let mut i = 0;
+    while i < s.len() {
+        if s[i] != BACKSLASH {
+            i += 1;
+            continue;
+        }
+        if left == 0 {
+            return i;
+        }
+        left -= 1;
+        i += 1;
+    }
+    i
+}
+
+pub fn matches(prefix: &[u16], path: &[u16]) -> bool
+    ensures { λ r. ⌜ r ≡ matches (now (prefix .entry)) (now (path .entry)) ⌝ }
+{
+    let n = prefix.len();
+    if n == path.len() {
+        return unc::same_name(prefix, path);
+    }
+    if path.len() < n {
+        return false;
+    }
+    if path[n] != BACKSLASH {
+        return false;
+    }
+    unc::same_name(prefix, &path[..n])
+}
+
+// Whether the second component is SYSVOL or NETLOGON.
+pub fn is_sysvol(path: &[u16]) -> bool
+    ensures { λ r. ⌜ r ≡ isSysvol (now (path .entry)) ⌝ }
+{
+    let a = first_end(path, 1);
+    if path.len() <= a {
+        return false;
+    }
+    let e = first_end(path, 2);
+    let sysvol = SYSVOL;
+    if unc::same_name(&path[a + 1..e], &sysvol) {
+        return true;
+    }
+    let netlogon = NETLOGON;
+    unc::same_name(&path[a + 1..e], &netlogon)
+}
+
+fn smaller(a: usize, b: usize) -> usize
+    ensures { λ r. ⌜ r ≡ min a b ⌝ }
+{
+    if a < b { a } else { b }
+}
+
+// The path of steps 3 and 11 into a lent room, with zeros after it: the target, then what follows the first `k` units of the path, which
+// are the prefix's. The room's length is the most units that the path may have.
+pub fn replace(target: &[u16], k: usize, path: &[u16], room: &mut [u16]) -> Written
+    ensures answer { λ r. ⌜ r ≡ written (length (now (room .entry))) (replaced (now (target .entry)) k (now (path .entry))) ⌝ }
+    ensures room { λ r. ⌜ now (room .exit) ≡ roomWith (replaced (now (target .entry)) k (now (path .entry))) (now (room .entry)) ⌝ }
+{
+    let from = smaller(k, path.len());
+    let units = target.len() + (path.len() - from);
+    let n = room.len();
+    if n < units {
+        return Written::TooLong;
+    }
+    rooms::copy_units(room, 0, target);
+    rooms::put_text(room, target.len(), n - target.len(), &path[from..]);
+    Written::Units(units)
+}

@@ -56,9 +56,14 @@ pub fn same_name(a: &[u16], b: &[u16]) -> bool
     }
     let mut i = 0;
     while i < a.len() {
-        let x = fold(a[i]);
-        let y = fold(b[i]);
-        if x != y {
+        let x = a[i];
+        let y = b[i];
+        // most units are the same, and need no folding
+        if x == y {
+            i += 1;
+            continue;
+        }
+        if !same_unit(x, y) {
             return false;
         }
         i += 1;

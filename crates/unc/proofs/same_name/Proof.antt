@@ -1,10 +1,11 @@
 use denote.Ref.{now}
-use Rattle.unc.specs.Names.{sameName}
+use Rattle.unc.specs.Names.{folded, sameName}
 use Prim.Native.Nat.{_≤_, _-_}
 use lib.ListN.{length, drop}
-use mathlib.Core.Path.{_≡_, refl, sym, _∙_}
+use mathlib.Core.Path.{_≡_, refl, sym, ap, _∙_}
 use native.Mathlib.Omega.{arith}
-use Rattle.unc.proofs.NameLaws.{sameName-unlike, same-hit, same-miss, same-end}
+use Rattle.unc.proofs.NameLaws.{sameName-unlike, same-hit, units-hit, units-miss, same-end}
+use borrow.Author.Tests.{not-true, not-false}
 use borrow.Author.Needs.{needs}
 use Rattle.unc.proofs.same_name.Statement.{statement}
 use Rattle.unc.proofs.same_name.Tie as tie
@@ -21,31 +22,17 @@ returns c = sym (sameName-unlike _ _ (c .if1 .taken))
 loop-holds : tie.Need-loop-holds Inv-loop μ-loop
 loop-holds c = (search needs, refl)
 
-mul-fold : tie.Need-mul-fold Inv-loop μ-loop
-mul-fold c = search needs
+mul-x : tie.Need-mul-x Inv-loop μ-loop
+mul-x c = search needs
 
-shared-slice-read-fold : tie.Need-shared-slice-read-fold Inv-loop μ-loop
-shared-slice-read-fold c = search needs
+shared-slice-read-x : tie.Need-shared-slice-read-x Inv-loop μ-loop
+shared-slice-read-x c = search needs
 
-fold-requires : tie.Need-fold-requires Inv-loop μ-loop
-fold-requires c κs = search needs
+mul-y : tie.Need-mul-y Inv-loop μ-loop
+mul-y c = search needs
 
-mul-fold-2 : tie.Need-mul-fold-2 Inv-loop μ-loop
-mul-fold-2 c = search needs
-
-shared-slice-read-fold-2 : tie.Need-shared-slice-read-fold-2 Inv-loop μ-loop
-shared-slice-read-fold-2 c = search needs
-
-fold-requires-2 : tie.Need-fold-requires-2 Inv-loop μ-loop
-fold-requires-2 c κs = search needs
-
-returns-2 : tie.Need-returns-2 Inv-loop μ-loop
-returns-2 c =
-    let a = c .before .before .before .before .before .before .before .before .before .before .args in
-    let i = c .before .before .before .before .before .before .loop .i in
-    sym
-    (c .before .before .before .before .before .before .loop .inv .1
-    ∙ same-miss (now (a .a)) (now (a .b)) i (omega arith) (omega arith) (c .before .before .before .fold .ensures) (c .before .fold2 .ensures) (c .if2 .taken))
+shared-slice-read-y : tie.Need-shared-slice-read-y Inv-loop μ-loop
+shared-slice-read-y c = search needs
 
 add-i : tie.Need-add-i Inv-loop μ-loop
 add-i c = search needs
@@ -55,11 +42,33 @@ loop-less c = search needs
 
 loop-again : tie.Need-loop-again Inv-loop μ-loop
 loop-again c =
+    let a = c .before .before .before .before .before .before .before .before .args in
+    let i = c .before .before .before .before .loop .i in (
+      search needs,
+      c .before .before .before .before .loop .inv .1 ∙ same-hit (now (a .a)) (now (a .b)) i (omega arith) (omega arith) refl refl (ap folded (c .if2 .taken)),
+    )
+
+same-unit-requires : tie.Need-same-unit-requires Inv-loop μ-loop
+same-unit-requires c κs = search needs
+
+returns-2 : tie.Need-returns-2 Inv-loop μ-loop
+returns-2 c =
+    let a = c .before .before .before .before .before .before .before .before .before .before .args in
+    let i = c .before .before .before .before .before .before .loop .i in
+    sym (c .before .before .before .before .before .before .loop .inv .1 ∙ units-miss (now (a .a)) (now (a .b)) i (omega arith) (omega arith) refl refl (c .before .same-unit .ensures) (not-true _ (c .if3 .taken)))
+
+add-i-2 : tie.Need-add-i-2 Inv-loop μ-loop
+add-i-2 c = search needs
+
+loop-less-2 : tie.Need-loop-less-2 Inv-loop μ-loop
+loop-less-2 c = search needs
+
+loop-again-2 : tie.Need-loop-again-2 Inv-loop μ-loop
+loop-again-2 c =
     let a = c .before .before .before .before .before .before .before .before .before .before .args in
     let i = c .before .before .before .before .before .before .loop .i in (
       search needs,
-      c .before .before .before .before .before .before .loop .inv .1
-          ∙ same-hit (now (a .a)) (now (a .b)) i (omega arith) (omega arith) (c .before .before .before .fold .ensures) (c .before .fold2 .ensures) (c .if2 .left),
+      c .before .before .before .before .before .before .loop .inv .1 ∙ units-hit (now (a .a)) (now (a .b)) i (omega arith) (omega arith) refl refl (c .before .same-unit .ensures) (not-false _ (c .if3 .left)),
     )
 
 returns-3 : tie.Need-returns-3 Inv-loop μ-loop
@@ -75,14 +84,16 @@ same-name-spec =
     μ-loop
     returns
     loop-holds
-    mul-fold
-    shared-slice-read-fold
-    fold-requires
-    mul-fold-2
-    shared-slice-read-fold-2
-    fold-requires-2
-    returns-2
+    mul-x
+    shared-slice-read-x
+    mul-y
+    shared-slice-read-y
     add-i
     loop-less
     loop-again
+    same-unit-requires
+    returns-2
+    add-i-2
+    loop-less-2
+    loop-again-2
     returns-3)

@@ -3,12 +3,14 @@
 //!
 //! Each slice is lent in a heap block of exactly its length. With `--guard end` it ends at an unreadable page, with `--guard start` it begins after one;
 //! then controls are run first, which must be caught (`--control SLOT`; of the slot `none` nothing is missing, and its calls are taken).
+#![deny(unsafe_code)]
 mod calls;
 mod control;
 mod lent;
 mod random;
 mod rules;
 mod scenes;
+#[allow(unsafe_code)]
 mod slots;
 
 use lent::{PLACE, WALK};

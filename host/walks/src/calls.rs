@@ -1,4 +1,5 @@
 //! The calls of `dfsc::calls`, each measured: how many bytes of stack it took. What is given to them is made before the measuring begins.
+#![allow(clippy::too_many_arguments)]
 use crate::stack::measured;
 use dfsc::calls;
 

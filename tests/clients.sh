@@ -1,5 +1,6 @@
 #!/usr/bin/env bash
-# The library for hosts as its users see it: C programs over include/dfsc.h, and random walks given to the library and to the model (host/model).
+# The library for hosts as its users see it: C programs over include/dfsc.h, the wrapper for Rust with its tests and the first of those programs
+# (host/dfsc), and random walks given to the library and to the model (host/model).
 set -eu
 cd "$(dirname "$0")/.."
 folder=$(mktemp -d)
@@ -10,4 +11,8 @@ for e in resolve moved_link; do
     "$folder/$e" >"$folder/$e.out"
     diff "host/examples/$e.out" "$folder/$e.out"
 done
+cargo test --quiet --offline --manifest-path host/dfsc/Cargo.toml >"$folder/log" 2>&1 || { cat "$folder/log"; exit 1; }
+grep -E '^test result: ok\. [1-9]' "$folder/log"
+cargo run --quiet --offline --manifest-path host/dfsc/Cargo.toml --example resolve >"$folder/resolve.out"
+diff host/examples/resolve.out "$folder/resolve.out"
 cargo run --quiet --release --offline --manifest-path host/model/Cargo.toml

@@ -1,4 +1,4 @@
-// The order test and the look-up for programs in other languages: the benchmark in host/caches links this.
+// The order test and the look-up for programs in other languages: the benchmark in host/bench links this.
 ghost use mathlib.Core.Path.{_≡_};
 ghost use Rattle.caches.specs.Memory.{referrals, decode, inOrder};
 ghost use Rattle.lookup.specs.Lookup.{longestMatch, foundOr};

@@ -3,8 +3,7 @@ use crate::rules::caches::{Caches, Domain, Referral, Serves, Target};
 use crate::rules::names::{components, good_path, matches, Text};
 use crate::rules::walk::{good_settings, good_size, End, Kind, Party, Question, Rest, Walk};
 
-pub const PLACE: usize = 2336;
-pub const WALK: usize = 800;
+pub use dfsc::{PLACE_UNITS as PLACE, WALK_UNITS as WALK};
 const HEAD: usize = 32;
 const ROOM: usize = 256;
 const KINDS: [Kind; 5] = [Kind::Dc, Kind::Root, Kind::Link, Kind::Sysvol, Kind::Io];
@@ -186,6 +185,16 @@ fn end(units: &[u16], tried: Option<Text>) -> Option<End> {
 
 /// The walk; None where it is out of form.
 pub fn walk(units: &[u16]) -> Option<Walk> {
+    walk_with(units, 2)
+}
+
+/// Whether the walk is out of form by nothing but that it waits with a path of one component.
+pub fn lacks_components(units: &[u16]) -> bool {
+    walk_with(units, 2).is_none() && walk_with(units, 1).is_some()
+}
+
+// The walk whose path has so many components at least while it waits.
+fn walk_with(units: &[u16], least: usize) -> Option<Walk> {
     if units.len() != WALK {
         return None;
     }
@@ -193,7 +202,7 @@ pub fn walk(units: &[u16]) -> Option<Walk> {
     let (path, tried, boot) = (text(0, units[6])?, text(1, units[7])?, text(2, units[4])?);
     let tried = if tried.is_empty() { None } else { Some(tried) };
     let waits = units[9] <= 5;
-    if !good_path(&path, 1 + waits as usize) || tried.as_ref().is_some_and(|t| !good_path(t, 1)) {
+    if !good_path(&path, if waits { least } else { 1 }) || tried.as_ref().is_some_and(|t| !good_path(t, 1)) {
         return None;
     }
     let rest = if waits { Rest::Asks(question(units, &path, tried)?) } else { Rest::Ends(end(units, tried)?) };

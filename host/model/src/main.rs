@@ -1,10 +1,17 @@
 //! Random walks, given both to libdfsc.a and to the model of the rules: each call's number, all lent memory after it, and what the walk then shows.
 //! `--calls N` (200,000), `--seed S` (1); `--scene K` runs that scene of the seed alone.
-mod dfsc;
+//!
+//! Each slice is lent in a heap block of exactly its length. With `--guard end` it ends at an unreadable page, with `--guard start` it begins after one;
+//! then controls are run first, which must be caught (`--control SLOT`; of the slot `none` nothing is missing, and its calls are taken).
+#![deny(unsafe_code)]
+mod calls;
+mod control;
 mod lent;
 mod random;
 mod rules;
 mod scenes;
+#[allow(unsafe_code)]
+mod slots;
 
 use lent::{PLACE, WALK};
 use random::Random;
@@ -12,6 +19,7 @@ use rules::caches::Caches;
 use rules::replies::request;
 use rules::storing::domains_after;
 use rules::walk::{answer, start, Kind, Walk};
+use slots::Side;
 use std::collections::BTreeMap;
 use std::fmt::Debug;
 
@@ -95,34 +103,69 @@ impl Host {
     }
 
     /// Units changed or lengths off, in the caches or in the walk.
-    fn damage(&mut self, r: &mut Random) {
-        match r.below(12) {
-            0 | 1 => scenes::poked(r, &mut self.refs, PLACE),
-            2 => scenes::poked(r, &mut self.doms, PLACE),
+    fn damage(&mut self, r: &mut Random, counts: &mut Counts) {
+        let walked = self.walk.is_some();
+        let what = match r.below(13) {
+            0 | 1 => {
+                scenes::poked(r, &mut self.refs, PLACE);
+                "a unit of the referral cache"
+            }
+            2 => {
+                scenes::poked(r, &mut self.doms, PLACE);
+                "a unit of the domain cache"
+            }
             3 => {
                 let to = r.one_of(&[0, self.refs.len() - 1, self.refs.len() + 1, 33 * PLACE, self.refs.len() + PLACE]);
                 self.refs.resize(to, 0);
+                "length of the referral cache"
             }
             4 => {
                 let to = r.one_of(&[0, self.doms.len() - 1, self.doms.len() + 1, 33 * PLACE, self.doms.len() + PLACE]);
                 self.doms.resize(to, 0);
+                "length of the domain cache"
             }
-            5 => self.units.resize(r.one_of(&[0, 31, 32, 799, 801]), 0),
+            5 => {
+                self.units.resize(r.one_of(&[0, 31, 32, 799, 801]), 0);
+                "length of the walk"
+            }
             // waiting for another kind of answer, or ended otherwise: of the form or not
-            6 if r.in_hundred(60) => self.units[9] = r.one_of(&[0, 1, 2, 3, 4, 4, 5, 6, 19, 20, 21, 27, 28]),
-            // a root request to a host in place of what waits
-            6 if r.in_hundred(50) => self.units[9..16].copy_from_slice(&[2, 0, 0, 0, 8192, 0, 0]),
-            // another party, another place where the round began, or PATH_NOT_COVERED
-            6 => self.units[r.one_of(&[11, 12, 15])] = 1,
+            6 if r.in_hundred(60) => {
+                self.units[9] = r.one_of(&[0, 1, 2, 3, 4, 4, 5, 6, 19, 20, 21, 27, 28]);
+                "kind or end of the walk"
+            }
+            6 if r.in_hundred(50) => {
+                self.units[9..16].copy_from_slice(&[2, 0, 0, 0, 8192, 0, 0]);
+                "a root request to a host"
+            }
+            6 => {
+                self.units[r.one_of(&[11, 12, 15])] = 1;
+                "party, round or PATH_NOT_COVERED"
+            }
             7..=9 => {
                 let mut caches = self.caches.clone().unwrap();
                 scenes::disordered(r, &mut caches);
                 self.lend(caches);
+                "a rule of order"
             }
-            _ => scenes::poked(r, &mut self.units, WALK),
-        }
+            10 if self.walk.is_some() => {
+                self.units = lent::walk_units(&scenes::cut(r, self.walk.as_ref().unwrap()));
+                "the path cut to one component"
+            }
+            _ => {
+                scenes::poked(r, &mut self.units, WALK);
+                "a unit of the walk"
+            }
+        };
         self.caches = lent::caches(&self.refs, &self.doms);
         self.walk = lent::walk(&self.units);
+        let leaves = match (&self.caches, &self.walk) {
+            (None, _) => "not in order",
+            (_, Some(_)) => "in order and in form",
+            _ if !walked => "in order, no walk yet",
+            _ if lent::lacks_components(&self.units) => "out of form, but only as a walk that waits has 2 components",
+            _ => "out of form",
+        };
+        counts.see(format!("damage to {what}: {leaves}"));
     }
 
     fn kind(&self) -> Option<Kind> {
@@ -143,11 +186,11 @@ impl Host {
         let end = walk.and_then(|w| w.end()).ok_or(5u32);
         let moves = walk.map_or(0, |w| w.moves);
         let party = self.caches.clone().ok_or(4u32).and_then(|mut c| question.and_then(|q| walk.unwrap().party(&mut c, q).ok_or(27)));
-        shows(r, "the question", 7, question.map(|q| vec![lent::kind_number(q.kind), q.size, moves]), |o| dfsc::question(&self.units, o))?;
-        shows(r, "the party", FILL, party, |o| dfsc::question_party(&self.refs, &self.doms, &self.units, o))?;
-        shows(r, "the name", FILL, question.map(|q| walk.unwrap().name_asked(q)), |o| dfsc::question_name(&self.units, o))?;
-        shows(r, "the end", 7, end.map(|e| vec![e.number, e.status, moves]), |o| dfsc::end(&self.units, o))?;
-        shows(r, "the end's path", FILL, end.map(|_| walk.unwrap().end_path().unwrap().clone()), |o| dfsc::end_path(&self.units, o))
+        shows(r, "the question", 7, question.map(|q| vec![lent::kind_number(q.kind), q.size, moves]), |o| calls::question(&self.units, o))?;
+        shows(r, "the party", FILL, party, |o| calls::question_party(&self.refs, &self.doms, &self.units, o))?;
+        shows(r, "the name", FILL, question.map(|q| walk.unwrap().name_asked(q)), |o| calls::question_name(&self.units, o))?;
+        shows(r, "the end", 7, end.map(|e| vec![e.number, e.status, moves]), |o| calls::end(&self.units, o))?;
+        shows(r, "the end's path", FILL, end.map(|_| walk.unwrap().end_path().unwrap().clone()), |o| calls::end_path(&self.units, o))
     }
 
     /// After a start or an answer: its number, and the buffer; the model's caches and walk take the place of those before.
@@ -199,7 +242,7 @@ impl Host {
         let model = by_model(room).map(|w| (self.caches.clone(), w));
         let before = self.clone();
         let mut out = vec![FILL as u8; room];
-        let number = dfsc::start(&self.refs, &self.doms, &mut self.units, &path, &boot, limit, size, now, &mut out);
+        let number = calls::start(&self.refs, &self.doms, &mut self.units, &path, &boot, limit, size, now, &mut out);
         counts.walks += (number == 0) as u64;
         self.close(before, number, &out, model, counts)
     }
@@ -215,8 +258,8 @@ impl Host {
         let before = self.clone();
         let mut out = vec![FILL as u8; room];
         let number = match reply {
-            Some(reply) => dfsc::answer_referral(&mut self.refs, &mut self.doms, &mut self.units, status, reply, now, &mut out),
-            None => dfsc::answer_io(&mut self.refs, &self.doms, &mut self.units, status, now, &mut out),
+            Some(reply) => calls::answer_referral(&mut self.refs, &mut self.doms, &mut self.units, status, reply, now, &mut out),
+            None => calls::answer_io(&mut self.refs, &self.doms, &mut self.units, status, now, &mut out),
         };
         self.close(before, number, &out, model, counts)
     }
@@ -227,7 +270,7 @@ impl Host {
         let fits = request.len() <= out.len();
         let mut left = if fits { request } else { vec![] };
         left.resize(out.len(), FILL as u8);
-        same("the number of a domain request", &[dfsc::domain_request(&mut out)], &[if fits { 0 } else { 10 }])?;
+        same("the number of a domain request", &[calls::domain_request(&mut out)], &[if fits { 0 } else { 10 }])?;
         same("the domain request", &out, &left)
     }
 
@@ -245,7 +288,7 @@ impl Host {
         let places = if self.doms.len() % PLACE == 0 { self.doms.len() / PLACE } else { 0 };
         let model = domains_after(&reply, size, places);
         let lent = self.doms.clone();
-        let number = dfsc::read_domains(&reply, size, &mut self.doms);
+        let number = calls::read_domains(&reply, size, &mut self.doms);
         same("the number of a domain reply", &[number], &[*model.as_ref().err().unwrap_or(&0)])?;
         counts.see(format!("domains {number:2}"));
         match model {
@@ -266,7 +309,7 @@ impl Host {
         counts.calls += 1;
         let before = self.clone();
         if r.in_hundred(4) {
-            self.damage(r);
+            self.damage(r, counts);
         } else if r.in_hundred(8) {
             let mut caches = self.caches.clone().unwrap();
             scenes::altered(r, &mut caches, self.walk.as_ref());
@@ -311,22 +354,59 @@ fn scene(r: &mut Random, counts: &mut Counts) -> Outcome {
     Ok(())
 }
 
-fn number(args: &[String], key: &str) -> Option<u64> {
+fn value<'a>(args: &'a [String], key: &str) -> Option<&'a str> {
     let at = args.iter().position(|a| a == key)?;
-    Some(args[at + 1].parse().unwrap_or_else(|_| panic!("{key} takes a number")))
+    Some(args.get(at + 1).unwrap_or_else(|| panic!("{key} takes a value")))
 }
 
-/// What the run has to have met.
+fn number(args: &[String], key: &str) -> Option<u64> {
+    value(args, key).map(|v| v.parse().unwrap_or_else(|_| panic!("{key} takes a number")))
+}
+
+const DAMAGE: [&str; 12] = [
+    "a unit of the referral cache: not in order",
+    "a unit of the domain cache: not in order",
+    "length of the referral cache: not in order",
+    "length of the domain cache: not in order",
+    "length of the walk: out of form",
+    "kind or end of the walk: out of form",
+    "a root request to a host: in order and in form",
+    "party, round or PATH_NOT_COVERED: out of form",
+    "a rule of order: not in order",
+    "a unit of the walk: out of form",
+    "the path cut to one component: out of form, but only as a walk that waits has 2 components",
+    "the path cut to one component: in order and in form",
+];
+
+/// A run of so many calls has to have met all that is `wanted`.
+const LONG: u64 = 100_000;
+
 fn wanted() -> Vec<String> {
     let ends = (20..=27).map(|n| format!("end     {n}"));
     let refusals = [1, 2, 3, 4, 5, 10].map(|n| format!("refusal {n:2}"));
     let domains = [0, 3, 4, 6, 7].map(|n| format!("domains {n:2}"));
     let kinds = [Kind::Dc, Kind::Root, Kind::Link, Kind::Sysvol, Kind::Io].map(|k| format!("question {k:?}"));
-    ends.chain(refusals).chain(domains).chain(kinds).collect()
+    let damage = DAMAGE.map(|d| format!("damage to {d}"));
+    ends.chain(refusals).chain(domains).chain(kinds).chain(damage).collect()
 }
 
 fn main() {
     let args: Vec<String> = std::env::args().collect();
+    let side = value(&args, "--guard").map(|side| match side {
+        "end" => Side::End,
+        "start" => Side::Start,
+        _ => panic!("--guard takes end or start"),
+    });
+    if let Some(slot) = value(&args, "--control") {
+        assert!(slot == control::NONE || control::SLOTS.contains(&slot), "no slot {slot}");
+        std::process::exit(!control::survives(side, slot) as i32);
+    }
+    if let Some(side) = side {
+        if !control::all(side) {
+            std::process::exit(1);
+        }
+        calls::lend_at(side);
+    }
     let calls = number(&args, "--calls").unwrap_or(200_000);
     let seed = number(&args, "--seed").unwrap_or(1);
     let only = number(&args, "--scene");
@@ -344,9 +424,9 @@ fn main() {
         }
         k += 1;
     }
-    let missing: Vec<String> = wanted().into_iter().filter(|w| !counts.seen.contains_key(w)).collect();
+    let missing: Vec<String> = wanted().into_iter().filter(|w| calls >= LONG && !counts.seen.contains_key(w)).collect();
     for (what, n) in &counts.seen {
-        println!("{what:16} {n}");
+        println!("{n:8} {what}");
     }
     println!("seed {seed}: {} calls, {} walks, 0 differences", counts.calls, counts.walks);
     if !missing.is_empty() {

@@ -2,7 +2,7 @@
 use crate::random::Random;
 use crate::rules::caches::{Caches, Domain, Referral, Serves, Target};
 use crate::rules::names::{ascii, components, equal, first, normalised, Text, BACKSLASH};
-use crate::rules::walk::{Kind, Question, Walk, BUFFER_OVERFLOW, NEXT_TARGET, PATH_NOT_COVERED};
+use crate::rules::walk::{Kind, Party, Question, Rest, Walk, BUFFER_OVERFLOW, NEXT_TARGET, PATH_NOT_COVERED};
 
 const FIRST: [&str; 8] = ["corp", "a", "files", "nas1", "Dfs", "A", "k[", "k@"];
 const SECOND: [&str; 8] = ["s1", "s10", "dfs", "SYSVOL", "NetLogon", "leak", "b", "b"];
@@ -543,6 +543,23 @@ pub fn disordered(r: &mut Random, caches: &mut Caches) {
         }
         caches.domains[j] = Some(d);
     }
+}
+
+/// The walk with a path of one component, all else as the form has it: a question that needs two becomes one that does not.
+pub fn cut(r: &mut Random, walk: &Walk) -> Walk {
+    let path = first(&walk.path, 1);
+    let to_host = Question { kind: Kind::Root, entry: None, party: Party::Host, size: walk.size, tried: None, covered: false };
+    let domain = Some(path[1..].to_vec());
+    let rest = match &walk.rest {
+        Rest::Asks(q) if [Kind::Link, Kind::Io].contains(&q.kind) => Rest::Asks(match r.below(4) {
+            0 => Question { kind: Kind::Dc, entry: domain, party: Party::Bootstrap, ..to_host },
+            1 => Question { kind: Kind::Sysvol, entry: domain, party: Party::Listed { place: 0, began: 0 }, ..to_host },
+            2 => Question { kind: Kind::Root, entry: domain, party: Party::Listed { place: 1, began: 0 }, ..to_host },
+            _ => to_host,
+        }),
+        rest => rest.clone(),
+    };
+    Walk { path, rest, ..walk.clone() }
 }
 
 /// One unit of lent memory changed: mostly in a head.

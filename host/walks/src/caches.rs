@@ -1,7 +1,7 @@
 //! The caches of a scenario as lent memory: the layout of crates/places/specs/Layout.antt, written from the vectors' lines.
 use crate::lines::{field, units};
+use dfsc::PLACE_UNITS as PLACE;
 
-pub const PLACE: usize = 2336;
 const HEAD: usize = 32;
 const ROOM: usize = 256;
 

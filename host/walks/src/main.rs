@@ -1,13 +1,13 @@
 //! Runs vectors/scenarios.txt through libdfsc.a: each call, what it gives, and all lent memory after it. Then the stack that the calls took.
 mod caches;
-mod dfsc;
+mod calls;
 mod lines;
 mod stack;
 
 use caches::Caches;
+use dfsc::{PLACE_UNITS, WALK_UNITS as WALK};
 use lines::{bytes, field, has, hex_number, number, scenarios, units, Call, Scenario};
 
-const WALK: usize = 800;
 const KINDS: [&str; 6] = ["", "dc", "root", "link", "sysvol", "io"];
 const FILL: u16 = 0xEEEE;
 const GONE: u32 = 27 << 16;
@@ -57,11 +57,11 @@ impl Host {
     }
 
     fn party(&self) -> u32 {
-        dfsc::question_party(&self.caches.refs, &self.caches.doms, &self.walk, &mut [0; 256])
+        calls::question_party(&self.caches.refs, &self.caches.doms, &self.walk, &mut [0; 256])
     }
 
     fn waits(&self) -> Result<Option<[u32; 3]>, String> {
-        self.numbers("the question", |o| dfsc::question(&self.walk, o))
+        self.numbers("the question", |o| calls::question(&self.walk, o))
     }
 
     // The walk is at rest as the vectors say.
@@ -70,7 +70,7 @@ impl Host {
             if is == units(field(gives, key)) { Ok(()) } else { Err(format!("{what} is {}", String::from_utf16_lossy(&is))) }
         };
         let question = self.waits()?;
-        let end = self.numbers("the end", |o| dfsc::end(&self.walk, o))?;
+        let end = self.numbers("the end", |o| calls::end(&self.walk, o))?;
         if question.is_some() == end.is_some() || question.is_some() != has(gives, "ask") {
             return Err("the walk is not at rest so".into());
         }
@@ -79,16 +79,16 @@ impl Host {
             if (KINDS[kind as usize], size, moves) != (field(gives, "ask"), asked, number(gives, "moves")) {
                 return Err(format!("kind {kind}, size {size}, moves {moves}"));
             }
-            same("the party", self.text("the party", |o| dfsc::question_party(&self.caches.refs, &self.caches.doms, &self.walk, o))?, "to")?;
-            same("the name", self.text("the name", |o| dfsc::question_name(&self.walk, o))?, "name")?;
-            return if dfsc::end_path(&self.walk, &mut [0; 256]) == 5 << 16 { Ok(()) } else { Err("a walk that waits has an end".into()) };
+            same("the party", self.text("the party", |o| calls::question_party(&self.caches.refs, &self.caches.doms, &self.walk, o))?, "to")?;
+            same("the name", self.text("the name", |o| calls::question_name(&self.walk, o))?, "name")?;
+            return if calls::end_path(&self.walk, &mut [0; 256]) == 5 << 16 { Ok(()) } else { Err("a walk that waits has an end".into()) };
         }
         let [end, status, moves] = end.unwrap();
         if (end, status, moves) != (number(gives, "end"), hex_number(gives, "status"), number(gives, "moves")) {
             return Err(format!("end {end}, status {status:08X}, moves {moves}"));
         }
-        same("the path", self.text("the path", |o| dfsc::end_path(&self.walk, o))?, "path")?;
-        if dfsc::question_name(&self.walk, &mut [0; 256]) == 5 << 16 && matches!(self.party() >> 16, 4 | 5) {
+        same("the path", self.text("the path", |o| calls::end_path(&self.walk, o))?, "path")?;
+        if calls::question_name(&self.walk, &mut [0; 256]) == 5 << 16 && matches!(self.party() >> 16, 4 | 5) {
             Ok(())
         } else {
             Err("a walk that has ended has a question".into())
@@ -103,11 +103,11 @@ impl Host {
         let before = (self.caches.clone(), self.walk.clone());
         let gone = self.party() == GONE;
         let n = match c.line.split(' ').next().unwrap() {
-            "start" => dfsc::start(&self.caches.refs, &self.caches.doms, &mut self.walk, &units(field(c.line, "path")), &units(field(c.line, "boot")),
+            "start" => calls::start(&self.caches.refs, &self.caches.doms, &mut self.walk, &units(field(c.line, "path")), &units(field(c.line, "boot")),
                 number(c.line, "limit"), number(c.line, "size"), clock, &mut out),
-            "referral" => dfsc::answer_referral(&mut self.caches.refs, &mut self.caches.doms, &mut self.walk, hex_number(c.line, "status"),
+            "referral" => calls::answer_referral(&mut self.caches.refs, &mut self.caches.doms, &mut self.walk, hex_number(c.line, "status"),
                 &bytes(field(c.line, "reply")), clock, &mut out),
-            _ => dfsc::answer_io(&mut self.caches.refs, &self.caches.doms, &mut self.walk, hex_number(c.line, "status"), clock, &mut out),
+            _ => calls::answer_io(&mut self.caches.refs, &self.caches.doms, &mut self.walk, hex_number(c.line, "status"), clock, &mut out),
         };
         if has(c.gives, "refused") {
             if n != number(c.gives, "refused") {
@@ -136,7 +136,7 @@ impl Host {
         match word {
             "set" | "list" | "read-listing" => self.caches = after.clone(),
             "read-domains" => {
-                let n = dfsc::read_domains(&bytes(field(c.line, "reply")), number(c.line, "size"), &mut self.caches.doms);
+                let n = calls::read_domains(&bytes(field(c.line, "reply")), number(c.line, "size"), &mut self.caches.doms);
                 if n != if c.gives == "ok" { 0 } else { number(c.gives, "refused") } {
                     return Err(format!("the call gives {n}"));
                 }
@@ -179,7 +179,7 @@ fn round(limit: u32) -> usize {
     let lines = ["referrals places=1", "entry place=0 prefix=\\a\\b kind=link interlink=1 failback=0 ttl=300 taken=100 hint=0", "target boundary=0 path=\\a\\b", "domains places=1"];
     let mut host = Host { caches: Caches::read(&lines), walk: vec![0; WALK] };
     stack::most();
-    let n = dfsc::start(&host.caches.refs, &host.caches.doms, &mut host.walk, &units("\\a\\b\\c"), &units("dc1"), limit, 8192, 100, &mut [0; 516]);
+    let n = calls::start(&host.caches.refs, &host.caches.doms, &mut host.walk, &units("\\a\\b\\c"), &units("dc1"), limit, 8192, 100, &mut [0; 516]);
     let used = stack::most()["dfsc_start"];
     assert_eq!(n, 0);
     host.shows(&format!("end=24 status=00000000 path=\\a\\b\\c moves={limit}")).unwrap();
@@ -195,31 +195,31 @@ fn others() -> usize {
             println!("{what}");
         }
     };
-    let cache = vec![0u16; caches::PLACE];
+    let cache = vec![0u16; PLACE_UNITS];
     for len in [0, 31, 32, 799, 801] {
         let mut walk = vec![FILL; len];
         let mut out = [0xEEu8; 516];
-        let n = dfsc::start(&cache, &cache, &mut walk, &units("\\a\\b"), &units("dc1"), 4, 8192, 1, &mut out);
+        let n = calls::start(&cache, &cache, &mut walk, &units("\\a\\b"), &units("dc1"), 4, 8192, 1, &mut out);
         says(n == 5 && walk.iter().all(|u| *u == FILL) && out.iter().all(|b| *b == 0xEE), &format!("a start with {len} units"));
-        let n = dfsc::start(&cache, &cache, &mut walk, &units("a"), &units("dc1"), 4, 8192, 1, &mut out);
+        let n = calls::start(&cache, &cache, &mut walk, &units("a"), &units("dc1"), 4, 8192, 1, &mut out);
         says(n == 1, &format!("a bad path with {len} units"));
         let mut refs = cache.clone();
-        let n = dfsc::answer_io(&mut refs, &cache, &mut walk, 0, 1, &mut out);
+        let n = calls::answer_io(&mut refs, &cache, &mut walk, 0, 1, &mut out);
         says(n == 5 && refs == cache && walk.iter().all(|u| *u == FILL), &format!("an I/O answer with {len} units"));
-        says(dfsc::end(&walk, &mut [0; 3]) == 5 << 16, &format!("the end of {len} units"));
+        says(calls::end(&walk, &mut [0; 3]) == 5 << 16, &format!("the end of {len} units"));
     }
     // each unit of the packed form that says another thing than the form allows
     let mut walk = vec![0u16; WALK];
     let mut out = [0u8; 516];
-    says(dfsc::start(&cache, &cache, &mut walk, &units("\\a\\b"), &units("dc1"), 4, 8192, 1, &mut out) == 0, "a start");
+    says(calls::start(&cache, &cache, &mut walk, &units("\\a\\b"), &units("dc1"), 4, 8192, 1, &mut out) == 0, "a start");
     for i in 0..32 {
         let mut other = walk.clone();
         other[i] = if i == 9 { 6 } else { 900 };
-        says(dfsc::question(&other, &mut [0; 3]) == 5 << 16, &format!("unit {i} changed"));
+        says(calls::question(&other, &mut [0; 3]) == 5 << 16, &format!("unit {i} changed"));
     }
     let mut request = [0xEEu8; 6];
-    says(dfsc::domain_request(&mut request) == 0 && request == [4, 0, 0, 0, 0xEE, 0xEE], "the domain request");
-    says(dfsc::domain_request(&mut request[..3]) == 10 && request[..3] == [4, 0, 0], "a short domain request");
+    says(calls::domain_request(&mut request) == 0 && request == [4, 0, 0, 0, 0xEE, 0xEE], "the domain request");
+    says(calls::domain_request(&mut request[..3]) == 10 && request[..3] == [4, 0, 0], "a short domain request");
     wrong
 }
 

@@ -1,0 +1,106 @@
+//! The order test and the look-ups.
+use super::names::{good_name, path_components, same, BACKSLASH};
+use dfsc::PLACE_UNITS as PLACE;
+
+pub const HEAD: usize = 32;
+pub const ROOM: usize = 256;
+
+// 32 units at a time: the compiler makes vector instructions of it.
+fn zero(units: &[u16]) -> bool {
+    let blocks = units.chunks_exact(32);
+    blocks.remainder().iter().all(|u| *u == 0) && blocks.into_iter().all(|b| b.iter().fold(0, |all, u| all | u) == 0)
+}
+
+// The text of room j, where it fits and the rest of the room is zero.
+fn room(place: &[u16], j: usize) -> Option<&[u16]> {
+    let n = place[j] as usize;
+    let room = &place[HEAD + ROOM * j..HEAD + ROOM * (j + 1)];
+    (n <= ROOM && zero(&room[n..])).then(|| &room[..n])
+}
+
+/// The text of room j of a place that is in order.
+pub fn text(place: &[u16], j: usize) -> &[u16] {
+    &place[HEAD + ROOM * j..][..place[j] as usize]
+}
+
+// All nine rooms: the first by `good`, so many others by `listed`, the rest empty.
+fn rooms(place: &[u16], count: usize, good: impl Fn(&[u16]) -> bool) -> bool {
+    (0..9).all(|j| match room(place, j) {
+        None => false,
+        Some(t) if j <= count => good(t),
+        Some(t) => t.is_empty(),
+    })
+}
+
+fn good_referral(p: &[u16]) -> bool {
+    let count = p[9] as usize;
+    (1..=8).contains(&count)
+        && p[10] < p[9]
+        && p[11] == 0
+        && p[11..22].iter().all(|u| *u <= 1)
+        && zero(&p[11 + count..19])
+        && zero(&p[26..32])
+        && rooms(p, count, |t| path_components(t) >= 2)
+}
+
+fn good_domain(p: &[u16]) -> bool {
+    let count = p[9] as usize;
+    count <= 8 && (p[10] < p[9] || count == 0 && p[10] == 0) && zero(&p[11..32]) && rooms(p, count, good_name)
+}
+
+fn in_order(cache: &[u16], good: impl Fn(&[u16]) -> bool) -> bool {
+    let count = cache.len() / PLACE;
+    if !(1..=32).contains(&count) || count * PLACE != cache.len() {
+        return false;
+    }
+    for (i, p) in cache.chunks_exact(PLACE).enumerate() {
+        if p[0] == 0 {
+            if !zero(p) {
+                return false;
+            }
+        } else if !good(p) || cache[..i * PLACE].chunks_exact(PLACE).any(|q| same(text(q, 0), text(p, 0))) {
+            return false;
+        }
+    }
+    true
+}
+
+pub fn referrals_in_order(cache: &[u16]) -> bool {
+    in_order(cache, good_referral)
+}
+
+pub fn domains_in_order(cache: &[u16]) -> bool {
+    in_order(cache, good_domain)
+}
+
+/// The place whose prefix is the longest that matches the path.
+#[inline]
+fn find_with(cache: &[u16], path: &[u16], same: impl Fn(&[u16], &[u16]) -> bool) -> Option<usize> {
+    let mut best = None;
+    let mut units = 0;
+    for (i, p) in cache.chunks_exact(PLACE).enumerate() {
+        let n = p[0] as usize;
+        if n > units && n <= path.len() && (n == path.len() || path[n] == BACKSLASH) && same(&p[HEAD..HEAD + n], &path[..n]) {
+            best = Some(i);
+            units = n;
+        }
+    }
+    best
+}
+
+pub fn find(cache: &[u16], path: &[u16]) -> Option<usize> {
+    find_with(cache, path, same)
+}
+
+pub fn find_in_blocks(cache: &[u16], path: &[u16]) -> Option<usize> {
+    find_with(cache, path, super::names::same_in_blocks)
+}
+
+pub fn find_folding(cache: &[u16], path: &[u16]) -> Option<usize> {
+    find_with(cache, path, super::names::same_folding)
+}
+
+/// The place whose key is equal.
+pub fn with_key<'a>(cache: &'a [u16], key: &[u16]) -> Option<&'a [u16]> {
+    cache.chunks_exact(PLACE).find(|p| p[0] != 0 && same(text(p, 0), key))
+}

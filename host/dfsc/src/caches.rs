@@ -1,0 +1,78 @@
+//! The two caches: units that the host owns and lends to each call.
+use crate::calls;
+use crate::refusal::{taken, Refusal};
+
+/// The units of one place of a cache.
+pub const PLACE_UNITS: usize = 2336;
+/// The most places of a cache.
+pub const MOST_PLACES: usize = 32;
+
+/// The referrals that are known: for each prefix its targets, how long they hold, and which of them was used last.
+#[derive(Clone, Debug, PartialEq, Eq)]
+pub struct ReferralCache(Vec<u16>);
+
+/// The domains that are known, and their DCs.
+#[derive(Clone, Debug, PartialEq, Eq)]
+pub struct DomainCache(Vec<u16>);
+
+fn empty(places: usize) -> Result<Vec<u16>, Refusal> {
+    if (1..=MOST_PLACES).contains(&places) { Ok(vec![0; places * PLACE_UNITS]) } else { Err(Refusal::NotInOrder) }
+}
+
+impl ReferralCache {
+    /// An empty cache of 1 to 32 places.
+    pub fn new(places: usize) -> Result<ReferralCache, Refusal> {
+        empty(places).map(ReferralCache)
+    }
+
+    /// A cache from units that were saved. They are tested by each call that uses them.
+    pub fn from_units(units: Vec<u16>) -> ReferralCache {
+        ReferralCache(units)
+    }
+
+    /// Its units: include/dfsc.h has their layout.
+    pub fn units(&self) -> &[u16] {
+        &self.0
+    }
+
+    /// Its units, to be changed.
+    pub fn units_mut(&mut self) -> &mut [u16] {
+        &mut self.0
+    }
+
+    // as text, and from it: go here
+}
+
+impl DomainCache {
+    /// An empty cache of 1 to 32 places.
+    pub fn new(places: usize) -> Result<DomainCache, Refusal> {
+        empty(places).map(DomainCache)
+    }
+
+    /// A cache from units that were saved. They are tested by each call that uses them.
+    pub fn from_units(units: Vec<u16>) -> DomainCache {
+        DomainCache(units)
+    }
+
+    /// Its units: include/dfsc.h has their layout.
+    pub fn units(&self) -> &[u16] {
+        &self.0
+    }
+
+    /// Its units, to be changed.
+    pub fn units_mut(&mut self) -> &mut [u16] {
+        &mut self.0
+    }
+
+    /// The request whose reply [`read`](DomainCache::read) takes.
+    pub fn request() -> [u8; 4] {
+        let mut request = [0; 4];
+        assert_eq!(calls::domain_request(&mut request), 0, "a domain request has 4 bytes");
+        request
+    }
+
+    /// A domain reply, asked for with this size, in place of all that the cache holds.
+    pub fn read(&mut self, reply: &[u8], size: u32) -> Result<(), Refusal> {
+        taken(calls::read_domains(reply, size, &mut self.0))
+    }
+}

@@ -3,8 +3,10 @@
 ghost use mathlib.Core.Path.{_≡_};
 ghost use Prim.Native.Nat.{_+_, _<_, _^_};
 ghost use lib.ListN.{length};
-ghost use Rattle.spans.specs.Bytes.{u16At, u32At};
+ghost use Rattle.spans.specs.Bytes.{u16At, u32At, textAt};
+ghost use Rattle.spans.specs.Spans.{textEnd};
 ghost use Rattle.reader.specs.Fields.{headerOf, startOf, marksOf, offsetsOf};
+use spans::Read;
 
 pub struct Reader<'a> {
     pub src: &'a [u8],
@@ -31,6 +33,13 @@ pub fn word<'a>(r: Reader<'a>) -> u32
     ensures { λ v. ⌜ v ≡ u32At (now (r .entry .src)) (r .entry .at) ⌝ }
 {
     spans::word_at(r.src, r.at)
+}
+
+// The text at the position.
+pub fn text<'a>(r: Reader<'a>) -> Read
+    ensures { λ v. ⌜ v ≡ textEnd 0 (textAt (now (r .entry .src)) (r .entry .at)) ⌝ }
+{
+    spans::read_text(r.src, r.at)
 }
 
 // The reader n bytes on.
@@ -120,4 +129,12 @@ pub fn read_offsets(src: &[u8], e: usize) -> Offsets
         second,
         third,
     }
+}
+
+// The text that starts at a byte.
+pub fn read_text(src: &[u8], at: usize) -> Read
+    ensures { λ v. ⌜ v ≡ textEnd 0 (textAt (now (src .entry)) at) ⌝ }
+{
+    let r = new(src, at);
+    text(r)
 }

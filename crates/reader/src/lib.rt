@@ -131,6 +131,15 @@ pub fn read_offsets(src: &[u8], e: usize) -> Offsets
     }
 }
 
+// The u16 that starts at a byte.
+pub fn read_unit(src: &[u8], at: usize) -> u16
+    requires { ⌜ at + 1 < length (now src) ⌝ }
+    ensures { λ v. ⌜ v ≡ u16At (now (src .entry)) at ⌝ }
+{
+    let r = new(src, at);
+    unit(r)
+}
+
 // The text that starts at a byte.
 pub fn read_text(src: &[u8], at: usize) -> Read
     ensures { λ v. ⌜ v ≡ textEnd 0 (textAt (now (src .entry)) at) ⌝ }

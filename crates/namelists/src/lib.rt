@@ -74,9 +74,9 @@ pub fn domain_at(r: &[u8], e: usize) -> Span
     ensures name { λ v. ⌜ spanned (now (r .entry)) v ≡ domainAt (now (r .entry)) e ⌝ }
     ensures inside { λ v. ⌜ Inside (now (r .entry)) v ⌝ }
 {
-    let o = spans::unit_at(r, e + 12) as usize;
+    let o = reader::read_unit(r, e + 12) as usize;
     let at = e + o;
-    let Read::Ended { units } = spans::read_text(r, at) else {
+    let Read::Ended { units } = reader::read_text(r, at) else {
         return Span { from: 0, units: 0 };
     };
     domain_span(r, Span { from: at, units })
@@ -92,7 +92,7 @@ fn dc_at(r: &[u8], at: usize) -> Dc
     ensures next { λ v. ⌜ v .next ≡ at + bytesPast (textAt (now (r .entry)) at) ⌝ }
     ensures inside { λ v. ⌜ Inside (now (r .entry)) (v .name) ⌝ }
 {
-    let Read::Ended { units } = spans::read_text(r, at) else {
+    let Read::Ended { units } = reader::read_text(r, at) else {
         return Dc {
             name: Span { from: 0, units: 0 },
             next: at,
@@ -147,17 +147,20 @@ fn good_dcs(r: &[u8]) -> bool
     if !referral::entry_fits(r, 8, 18) {
         return false;
     }
-    if !referral::is_readable(spans::unit_at(r, 8)) {
+    let s = reader::read_start(r, 8);
+    if !referral::is_readable(s.version) {
         return false;
     }
-    if !referral::has_flag(2, spans::unit_at(r, 14) as u32) {
+    let marks = reader::read_marks(r, 8);
+    if !referral::has_flag(2, marks.flags as u32) {
         return false;
     }
-    let n = spans::unit_at(r, 22) as usize;
+    let f = reader::read_offsets(r, 8);
+    let n = f.second as usize;
     if n == 0 {
         return false;
     }
-    let o = spans::unit_at(r, 24) as usize;
+    let o = f.third as usize;
     good_names(r, n, 8 + o)
 }
 
@@ -166,8 +169,9 @@ fn dcs_in(r: &[u8]) -> DcsFound
     ensures found { λ v. ⌜ denotedDcs (now (r .entry)) v ≡ says (take 8 (dcNames (now (r .entry)))) ⌝ }
     ensures within { λ v. ⌜ Within (now (r .entry)) v ⌝ }
 {
-    let n = spans::unit_at(r, 22) as usize;
-    let o = spans::unit_at(r, 24) as usize;
+    let f = reader::read_offsets(r, 8);
+    let n = f.second as usize;
+    let o = f.third as usize;
     let kept = names(r, n, 8 + o);
     DcsFound {
         answer: Answer::Says,
@@ -196,7 +200,8 @@ pub fn read_dcs(r: &[u8], size: u32) -> DcsFound
     if (size as usize) < r.len() {
         return no_dcs(Answer::Malformed);
     }
-    if spans::unit_at(r, 2) == 0 {
+    let h = reader::read_header(r);
+    if h.count == 0 {
         return no_dcs(Answer::Nothing);
     }
     if !good_dcs(r) {
@@ -212,10 +217,12 @@ fn good_domain(r: &[u8], e: usize) -> bool
     if !referral::entry_fits(r, e, 18) {
         return false;
     }
-    if spans::unit_at(r, e) != 3 {
+    let s = reader::read_start(r, e);
+    if s.version != 3 {
         return false;
     }
-    if !referral::has_flag(2, spans::unit_at(r, e + 6) as u32) {
+    let m = reader::read_marks(r, e);
+    if !referral::has_flag(2, m.flags as u32) {
         return false;
     }
     let d = domain_at(r, e);
@@ -226,7 +233,8 @@ fn good_domains(r: &[u8]) -> bool
     requires { ⌜ (8 ≤ length (now r)) × (length (now r) < 4294967296) ⌝ }
     ensures { λ v. ⌜ v ≡ every (goodDomain (now (r .entry))) (entries (now (r .entry))) ⌝ }
 {
-    let n = spans::unit_at(r, 2) as usize;
+    let h = reader::read_header(r);
+    let n = h.count as usize;
     let mut e = 8;
     let mut i = 0;
     while i < n {
@@ -248,7 +256,8 @@ pub fn read_domains(r: &[u8], size: u32) -> Answer
     if (size as usize) < r.len() {
         return Answer::Malformed;
     }
-    if spans::unit_at(r, 2) == 0 {
+    let h = reader::read_header(r);
+    if h.count == 0 {
         return Answer::Nothing;
     }
     if !good_domains(r) {

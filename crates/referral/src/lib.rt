@@ -9,9 +9,9 @@ ghost use Rattle.laws.specs.Lists.{every, pasted};
 ghost use Rattle.spans.specs.Bytes.{u16At, flag, ended, textAt};
 ghost use Rattle.spans.specs.Spans.{spanned, Inside};
 ghost use Rattle.referral.specs.Request.{bytesOf, request};
-ghost use Rattle.referral.specs.Replies.{pathOf, textOf};
+ghost use Rattle.referral.specs.Replies.{pathOf};
 ghost use Rattle.referral.specs.Replies.{referralCount, versionAt, sizeAt, serverTypeAt, starts, entries, fits, readable};
-ghost use Rattle.referral.specs.Replies.{goodFields, goodEntry, keptTargets, prefixAt, referralIn, readReferral};
+ghost use Rattle.referral.specs.Replies.{goodFields, goodEntry, keptTargets, prefixAt, targetAt, referralIn, readReferral};
 ghost use Rattle.referral.specs.Replies.{says};
 ghost use Rattle.referral.specs.Found.{inside, Held, Told, Within, noReferral, opensAt, keptInside, targetShown, denoted, asked, bufferWith};
 use spans::Read;
@@ -89,20 +89,30 @@ fn path_at(r: &[u8], at: usize) -> Span
     ensures path { λ v. ⌜ spanned (now (r .entry)) v ≡ pathOf (textAt (now (r .entry)) at) ⌝ }
     ensures inside { λ v. ⌜ Inside (now (r .entry)) v ⌝ }
 {
-    let Read::Ended { units } = spans::read_text(r, at) else {
+    let Read::Ended { units } = reader::read_text(r, at) else {
         return Span { from: 0, units: 0 };
     };
     path_span(r, Span { from: at, units })
 }
 
-// The path whose offset from the entry at e stands f bytes into it.
-fn path_of(r: &[u8], e: usize, f: usize) -> Span
-    requires { ⌜ (e + f + 1 < length (now r)) × (length (now r) < 4294967296) ⌝ }
-    ensures path { λ v. ⌜ spanned (now (r .entry)) v ≡ pathOf (textOf f (now (r .entry)) e) ⌝ }
+// The DFSPath of the entry at e.
+fn prefix_of(r: &[u8], e: usize) -> Span
+    requires { ⌜ (e + 17 < length (now r)) × (length (now r) < 4294967296) ⌝ }
+    ensures path { λ v. ⌜ spanned (now (r .entry)) v ≡ prefixAt (now (r .entry)) e ⌝ }
     ensures inside { λ v. ⌜ Inside (now (r .entry)) v ⌝ }
 {
-    let o = spans::unit_at(r, e + f) as usize;
-    path_at(r, e + o)
+    let o = reader::read_offsets(r, e);
+    path_at(r, e + o.first as usize)
+}
+
+// The target of the entry at e.
+fn target_of(r: &[u8], e: usize) -> Span
+    requires { ⌜ (e + 17 < length (now r)) × (length (now r) < 4294967296) ⌝ }
+    ensures path { λ v. ⌜ spanned (now (r .entry)) v ≡ targetAt (now (r .entry)) e ⌝ }
+    ensures inside { λ v. ⌜ Inside (now (r .entry)) v ⌝ }
+{
+    let o = reader::read_offsets(r, e);
+    path_at(r, e + o.third as usize)
 }
 
 // A name without a leading backslash.
@@ -114,7 +124,8 @@ pub fn next_entry(r: &[u8], e: usize) -> usize
     requires { ⌜ (e + 3 < length (now r)) × (length (now r) < 4294967296) ⌝ }
     ensures { λ v. ⌜ v ≡ e + sizeAt (now (r .entry)) e ⌝ }
 {
-    e + spans::unit_at(r, e + 2) as usize
+    let s = reader::read_start(r, e);
+    e + s.size as usize
 }
 
 // Size is at least the fixed length and the entry lies inside the reply.
@@ -125,7 +136,8 @@ pub fn entry_fits(r: &[u8], e: usize, fixed: usize) -> bool
     if r.len() - e < fixed {
         return false;
     }
-    let size = spans::unit_at(r, e + 2) as usize;
+    let s = reader::read_start(r, e);
+    let size = s.size as usize;
     if size < fixed {
         return false;
     }
@@ -149,18 +161,20 @@ fn good_fields(r: &[u8], e: usize, version: u16, kind: u16) -> bool
     if !entry_fits(r, e, 34) {
         return false;
     }
-    let v = spans::unit_at(r, e);
+    let s = reader::read_start(r, e);
+    let v = s.version;
     if v != version {
         return false;
     }
     if !is_readable(v) {
         return false;
     }
-    let flags = spans::unit_at(r, e + 6);
+    let m = reader::read_marks(r, e);
+    let flags = m.flags;
     if has_flag(2, flags as u32) {
         return false;
     }
-    let t = spans::unit_at(r, e + 4);
+    let t = m.kind;
     if 1 < t {
         return false;
     }
@@ -175,14 +189,14 @@ fn good_entry(r: &[u8], e: usize, version: u16, kind: u16, first: Span) -> bool
     if !good_fields(r, e, version, kind) {
         return false;
     }
-    let p = path_of(r, e, 12);
+    let p = prefix_of(r, e);
     if p.units == 0 {
         return false;
     }
     if !spans::same_spans(r, p, first) {
         return false;
     }
-    let t = path_of(r, e, 16);
+    let t = target_of(r, e);
     t.units != 0
 }
 
@@ -191,13 +205,16 @@ fn good_entries(r: &[u8]) -> bool
     requires { ⌜ (8 ≤ length (now r)) × ((length (now r) < 4294967296) × (0 < referralCount (now r))) ⌝ }
     ensures { λ v. ⌜ v ≡ every (goodEntry (now (r .entry))) (entries (now (r .entry))) ⌝ }
 {
-    let n = spans::unit_at(r, 2) as usize;
+    let h = reader::read_header(r);
+    let n = h.count as usize;
     if r.len() < 42 {
         return false;
     }
-    let version = spans::unit_at(r, 8);
-    let kind = spans::unit_at(r, 12);
-    let first = path_of(r, 8, 12);
+    let s = reader::read_start(r, 8);
+    let version = s.version;
+    let m = reader::read_marks(r, 8);
+    let kind = m.kind;
+    let first = prefix_of(r, 8);
     let mut e = 8;
     let mut i = 0;
     while i < n {
@@ -212,16 +229,18 @@ fn good_entries(r: &[u8]) -> bool
 
 // Whether a target set opens before the target of the entry at e, i entries being before it.
 fn opens_at(r: &[u8], e: usize, i: usize) -> bool
-    requires { ⌜ e + 7 < length (now r) ⌝ }
+    requires { ⌜ e + 11 < length (now r) ⌝ }
     ensures { λ v. ⌜ v ≡ opensAt i (now (r .entry)) e ⌝ }
 {
     if i == 0 {
         return false;
     }
-    if spans::unit_at(r, e) != 4 {
+    let s = reader::read_start(r, e);
+    if s.version != 4 {
         return false;
     }
-    has_flag(4, spans::unit_at(r, e + 6) as u32)
+    let m = reader::read_marks(r, e);
+    has_flag(4, m.flags as u32)
 }
 
 // How many of n are kept.
@@ -237,7 +256,8 @@ fn targets(r: &[u8]) -> [Kept; 8]
     ensures targets { λ v. ⌜ map (targetShown (now (r .entry))) (take (min (referralCount (now (r .entry))) 8) v) ≡ keptTargets (now (r .entry)) (take 8 (entries (now (r .entry)))) ⌝ }
     ensures inside { λ v. ⌜ every (keptInside (now (r .entry))) v ≡ true ⌝ }
 {
-    let n = spans::unit_at(r, 2) as usize;
+    let h = reader::read_header(r);
+    let n = h.count as usize;
     let m = kept_of(n);
     let mut kept = [Kept {
         path: Span { from: 0, units: 0 },
@@ -246,7 +266,7 @@ fn targets(r: &[u8]) -> [Kept; 8]
     let mut e = 8;
     let mut i = 0;
     while i < m {
-        let path = path_of(r, e, 16);
+        let path = target_of(r, e);
         let opens = opens_at(r, e, i);
         kept[i] = Kept { path, opens };
         e = next_entry(r, e);
@@ -271,11 +291,13 @@ fn referral_in(r: &[u8], prefix: Span) -> ReferralFound
     ensures found { λ v. ⌜ denoted (now (r .entry)) v ≡ says (referralIn (now (r .entry))) ⌝ }
     ensures within { λ v. ⌜ Within (now (r .entry)) v ⌝ }
 {
-    let version = spans::unit_at(r, 8);
-    let kind = spans::unit_at(r, 12);
-    let flags = spans::word_at(r, 4);
-    let count = spans::unit_at(r, 2);
-    let ttl = spans::word_at(r, 16);
+    let h = reader::read_header(r);
+    let s = reader::read_start(r, 8);
+    let m = reader::read_marks(r, 8);
+    let version = s.version;
+    let kind = m.kind;
+    let flags = h.flags;
+    let count = h.count;
     let kept = targets(r);
     ReferralFound {
         answer: Answer::Says,
@@ -285,7 +307,7 @@ fn referral_in(r: &[u8], prefix: Span) -> ReferralFound
         storage: has_flag(2, flags),
         failback: failback_in(version, flags),
         count,
-        ttl,
+        ttl: m.ttl,
         prefix,
         kept,
         targets: kept_of(count as usize),
@@ -324,13 +346,14 @@ pub fn read_referral(r: &[u8], size: u32, asked: &[u16]) -> ReferralFound
     if (size as usize) < r.len() {
         return no_referral(Answer::Malformed);
     }
-    if spans::unit_at(r, 2) == 0 {
+    let h = reader::read_header(r);
+    if h.count == 0 {
         return no_referral(Answer::Nothing);
     }
     if !good_entries(r) {
         return no_referral(Answer::Malformed);
     }
-    let prefix = path_of(r, 8, 12);
+    let prefix = prefix_of(r, 8);
     if !spans::span_matches(r, prefix, asked) {
         return no_referral(Answer::Malformed);
     }

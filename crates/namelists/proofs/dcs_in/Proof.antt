@@ -4,6 +4,7 @@ use denote.Ref.{now}
 use mathlib.Core.Path.{ap, _∙_}
 use Prim.Native.Nat.{ℕ, _+_, _-_}
 use lib.ListN.{take}
+use Rattle.reader.specs.declared.Offsets.{Offsets}
 use Rattle.spans.specs.Spans.{spanned}
 use Rattle.namelists.specs.NameLists.{dcOf}
 use mathlib.Core.List.{map}
@@ -15,14 +16,11 @@ use borrow.Author.Needs.{needs}
 use Rattle.namelists.proofs.dcs_in.Statement.{statement}
 use Rattle.namelists.proofs.dcs_in.Tie as tie
 
-unit-at-requires : tie.Need-unit-at-requires
-unit-at-requires c κs = search needs
+read-offsets-requires : tie.Need-read-offsets-requires
+read-offsets-requires c κs = search needs
 
 cast-n : tie.Need-cast-n
 cast-n c = search needs
-
-unit-at-requires-2 : tie.Need-unit-at-requires-2
-unit-at-requires-2 c κs = search needs
 
 cast-o : tie.Need-cast-o
 cast-o c = search needs
@@ -38,17 +36,9 @@ kept-of-requires c κs = search needs
 
 returns : tie.Need-returns
 unfolding denotedDcs answered dcNames
-returns c = (λ x. says ((ap (λ (k : ℕ). map (spanned (now (c .before .before .before .before .before .args .r))) (take k (c .before .names .result))) (c .kept-of .ensures) ∙ (c .before .names .ensures .0 ∙ (λ y. take 8 (map dcOf (textsAt (c .before .before .before .unit-at .ensures y) (8 + c .before .before .unit-at2 .ensures y) (now (c .before .before .before .before .before .args .r))))))) x), record { kept-within = c .before .names .ensures .1; few = omega (arith, c .kept-of .ensures) })
+returns c = (λ x. says ((ap (λ (k : ℕ). map (spanned (now (c .before .before .before .before .before .before .args .r))) (take k (c .before .names .result))) (c .kept-of .ensures) ∙ (c .before .names .ensures .0 ∙ (λ y. take 8 (map dcOf (textsAt (ap (λ (z : Offsets). z .second) (c .before .before .before .before .read-offsets .ensures) y) (8 + ap (λ (z : Offsets). z .third) (c .before .before .before .before .read-offsets .ensures) y) (now (c .before .before .before .before .before .before .args .r))))))) x), record { kept-within = c .before .names .ensures .1; few = omega (arith, c .kept-of .ensures) })
 
 pub dcs-in-spec : {M : Type 1} → statement M
 dcs-in-spec =
     tie.close
-    (tie.spec
-    unit-at-requires
-    cast-n
-    unit-at-requires-2
-    cast-o
-    add-names
-    names-requires
-    kept-of-requires
-    returns)
+    (tie.spec read-offsets-requires cast-n cast-o add-names names-requires kept-of-requires returns)

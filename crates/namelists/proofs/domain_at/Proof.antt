@@ -14,11 +14,11 @@ use borrow.Author.Needs.{needs}
 use Rattle.namelists.proofs.domain_at.Statement.{statement}
 use Rattle.namelists.proofs.domain_at.Tie as tie
 
-add-unit-at : tie.Need-add-unit-at
-add-unit-at c = search needs
+add-read-unit : tie.Need-add-read-unit
+add-read-unit c = search needs
 
-unit-at-requires : tie.Need-unit-at-requires
-unit-at-requires c κs = search needs
+read-unit-requires : tie.Need-read-unit-requires
+read-unit-requires c κs = search needs
 
 cast-o : tie.Need-cast-o
 cast-o c = search needs
@@ -38,27 +38,27 @@ enum-told c = search needs
 returns : tie.Need-returns
 unfolding domainAt textOf
 returns c =
-    let t = sym (ap (λ (o : ℕ). textAt (now (c .before .before .before .before .before .args .r)) (c .before .before .before .before .before .args .e + o)) (c .before .before .before .unit-at .ensures)) in
-    (none-spanned (now (c .before .before .before .before .before .args .r)) (domain-unended (t ∙ unended-at (now (c .before .before .before .before .before .args .r)) (c .before .before .before .before .before .args .e + c .before .before .before .unit-at .result) (sym (c .enum-told .given .1) ∙ c .before .before .read-text .ensures))), omega arith)
+    let t = sym (ap (λ (o : ℕ). textAt (now (c .before .before .before .before .before .args .r)) (c .before .before .before .before .before .args .e + o)) (c .before .before .before .read-unit .ensures)) in
+    (none-spanned (now (c .before .before .before .before .before .args .r)) (domain-unended (t ∙ unended-at (now (c .before .before .before .before .before .args .r)) (c .before .before .before .before .before .args .e + c .before .before .before .read-unit .result) (sym (c .enum-told .given .1) ∙ c .before .before .read-text .ensures))), omega arith)
 
 domain-span-requires : tie.Need-domain-span-requires
 domain-span-requires c κs =
-    let w = ended-at (now (c .before .before .before .before .before .before .args .r)) (c .before .before .before .before .before .before .args .e + c .before .before .before .before .unit-at .result) _ (sym (c .before .units .given .1) ∙ c .before .before .before .read-text .ensures) in
+    let w = ended-at (now (c .before .before .before .before .before .before .args .r)) (c .before .before .before .before .before .before .args .e + c .before .before .before .before .read-unit .result) _ (sym (c .before .units .given .1) ∙ c .before .before .before .read-text .ensures) in
     omega (arith, w .within)
 
 returns-2 : tie.Need-returns-2
 unfolding domainAt textOf
 returns-2 c =
-    let t = sym (ap (λ (o : ℕ). textAt (now (c .before .before .before .before .before .before .before .args .r)) (c .before .before .before .before .before .before .before .args .e + o)) (c .before .before .before .before .before .unit-at .ensures)) in
-    let w = ended-at (now (c .before .before .before .before .before .before .before .args .r)) (c .before .before .before .before .before .before .before .args .e + c .before .before .before .before .before .unit-at .result) _ (sym (c .before .before .units .given .1) ∙ c .before .before .before .before .read-text .ensures) in
+    let t = sym (ap (λ (o : ℕ). textAt (now (c .before .before .before .before .before .before .before .args .r)) (c .before .before .before .before .before .before .before .args .e + o)) (c .before .before .before .before .before .read-unit .ensures)) in
+    let w = ended-at (now (c .before .before .before .before .before .before .before .args .r)) (c .before .before .before .before .before .before .before .args .e + c .before .before .before .before .before .read-unit .result) _ (sym (c .before .before .units .given .1) ∙ c .before .before .before .before .read-text .ensures) in
     (c .domain-span .ensures .0 ∙ sym (ap domainOf (t ∙ w .is)), c .domain-span .ensures .1)
 
 pub domain-at-spec : {M : Type 1} → statement M
 domain-at-spec =
     tie.close
     (tie.spec
-    add-unit-at
-    unit-at-requires
+    add-read-unit
+    read-unit-requires
     cast-o
     add-at
     read-text-requires

@@ -1,7 +1,10 @@
 -- One entry of a domain reply.
+use mathlib.Core.Path.{ap}
 use denote.Ref.{now}
 use Prim.Native.Nat.{_-_}
 use native.Mathlib.Omega.{arith}
+use Rattle.reader.specs.declared.Marks.{Marks}
+use Rattle.reader.specs.declared.Start.{Start}
 use Rattle.referral.proofs.EntryLaws.{fits-room}
 use borrow.Author.Tests.{not-true, not-false}
 use Rattle.namelists.proofs.ListLaws.{domain-unfit, domain-version, domain-flag, domain-good}
@@ -15,20 +18,17 @@ entry-fits-requires c κs = search needs
 returns : tie.Need-returns
 returns c = domain-unfit (now (c .before .before .before .args .r)) (c .before .before .before .args .e) (c .before .entry-fits .ensures) (not-true _ (c .if1 .taken))
 
-unit-at-requires : tie.Need-unit-at-requires
-unit-at-requires c κs =
+read-start-requires : tie.Need-read-start-requires
+read-start-requires c κs =
     let w = fits-room 18 (now (c .before .before .before .args .r)) (c .before .before .before .args .e) (c .before .entry-fits .ensures) (not-false _ (c .if1 .left)) in
     omega (arith, w .0, w .1)
 
 returns-2 : tie.Need-returns-2
-returns-2 c = domain-version (now (c .before .before .before .before .before .args .r)) (c .before .before .before .before .before .args .e) (c .before .unit-at .ensures) (c .if2 .taken)
+returns-2 c = domain-version (now (c .before .before .before .before .before .before .args .r)) (c .before .before .before .before .before .before .args .e) (ap (λ (z : Start). z .version) (c .before .before .read-start .ensures)) (c .if2 .taken)
 
-add-unit-at : tie.Need-add-unit-at
-add-unit-at c = search needs
-
-unit-at-requires-2 : tie.Need-unit-at-requires-2
-unit-at-requires-2 c κs =
-    let w = fits-room 18 (now (c .before .before .before .before .before .args .r)) (c .before .before .before .before .before .args .e) (c .before .before .before .entry-fits .ensures) (not-false _ (c .before .before .if1 .left)) in
+read-marks-requires : tie.Need-read-marks-requires
+read-marks-requires c κs =
+    let w = fits-room 18 (now (c .before .before .before .before .before .before .args .r)) (c .before .before .before .before .before .before .args .e) (c .before .before .before .before .entry-fits .ensures) (not-false _ (c .before .before .before .if1 .left)) in
     omega (arith, w .0, w .1)
 
 cast-has-flag : tie.Need-cast-has-flag
@@ -38,28 +38,17 @@ has-flag-requires : tie.Need-has-flag-requires
 has-flag-requires c κs = search needs
 
 returns-3 : tie.Need-returns-3
-returns-3 c = domain-flag (now (c .before .before .before .before .before .before .before .before .args .r)) (c .before .before .before .before .before .before .before .before .args .e) (c .before .before .before .before .before .before .entry-fits .ensures) (not-false _ (c .before .before .before .before .before .if1 .left)) (c .before .before .before .before .unit-at .ensures) (c .before .before .before .if2 .left) (c .before .before .unit-at2 .ensures) (c .before .has-flag .ensures) (not-true _ (c .if3 .taken))
+returns-3 c = domain-flag (now (c .before .before .before .before .before .before .before .before .before .before .args .r)) (c .before .before .before .before .before .before .before .before .before .before .args .e) (c .before .before .before .before .before .before .before .before .entry-fits .ensures) (not-false _ (c .before .before .before .before .before .before .before .if1 .left)) (ap (λ (z : Start). z .version) (c .before .before .before .before .before .before .read-start .ensures)) (c .before .before .before .before .if2 .left) (ap (λ (z : Marks). z .flags) (c .before .before .before .read-marks .ensures)) (c .before .has-flag .ensures) (not-true _ (c .if3 .taken))
 
 domain-at-requires : tie.Need-domain-at-requires
 domain-at-requires c κs =
-    let w = fits-room 18 (now (c .before .before .before .before .before .before .before .before .args .r)) (c .before .before .before .before .before .before .before .before .args .e) (c .before .before .before .before .before .before .entry-fits .ensures) (not-false _ (c .before .before .before .before .before .if1 .left)) in
+    let w = fits-room 18 (now (c .before .before .before .before .before .before .before .before .before .before .args .r)) (c .before .before .before .before .before .before .before .before .before .before .args .e) (c .before .before .before .before .before .before .before .before .entry-fits .ensures) (not-false _ (c .before .before .before .before .before .before .before .if1 .left)) in
     (omega (arith, w .0, w .1), omega arith)
 
 returns-4 : tie.Need-returns-4
-returns-4 c = domain-good (now (c .before .before .before .before .before .before .before .before .before .before .args .r)) (c .before .before .before .before .before .before .before .before .before .before .args .e) (c .before .before .before .before .before .before .before .before .entry-fits .ensures) (not-false _ (c .before .before .before .before .before .before .before .if1 .left)) (c .before .before .before .before .before .before .unit-at .ensures) (c .before .before .before .before .before .if2 .left) (c .before .before .before .before .unit-at2 .ensures) (c .before .before .before .has-flag .ensures) (not-false _ (c .before .before .if3 .left)) (c .before .domain-at .result) (c .before .domain-at .ensures .0)
+returns-4 c = domain-good (now (c .before .before .before .before .before .before .before .before .before .before .before .before .args .r)) (c .before .before .before .before .before .before .before .before .before .before .before .before .args .e) (c .before .before .before .before .before .before .before .before .before .before .entry-fits .ensures) (not-false _ (c .before .before .before .before .before .before .before .before .before .if1 .left)) (ap (λ (z : Start). z .version) (c .before .before .before .before .before .before .before .before .read-start .ensures)) (c .before .before .before .before .before .before .if2 .left) (ap (λ (z : Marks). z .flags) (c .before .before .before .before .before .read-marks .ensures)) (c .before .before .before .has-flag .ensures) (not-false _ (c .before .before .if3 .left)) (c .before .domain-at .result) (c .before .domain-at .ensures .0)
 
 pub good-domain-spec : {M : Type 1} → statement M
 good-domain-spec =
     tie.close
-    (tie.spec
-    entry-fits-requires
-    returns
-    unit-at-requires
-    returns-2
-    add-unit-at
-    unit-at-requires-2
-    cast-has-flag
-    has-flag-requires
-    returns-3
-    domain-at-requires
-    returns-4)
+    (tie.spec entry-fits-requires returns read-start-requires returns-2 read-marks-requires cast-has-flag has-flag-requires returns-3 domain-at-requires returns-4)

@@ -1,9 +1,10 @@
 -- All entries of a domain reply, one after another.
 use denote.Ref.{now}
-use mathlib.Core.Path.{_≡_, sym, _∙_}
+use mathlib.Core.Path.{ap, _≡_, sym, _∙_}
 use Prim.Native.Nat.{_-_, _≤_}
 use lib.ListN.{length}
 use native.Mathlib.Omega.{arith}
+use Rattle.reader.specs.declared.Header.{Header}
 use Rattle.referral.specs.Replies.{starts, entries}
 use borrow.Author.Tests.{not-true, not-false}
 use Rattle.laws.specs.Lists.{every}
@@ -21,25 +22,25 @@ Inv-loop r n e₀ i₀ e i = (i ≤ n) × ((e ≤ length r) × (every (goodDomai
 abbrev μ-loop : tie.MeasureT-loop
 μ-loop r n e₀ i₀ e i = n - i
 
-unit-at-requires : tie.Need-unit-at-requires Inv-loop μ-loop
-unit-at-requires c κs = search needs
+read-header-requires : tie.Need-read-header-requires Inv-loop μ-loop
+read-header-requires c κs = search needs
 
 cast-n : tie.Need-cast-n Inv-loop μ-loop
 cast-n c = search needs
 
 loop-holds : tie.Need-loop-holds Inv-loop μ-loop
 unfolding referralCount
-loop-holds c = (search needs, (search needs, entries-start (goodDomain (now (c .before .before .args .r))) (now (c .before .before .args .r)) (c .unit-at .ensures)))
+loop-holds c = (search needs, (search needs, entries-start (goodDomain (now (c .before .before .before .args .r))) (now (c .before .before .before .args .r)) (ap (λ (z : Header). z .count) (c .before .read-header .ensures))))
 
 good-domain-requires : tie.Need-good-domain-requires Inv-loop μ-loop
 good-domain-requires c κs = (omega arith, omega arith)
 
 returns : tie.Need-returns Inv-loop μ-loop
-returns c = sym (c .before .before .before .loop .inv .1 .1 ∙ starts-miss (goodDomain (now (c .before .before .before .before .before .before .args .r))) (now (c .before .before .before .before .before .before .args .r)) (c .before .before .before .before .unit-at .result) (c .before .before .before .loop .i) (c .before .before .before .loop .e) (omega arith) (c .before .good-domain .ensures) (not-true _ (c .if1 .taken)))
+returns c = sym (c .before .before .before .loop .inv .1 .1 ∙ starts-miss (goodDomain (now (c .before .before .before .before .before .before .before .args .r))) (now (c .before .before .before .before .before .before .before .args .r)) (c .before .before .before .before .before .read-header .result .count) (c .before .before .before .loop .i) (c .before .before .before .loop .e) (omega arith) (c .before .good-domain .ensures) (not-true _ (c .if1 .taken)))
 
 next-entry-requires : tie.Need-next-entry-requires Inv-loop μ-loop
 next-entry-requires c κs =
-    let w = domain-fit (now (c .before .before .before .before .before .before .args .r)) (c .before .before .before .loop .e) (c .before .good-domain .ensures) (not-false _ (c .if1 .left)) in
+    let w = domain-fit (now (c .before .before .before .before .before .before .before .args .r)) (c .before .before .before .loop .e) (c .before .good-domain .ensures) (not-false _ (c .if1 .left)) in
     (omega (arith, w .0, w .1), omega arith)
 
 add-i : tie.Need-add-i Inv-loop μ-loop
@@ -50,25 +51,13 @@ loop-less c = search needs
 
 loop-again : tie.Need-loop-again Inv-loop μ-loop
 loop-again c =
-    let w = domain-fit (now (c .before .before .before .before .before .before .before .args .r)) (c .before .before .before .before .loop .e) (c .before .before .good-domain .ensures) (not-false _ (c .before .if1 .left)) in
-    (omega arith, (omega (arith, c .next-entry .ensures, w .1), c .before .before .before .before .loop .inv .1 .1 ∙ starts-hit (goodDomain (now (c .before .before .before .before .before .before .before .args .r))) (now (c .before .before .before .before .before .before .before .args .r)) (c .before .before .before .before .before .unit-at .result) (c .before .before .before .before .loop .i) (c .before .before .before .before .loop .e) (omega arith) (c .before .before .good-domain .ensures) (not-false _ (c .before .if1 .left)) (c .next-entry .ensures)))
+    let w = domain-fit (now (c .before .before .before .before .before .before .before .before .args .r)) (c .before .before .before .before .loop .e) (c .before .before .good-domain .ensures) (not-false _ (c .before .if1 .left)) in
+    (omega arith, (omega (arith, c .next-entry .ensures, w .1), c .before .before .before .before .loop .inv .1 .1 ∙ starts-hit (goodDomain (now (c .before .before .before .before .before .before .before .before .args .r))) (now (c .before .before .before .before .before .before .before .before .args .r)) (c .before .before .before .before .before .before .read-header .result .count) (c .before .before .before .before .loop .i) (c .before .before .before .before .loop .e) (omega arith) (c .before .before .good-domain .ensures) (not-false _ (c .before .if1 .left)) (c .next-entry .ensures)))
 
 returns-2 : tie.Need-returns-2 Inv-loop μ-loop
-returns-2 c = sym (c .before .loop .inv .1 .1 ∙ starts-end (goodDomain (now (c .before .before .before .before .args .r))) (now (c .before .before .before .before .args .r)) (c .before .before .unit-at .result) (c .before .loop .i) (c .before .loop .e) (omega arith))
+returns-2 c = sym (c .before .loop .inv .1 .1 ∙ starts-end (goodDomain (now (c .before .before .before .before .before .args .r))) (now (c .before .before .before .before .before .args .r)) (c .before .before .before .read-header .result .count) (c .before .loop .i) (c .before .loop .e) (omega arith))
 
 pub good-domains-spec : {M : Type 1} → statement M
 good-domains-spec =
     tie.close
-    (tie.spec
-    Inv-loop
-    μ-loop
-    unit-at-requires
-    cast-n
-    loop-holds
-    good-domain-requires
-    returns
-    next-entry-requires
-    add-i
-    loop-less
-    loop-again
-    returns-2)
+    (tie.spec Inv-loop μ-loop read-header-requires cast-n loop-holds good-domain-requires returns next-entry-requires add-i loop-less loop-again returns-2)

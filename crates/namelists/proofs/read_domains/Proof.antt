@@ -1,9 +1,10 @@
 -- A domain reply is read: its length, the number of its entries, its entries.
 use denote.Ref.{now}
-use mathlib.Core.Path.{sym, _∙_}
+use mathlib.Core.Path.{ap, sym, _∙_}
 use Prim.Native.Nat.{_-_}
 use lib.ListN.{length}
 use native.Mathlib.Omega.{arith}
+use Rattle.reader.specs.declared.Header.{Header}
 use Rattle.referral.specs.Replies.{entries}
 use borrow.Author.Tests.{not-true, not-false}
 use Rattle.laws.specs.Lists.{every}
@@ -24,32 +25,25 @@ returns-2 : tie.Need-returns-2
 unfolding readDomains answerOf
 returns-2 c = answer-is (read-long (c .before .before .before .args .size) (now (c .before .before .before .args .r)) (every (goodDomain (now (c .before .before .before .args .r))) (entries (now (c .before .before .before .args .r)))) (map (domainAt (now (c .before .before .before .args .r))) (entries (now (c .before .before .before .args .r)))) (c .if2 .taken))
 
-unit-at-requires : tie.Need-unit-at-requires
-unit-at-requires c κs = search needs
+read-header-requires : tie.Need-read-header-requires
+read-header-requires c κs = search needs
 
 returns-3 : tie.Need-returns-3
 unfolding readDomains answerOf
-returns-3 c = answer-is (read-none (c .before .before .before .before .before .args .size) (now (c .before .before .before .before .before .args .r)) (every (goodDomain (now (c .before .before .before .before .before .args .r))) (entries (now (c .before .before .before .before .before .args .r)))) (map (domainAt (now (c .before .before .before .before .before .args .r))) (entries (now (c .before .before .before .before .before .args .r)))) (omega arith) (omega arith) (c .before .unit-at .ensures) (c .if3 .taken))
+returns-3 c = answer-is (read-none (c .before .before .before .before .before .before .args .size) (now (c .before .before .before .before .before .before .args .r)) (every (goodDomain (now (c .before .before .before .before .before .before .args .r))) (entries (now (c .before .before .before .before .before .before .args .r)))) (map (domainAt (now (c .before .before .before .before .before .before .args .r))) (entries (now (c .before .before .before .before .before .before .args .r)))) (omega arith) (omega arith) (ap (λ (z : Header). z .count) (c .before .before .read-header .ensures)) (c .if3 .taken))
 
 good-domains-requires : tie.Need-good-domains-requires
 good-domains-requires c κs = search needs
 
 returns-4 : tie.Need-returns-4
 unfolding readDomains answerOf
-returns-4 c = answer-is (read-bad (c .before .before .before .before .before .before .before .args .size) (now (c .before .before .before .before .before .before .before .args .r)) (every (goodDomain (now (c .before .before .before .before .before .before .before .args .r))) (entries (now (c .before .before .before .before .before .before .before .args .r)))) (map (domainAt (now (c .before .before .before .before .before .before .before .args .r))) (entries (now (c .before .before .before .before .before .before .before .args .r)))) (omega arith) (omega arith) (c .before .before .before .unit-at .ensures) (c .before .before .if3 .left) (sym (c .before .good-domains .ensures) ∙ not-true _ (c .if4 .taken)))
+returns-4 c = answer-is (read-bad (c .before .before .before .before .before .before .before .before .args .size) (now (c .before .before .before .before .before .before .before .before .args .r)) (every (goodDomain (now (c .before .before .before .before .before .before .before .before .args .r))) (entries (now (c .before .before .before .before .before .before .before .before .args .r)))) (map (domainAt (now (c .before .before .before .before .before .before .before .before .args .r))) (entries (now (c .before .before .before .before .before .before .before .before .args .r)))) (omega arith) (omega arith) (ap (λ (z : Header). z .count) (c .before .before .before .before .read-header .ensures)) (c .before .before .if3 .left) (sym (c .before .good-domains .ensures) ∙ not-true _ (c .if4 .taken)))
 
 returns-5 : tie.Need-returns-5
 unfolding readDomains answerOf
-returns-5 c = answer-is (read-good (c .before .before .before .before .before .before .before .args .size) (now (c .before .before .before .before .before .before .before .args .r)) (every (goodDomain (now (c .before .before .before .before .before .before .before .args .r))) (entries (now (c .before .before .before .before .before .before .before .args .r)))) (map (domainAt (now (c .before .before .before .before .before .before .before .args .r))) (entries (now (c .before .before .before .before .before .before .before .args .r)))) (omega arith) (omega arith) (c .before .before .before .unit-at .ensures) (c .before .before .if3 .left) (sym (c .before .good-domains .ensures) ∙ not-false _ (c .if4 .left)))
+returns-5 c = answer-is (read-good (c .before .before .before .before .before .before .before .before .args .size) (now (c .before .before .before .before .before .before .before .before .args .r)) (every (goodDomain (now (c .before .before .before .before .before .before .before .before .args .r))) (entries (now (c .before .before .before .before .before .before .before .before .args .r)))) (map (domainAt (now (c .before .before .before .before .before .before .before .before .args .r))) (entries (now (c .before .before .before .before .before .before .before .before .args .r)))) (omega arith) (omega arith) (ap (λ (z : Header). z .count) (c .before .before .before .before .read-header .ensures)) (c .before .before .if3 .left) (sym (c .before .good-domains .ensures) ∙ not-false _ (c .if4 .left)))
 
 pub read-domains-spec : {M : Type 1} → statement M
 read-domains-spec =
     tie.close
-    (tie.spec
-    returns
-    returns-2
-    unit-at-requires
-    returns-3
-    good-domains-requires
-    returns-4
-    returns-5)
+    (tie.spec returns returns-2 read-header-requires returns-3 good-domains-requires returns-4 returns-5)

@@ -1,7 +1,9 @@
 -- An entry lies inside the reply and is as long as its fixed part.
+use mathlib.Core.Path.{ap}
 use denote.Ref.{now}
 use Prim.Native.Nat.{_-_}
 use native.Mathlib.Omega.{arith}
+use Rattle.reader.specs.declared.Start.{Start}
 use Rattle.referral.specs.Replies.{sizeAt}
 use Rattle.referral.proofs.EntryLaws.{fits-short, fits-small, fits-size}
 use borrow.Author.Needs.{needs}
@@ -14,35 +16,24 @@ sub-if1 c = search needs
 returns : tie.Need-returns
 returns c = fits-short (c .before .before .args .fixed) (now (c .before .before .args .r)) (c .before .before .args .e) (omega arith) (c .if1 .taken)
 
-add-unit-at : tie.Need-add-unit-at
-add-unit-at c = search needs
-
-unit-at-requires : tie.Need-unit-at-requires
-unit-at-requires c κs = search needs
+read-start-requires : tie.Need-read-start-requires
+read-start-requires c κs = search needs
 
 cast-size : tie.Need-cast-size
 cast-size c = search needs
 
 returns-2 : tie.Need-returns-2
 unfolding sizeAt
-returns-2 c = fits-small (c .before .before .before .before .args .fixed) (now (c .before .before .before .before .args .r)) (c .before .before .before .before .args .e) (c .before .unit-at .ensures) (c .if2 .taken)
+returns-2 c = fits-small (c .before .before .before .before .before .args .fixed) (now (c .before .before .before .before .before .args .r)) (c .before .before .before .before .before .args .e) (ap (λ (z : Start). z .size) (c .before .before .read-start .ensures)) (c .if2 .taken)
 
 sub-result : tie.Need-sub-result
 sub-result c = search needs
 
 returns-3 : tie.Need-returns-3
 unfolding sizeAt
-returns-3 c = fits-size (c .before .before .before .before .args .fixed) (now (c .before .before .before .before .args .r)) (c .before .before .before .before .args .e) (c .before .unit-at .ensures) (omega arith) (omega arith)
+returns-3 c = fits-size (c .before .before .before .before .before .args .fixed) (now (c .before .before .before .before .before .args .r)) (c .before .before .before .before .before .args .e) (ap (λ (z : Start). z .size) (c .before .before .read-start .ensures)) (omega arith) (omega arith)
 
 pub entry-fits-spec : {M : Type 1} → statement M
 entry-fits-spec =
     tie.close
-    (tie.spec
-    sub-if1
-    returns
-    add-unit-at
-    unit-at-requires
-    cast-size
-    returns-2
-    sub-result
-    returns-3)
+    (tie.spec sub-if1 returns read-start-requires cast-size returns-2 sub-result returns-3)

@@ -4,6 +4,7 @@ use mathlib.Core.Path.{sym, ap, _∙_}
 use Prim.Native.Nat.{ℕ, _-_}
 use lib.ListN.{length}
 use native.Mathlib.Omega.{arith}
+use Rattle.reader.specs.declared.Header.{Header}
 use Rattle.referral.specs.Replies.{goodEntry, entries}
 use borrow.Author.Tests.{not-true, not-false}
 use Rattle.laws.specs.Lists.{every}
@@ -35,9 +36,9 @@ returns-2 : tie.Need-returns-2
 unfolding readReferral prefixAt referralCount
 returns-2 c = (none-malformed (now (c .before .before .before .before .before .args .r)) (c .no-referral2 .ensures) ∙ read-long (c .before .before .before .before .before .args .size) (now (c .before .before .before .before .before .args .r)) (every (goodEntry (now (c .before .before .before .before .before .args .r))) (entries (now (c .before .before .before .before .before .args .r))) && matches (prefixAt (now (c .before .before .before .before .before .args .r)) 8) (now (c .before .before .before .before .before .args .asked))) (referralIn (now (c .before .before .before .before .before .args .r))) (c .before .if2 .taken), none-within (now (c .before .before .before .before .before .args .r)) Malformed (c .no-referral2 .ensures))
 
-unit-at-requires : tie.Need-unit-at-requires
+read-header-requires : tie.Need-read-header-requires
 unfolding readReferral prefixAt referralCount
-unit-at-requires c κs = search needs
+read-header-requires c κs = search needs
 
 no-referral-requires-3 : tie.Need-no-referral-requires-3
 unfolding readReferral prefixAt referralCount
@@ -45,12 +46,12 @@ no-referral-requires-3 c κs = search needs
 
 returns-3 : tie.Need-returns-3
 unfolding readReferral prefixAt referralCount
-returns-3 c = (none-nothing (now (c .before .before .before .before .before .before .before .args .r)) (c .no-referral3 .ensures) ∙ read-none (c .before .before .before .before .before .before .before .args .size) (now (c .before .before .before .before .before .before .before .args .r)) (every (goodEntry (now (c .before .before .before .before .before .before .before .args .r))) (entries (now (c .before .before .before .before .before .before .before .args .r))) && matches (prefixAt (now (c .before .before .before .before .before .before .before .args .r)) 8) (now (c .before .before .before .before .before .before .before .args .asked))) (referralIn (now (c .before .before .before .before .before .before .before .args .r))) (omega arith) (omega arith) (c .before .before .unit-at .ensures) (c .before .if3 .taken), none-within (now (c .before .before .before .before .before .before .before .args .r)) Nothing (c .no-referral3 .ensures))
+returns-3 c = (none-nothing (now (c .before .before .before .before .before .before .before .before .args .r)) (c .no-referral3 .ensures) ∙ read-none (c .before .before .before .before .before .before .before .before .args .size) (now (c .before .before .before .before .before .before .before .before .args .r)) (every (goodEntry (now (c .before .before .before .before .before .before .before .before .args .r))) (entries (now (c .before .before .before .before .before .before .before .before .args .r))) && matches (prefixAt (now (c .before .before .before .before .before .before .before .before .args .r)) 8) (now (c .before .before .before .before .before .before .before .before .args .asked))) (referralIn (now (c .before .before .before .before .before .before .before .before .args .r))) (omega arith) (omega arith) (ap (λ (z : Header). z .count) (c .before .before .before .read-header .ensures)) (c .before .if3 .taken), none-within (now (c .before .before .before .before .before .before .before .before .args .r)) Nothing (c .no-referral3 .ensures))
 
 good-entries-requires : tie.Need-good-entries-requires
 unfolding readReferral prefixAt referralCount
 good-entries-requires c κs =
-    let p = c .before .unit-at .ensures in
+    let p = ap (λ (z : Header). z .count) (c .before .before .read-header .ensures) in
     let q = c .if3 .left in
     (omega arith, (omega arith, omega arith))
 
@@ -60,15 +61,15 @@ no-referral-requires-4 c κs = search needs
 
 returns-4 : tie.Need-returns-4
 unfolding readReferral prefixAt referralCount
-returns-4 c = (none-malformed (now (c .before .before .before .before .before .before .before .before .before .args .r)) (c .no-referral4 .ensures) ∙ read-bad (c .before .before .before .before .before .before .before .before .before .args .size) (now (c .before .before .before .before .before .before .before .before .before .args .r)) (every (goodEntry (now (c .before .before .before .before .before .before .before .before .before .args .r))) (entries (now (c .before .before .before .before .before .before .before .before .before .args .r))) && matches (prefixAt (now (c .before .before .before .before .before .before .before .before .before .args .r)) 8) (now (c .before .before .before .before .before .before .before .before .before .args .asked))) (referralIn (now (c .before .before .before .before .before .before .before .before .before .args .r))) (omega arith) (omega arith) (c .before .before .before .before .unit-at .ensures) (c .before .before .before .if3 .left) (and-no-left _ (sym (c .before .before .good-entries .ensures) ∙ not-true _ (c .before .if4 .taken))), none-within (now (c .before .before .before .before .before .before .before .before .before .args .r)) Malformed (c .no-referral4 .ensures))
+returns-4 c = (none-malformed (now (c .before .before .before .before .before .before .before .before .before .before .args .r)) (c .no-referral4 .ensures) ∙ read-bad (c .before .before .before .before .before .before .before .before .before .before .args .size) (now (c .before .before .before .before .before .before .before .before .before .before .args .r)) (every (goodEntry (now (c .before .before .before .before .before .before .before .before .before .before .args .r))) (entries (now (c .before .before .before .before .before .before .before .before .before .before .args .r))) && matches (prefixAt (now (c .before .before .before .before .before .before .before .before .before .before .args .r)) 8) (now (c .before .before .before .before .before .before .before .before .before .before .args .asked))) (referralIn (now (c .before .before .before .before .before .before .before .before .before .before .args .r))) (omega arith) (omega arith) (ap (λ (z : Header). z .count) (c .before .before .before .before .before .read-header .ensures)) (c .before .before .before .if3 .left) (and-no-left _ (sym (c .before .before .good-entries .ensures) ∙ not-true _ (c .before .if4 .taken))), none-within (now (c .before .before .before .before .before .before .before .before .before .before .args .r)) Malformed (c .no-referral4 .ensures))
 
-path-of-requires : tie.Need-path-of-requires
+prefix-of-requires : tie.Need-prefix-of-requires
 unfolding readReferral prefixAt referralCount
-path-of-requires c κs = (omega (arith, good-long (now (c .before .before .before .before .before .before .before .before .args .r)) (omega arith) (let p = c .before .before .before .unit-at .ensures in let q = c .before .before .if3 .left in omega arith) (sym (c .before .good-entries .ensures) ∙ not-false _ (c .if4 .left))), omega arith)
+prefix-of-requires c κs = (omega (arith, good-long (now (c .before .before .before .before .before .before .before .before .before .args .r)) (omega arith) (let p = ap (λ (z : Header). z .count) (c .before .before .before .before .read-header .ensures) in let q = c .before .before .if3 .left in omega arith) (sym (c .before .good-entries .ensures) ∙ not-false _ (c .if4 .left))), omega arith)
 
 span-matches-requires : tie.Need-span-matches-requires
 unfolding readReferral prefixAt referralCount
-span-matches-requires c κs = c .path-of .ensures .1
+span-matches-requires c κs = c .prefix-of .ensures .1
 
 no-referral-requires-5 : tie.Need-no-referral-requires-5
 unfolding readReferral prefixAt referralCount
@@ -76,33 +77,17 @@ no-referral-requires-5 c κs = search needs
 
 returns-5 : tie.Need-returns-5
 unfolding readReferral prefixAt referralCount
-returns-5 c = (none-malformed (now (c .before .before .before .before .before .before .before .before .before .before .before .before .args .r)) (c .no-referral5 .ensures) ∙ read-bad (c .before .before .before .before .before .before .before .before .before .before .before .before .args .size) (now (c .before .before .before .before .before .before .before .before .before .before .before .before .args .r)) (every (goodEntry (now (c .before .before .before .before .before .before .before .before .before .before .before .before .args .r))) (entries (now (c .before .before .before .before .before .before .before .before .before .before .before .before .args .r))) && matches (prefixAt (now (c .before .before .before .before .before .before .before .before .before .before .before .before .args .r)) 8) (now (c .before .before .before .before .before .before .before .before .before .before .before .before .args .asked))) (referralIn (now (c .before .before .before .before .before .before .before .before .before .before .before .before .args .r))) (omega arith) (omega arith) (c .before .before .before .before .before .before .before .unit-at .ensures) (c .before .before .before .before .before .before .if3 .left) (and-no-right (every (goodEntry (now (c .before .before .before .before .before .before .before .before .before .before .before .before .args .r))) (entries (now (c .before .before .before .before .before .before .before .before .before .before .before .before .args .r)))) (sym (c .before .before .span-matches .ensures ∙ ap (λ (x : List ℕ). matches x (now (c .before .before .before .before .before .before .before .before .before .before .before .before .args .asked))) (c .before .before .before .path-of .ensures .0)) ∙ not-true _ (c .before .if5 .taken))), none-within (now (c .before .before .before .before .before .before .before .before .before .before .before .before .args .r)) Malformed (c .no-referral5 .ensures))
+returns-5 c = (none-malformed (now (c .before .before .before .before .before .before .before .before .before .before .before .before .before .args .r)) (c .no-referral5 .ensures) ∙ read-bad (c .before .before .before .before .before .before .before .before .before .before .before .before .before .args .size) (now (c .before .before .before .before .before .before .before .before .before .before .before .before .before .args .r)) (every (goodEntry (now (c .before .before .before .before .before .before .before .before .before .before .before .before .before .args .r))) (entries (now (c .before .before .before .before .before .before .before .before .before .before .before .before .before .args .r))) && matches (prefixAt (now (c .before .before .before .before .before .before .before .before .before .before .before .before .before .args .r)) 8) (now (c .before .before .before .before .before .before .before .before .before .before .before .before .before .args .asked))) (referralIn (now (c .before .before .before .before .before .before .before .before .before .before .before .before .before .args .r))) (omega arith) (omega arith) (ap (λ (z : Header). z .count) (c .before .before .before .before .before .before .before .before .read-header .ensures)) (c .before .before .before .before .before .before .if3 .left) (and-no-right (every (goodEntry (now (c .before .before .before .before .before .before .before .before .before .before .before .before .before .args .r))) (entries (now (c .before .before .before .before .before .before .before .before .before .before .before .before .before .args .r)))) (sym (c .before .before .span-matches .ensures ∙ ap (λ (x : List ℕ). matches x (now (c .before .before .before .before .before .before .before .before .before .before .before .before .before .args .asked))) (c .before .before .before .prefix-of .ensures .0)) ∙ not-true _ (c .before .if5 .taken))), none-within (now (c .before .before .before .before .before .before .before .before .before .before .before .before .before .args .r)) Malformed (c .no-referral5 .ensures))
 
 referral-in-requires : tie.Need-referral-in-requires
 unfolding readReferral prefixAt referralCount
-referral-in-requires c κs = record { short = omega arith; long = good-long (now (c .before .before .before .before .before .before .before .before .before .before .before .args .r)) (omega arith) (let p = c .before .before .before .before .before .before .unit-at .ensures in let q = c .before .before .before .before .before .if3 .left in omega arith) (sym (c .before .before .before .before .good-entries .ensures) ∙ not-false _ (c .before .before .before .if4 .left)); good = sym (c .before .before .before .before .good-entries .ensures) ∙ not-false _ (c .before .before .before .if4 .left); prefix-is = c .before .before .path-of .ensures .0; prefix-inside = c .before .before .path-of .ensures .1 }
+referral-in-requires c κs = record { short = omega arith; long = good-long (now (c .before .before .before .before .before .before .before .before .before .before .before .before .args .r)) (omega arith) (let p = ap (λ (z : Header). z .count) (c .before .before .before .before .before .before .before .read-header .ensures) in let q = c .before .before .before .before .before .if3 .left in omega arith) (sym (c .before .before .before .before .good-entries .ensures) ∙ not-false _ (c .before .before .before .if4 .left)); good = sym (c .before .before .before .before .good-entries .ensures) ∙ not-false _ (c .before .before .before .if4 .left); prefix-is = c .before .before .prefix-of .ensures .0; prefix-inside = c .before .before .prefix-of .ensures .1 }
 
 returns-6 : tie.Need-returns-6
 unfolding readReferral prefixAt referralCount
-returns-6 c = (c .referral-in .ensures .0 ∙ read-good (c .before .before .before .before .before .before .before .before .before .before .before .before .args .size) (now (c .before .before .before .before .before .before .before .before .before .before .before .before .args .r)) (every (goodEntry (now (c .before .before .before .before .before .before .before .before .before .before .before .before .args .r))) (entries (now (c .before .before .before .before .before .before .before .before .before .before .before .before .args .r))) && matches (prefixAt (now (c .before .before .before .before .before .before .before .before .before .before .before .before .args .r)) 8) (now (c .before .before .before .before .before .before .before .before .before .before .before .before .args .asked))) (referralIn (now (c .before .before .before .before .before .before .before .before .before .before .before .before .args .r))) (omega arith) (omega arith) (c .before .before .before .before .before .before .before .unit-at .ensures) (c .before .before .before .before .before .before .if3 .left) (and-both (sym (c .before .before .before .before .before .good-entries .ensures) ∙ not-false _ (c .before .before .before .before .if4 .left)) (sym (c .before .before .span-matches .ensures ∙ ap (λ (x : List ℕ). matches x (now (c .before .before .before .before .before .before .before .before .before .before .before .before .args .asked))) (c .before .before .before .path-of .ensures .0)) ∙ not-false _ (c .before .if5 .left))), c .referral-in .ensures .1)
+returns-6 c = (c .referral-in .ensures .0 ∙ read-good (c .before .before .before .before .before .before .before .before .before .before .before .before .before .args .size) (now (c .before .before .before .before .before .before .before .before .before .before .before .before .before .args .r)) (every (goodEntry (now (c .before .before .before .before .before .before .before .before .before .before .before .before .before .args .r))) (entries (now (c .before .before .before .before .before .before .before .before .before .before .before .before .before .args .r))) && matches (prefixAt (now (c .before .before .before .before .before .before .before .before .before .before .before .before .before .args .r)) 8) (now (c .before .before .before .before .before .before .before .before .before .before .before .before .before .args .asked))) (referralIn (now (c .before .before .before .before .before .before .before .before .before .before .before .before .before .args .r))) (omega arith) (omega arith) (ap (λ (z : Header). z .count) (c .before .before .before .before .before .before .before .before .read-header .ensures)) (c .before .before .before .before .before .before .if3 .left) (and-both (sym (c .before .before .before .before .before .good-entries .ensures) ∙ not-false _ (c .before .before .before .before .if4 .left)) (sym (c .before .before .span-matches .ensures ∙ ap (λ (x : List ℕ). matches x (now (c .before .before .before .before .before .before .before .before .before .before .before .before .before .args .asked))) (c .before .before .before .prefix-of .ensures .0)) ∙ not-false _ (c .before .if5 .left))), c .referral-in .ensures .1)
 
 pub read-referral-spec : {M : Type 1} → statement M
 read-referral-spec =
     tie.close
-    (tie.spec
-    no-referral-requires
-    returns
-    no-referral-requires-2
-    returns-2
-    unit-at-requires
-    no-referral-requires-3
-    returns-3
-    good-entries-requires
-    no-referral-requires-4
-    returns-4
-    path-of-requires
-    span-matches-requires
-    no-referral-requires-5
-    returns-5
-    referral-in-requires
-    returns-6)
+    (tie.spec no-referral-requires returns no-referral-requires-2 returns-2 read-header-requires no-referral-requires-3 returns-3 good-entries-requires no-referral-requires-4 returns-4 prefix-of-requires span-matches-requires no-referral-requires-5 returns-5 referral-in-requires returns-6)

@@ -99,7 +99,7 @@ fn put_decimal(out: &mut [u8], at: usize, n: u32) -> usize
 }
 
 // A line as it is given.
-pub fn put_line(out: &mut [u8], at: usize, line: &[u8]) -> usize
+fn put_line(out: &mut [u8], at: usize, line: &[u8]) -> usize
     requires { ⌜ at + length (ended (now line)) ≤ length (now out) ⌝ }
     ensures { λ r. ⌜ Put (now (out .entry)) at (ended (now (line .entry))) (now (out .exit)) r ⌝ }
 {

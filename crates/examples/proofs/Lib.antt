@@ -1,0 +1,3 @@
+-- Document 01's examples marked P, proved.
+pub mod Table
+pub mod Unused

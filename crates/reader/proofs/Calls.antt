@@ -22,7 +22,7 @@ use sound.WpLaws.{FmC}
 use denote.RattleType.{RattleType}
 use denote.Laws.{Is, shows}
 use denote.Plain.{UInt, uint-makes}
-use denote.Builtin.{u8, u16, u32, usize}
+use denote.Builtin.{u8, usize}
 use denote.Ref.{RefT, NamedLft, now}
 use denote.Signature.{namedLft}
 use denote.Slice.{sliceVal, ShrSlice, shr-slice-copy}

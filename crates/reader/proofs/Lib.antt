@@ -1,2 +1,3 @@
--- The calls over a reader, as steps of a walk.
+-- What the walks of the functions over a reader, and of those that call them, share.
+pub mod Apart
 pub mod Calls

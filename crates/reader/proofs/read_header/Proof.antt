@@ -1,7 +1,7 @@
 -- `reader::read_header` meets its contract: a walk of its MIR, by hand. A reader is made, and field after field is read through it, the position moved on between them. Each call is a step of Calls.antt.
 -- Assumes nothing.
 use mathlib.Core.Path.{refl}
-use Prim.Native.Nat.{ℕ, _+_, _<_, _^_}
+use Prim.Native.Nat.{ℕ, _<_, _^_}
 use native.Mathlib.Omega.{arith}
 use mathlib.Core.List.{List, [], _∷_}
 use lib.Dec.{lit<}

@@ -39,7 +39,6 @@ use Rattle.spans.specs.Spans.{textEnd}
 use Rattle.spans.specs.declared.Read.{Read}
 use Rattle.spans.proofs.Read as S
 use Rattle.spans.proofs.Read.Laws as S′
-use Rattle.reader.specs.declared.Reader.{Reader}
 use Rattle.reader.proofs.Calls.{New, Row, reader, spelt, makes}
 use Rattle.reader.proofs.new.Symbol as new-def
 use Rattle.reader.proofs.new.Symbol.{name as #reader·new}

@@ -7,11 +7,14 @@ ghost use lib.ListN.{length};
 ghost use Rattle.resolve.specs.Calls.{refusalNumber};
 ghost use Rattle.referral.specs.Found.{bufferWith};
 ghost use Rattle.domains.specs.Domains.{domainsNumber, domainsAfter, requestNumber};
+ghost use Rattle.listing.specs.Listed.{listed, bufferAfter};
 ghost use Rattle.dfsc.specs.Units.{noWalk, walkIn, unitsLeft, closedUnits, startUnits, answerLeft, referralUnits, ioUnits, shownResult, seen, domainsRefusal};
 ghost use Rattle.dfsc.specs.Units.{partySeen, nameSeen, questionSeen, pathSeen, endSeen};
+ghost use Rattle.dfsc.specs.Listing.{listResult};
 use closing::Outcome;
 use closing::Verdict;
 use domains::DomainsRead;
+use listing::Answer;
 use packing::HEAD;
 use packing::Unpacked;
 use referral::Asked;
@@ -254,4 +257,24 @@ pub extern "C" fn dfsc_read_domains(reply: &[u8], size: u32, doms: &mut [u16]) -
 {
     let read = domains::read_domains(reply, size, doms);
     domains_number(read)
+}
+
+fn list_result(answer: Answer) -> u64
+    ensures { λ r. ⌜ r ≡ listResult answer ⌝ }
+{
+    match answer {
+        Answer::Units(n) => n as u64,
+        Answer::NotInOrder => 17179869184,
+        Answer::TooShort => 42949672960,
+    }
+}
+
+// The referral cache as text: its units, or 2^32 times 4 or 10.
+#[no_mangle]
+pub extern "C" fn dfsc_list(refs: &[u16], out: &mut [u16]) -> u64
+    ensures answer { λ r. ⌜ r ≡ listResult (listed (now (refs .entry)) (length (now (out .entry)))) ⌝ }
+    ensures buffer { λ r. ⌜ now (out .exit) ≡ bufferAfter (now (refs .entry)) (now (out .entry)) ⌝ }
+{
+    let answer = listing::list(refs, out);
+    list_result(answer)
 }

@@ -8,13 +8,15 @@ ghost use Rattle.resolve.specs.Calls.{refusalNumber};
 ghost use Rattle.referral.specs.Found.{bufferWith};
 ghost use Rattle.domains.specs.Domains.{domainsNumber, domainsAfter, requestNumber};
 ghost use Rattle.listing.specs.Listed.{listed, bufferAfter};
+ghost use Rattle.reading.specs.Read.{readNumber, readAfter};
 ghost use Rattle.dfsc.specs.Units.{noWalk, walkIn, unitsLeft, closedUnits, startUnits, answerLeft, referralUnits, ioUnits, shownResult, seen, domainsRefusal};
 ghost use Rattle.dfsc.specs.Units.{partySeen, nameSeen, questionSeen, pathSeen, endSeen};
-ghost use Rattle.dfsc.specs.Listing.{listResult};
+ghost use Rattle.dfsc.specs.Listing.{listResult, readRefusal};
 use closing::Outcome;
 use closing::Verdict;
 use domains::DomainsRead;
 use listing::Answer;
+use loading::Loaded;
 use packing::HEAD;
 use packing::Unpacked;
 use referral::Asked;
@@ -277,4 +279,25 @@ pub extern "C" fn dfsc_list(refs: &[u16], out: &mut [u16]) -> u64
 {
     let answer = listing::list(refs, out);
     list_result(answer)
+}
+
+fn read_number(answer: Loaded) -> u32
+    ensures { λ r. ⌜ r ≡ readRefusal answer ⌝ }
+{
+    match answer {
+        Loaded::Done => 0,
+        Loaded::NotInOrder => 4,
+        Loaded::NotListing => 8,
+        Loaded::TooMany => 9,
+    }
+}
+
+// A text into the referral cache: 0, or 4, 8 or 9.
+#[no_mangle]
+pub extern "C" fn dfsc_read(text: &[u16], refs: &mut [u16]) -> u32
+    ensures number { λ r. ⌜ r ≡ readNumber (now (text .entry)) (now (refs .entry)) ⌝ }
+    ensures cache { λ r. ⌜ now (refs .exit) ≡ readAfter (now (text .entry)) (now (refs .entry)) ⌝ }
+{
+    let answer = loading::read(text, refs);
+    read_number(answer)
 }

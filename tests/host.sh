@@ -1,11 +1,11 @@
 #!/usr/bin/env bash
 # The proved code, compiled: replies against vectors/captures (host/layouts), order test and look-up against plain Rust (host/caches), the listing
-# against plain Rust (host/listing), the calls of a host against vectors/scenarios.txt, with the stack that they take (host/walks).
+# and reading it against plain Rust (host/listing), the calls of a host against vectors/scenarios.txt, with the stack that they take (host/walks).
 set -eu
 cd "$(dirname "$0")/.."
 log=$(mktemp)
 trap 'rm -f "$log"' EXIT
-for c in wire probe lister dfsc; do
+for c in wire probe dfsc; do
     rt staticlib "$c" >"$log" 2>&1 || { cat "$log"; exit 1; }
 done
 for t in layouts caches listing walks; do

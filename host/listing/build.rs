@@ -1,8 +1,8 @@
-// Links target/staticlib/liblister.a of the repository (`rt staticlib lister`), or of the folder that LISTER_LIB names.
+// Links target/staticlib/libdfsc.a of the repository (`rt staticlib dfsc`), or of the folder that DFSC_LIB names.
 fn main() {
-    let dir = std::env::var("LISTER_LIB").unwrap_or_else(|_| format!("{}/../../target/staticlib", std::env::var("CARGO_MANIFEST_DIR").unwrap()));
-    println!("cargo:rerun-if-env-changed=LISTER_LIB");
-    println!("cargo:rerun-if-changed={dir}/liblister.a");
+    let dir = std::env::var("DFSC_LIB").unwrap_or_else(|_| format!("{}/../../target/staticlib", std::env::var("CARGO_MANIFEST_DIR").unwrap()));
+    println!("cargo:rerun-if-env-changed=DFSC_LIB");
+    println!("cargo:rerun-if-changed={dir}/libdfsc.a");
     println!("cargo:rustc-link-search=native={dir}");
-    println!("cargo:rustc-link-lib=static=lister");
+    println!("cargo:rustc-link-lib=static=dfsc");
 }

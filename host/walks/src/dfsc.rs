@@ -15,6 +15,8 @@ extern "C" {
     fn dfsc_end(walk: *const u16, walk_len: usize, out: *mut u32, out_len: usize) -> u32;
     fn dfsc_domain_request(out: *mut u8, out_len: usize) -> u32;
     fn dfsc_read_domains(reply: *const u8, reply_len: usize, size: u32, doms: *mut u16, doms_len: usize) -> u32;
+    fn dfsc_list(refs: *const u16, refs_len: usize, out: *mut u16, out_len: usize) -> u64;
+    fn dfsc_read(text: *const u16, text_len: usize, refs: *mut u16, refs_len: usize) -> u32;
 }
 
 pub fn start(refs: &[u16], doms: &[u16], walk: &mut [u16], path: &[u16], boot: &[u16], limit: u32, size: u32, clock: u32, out: &mut [u8]) -> u32 {
@@ -65,4 +67,17 @@ pub fn domain_request(out: &mut [u8]) -> u32 {
 
 pub fn read_domains(reply: &[u8], size: u32, doms: &mut [u16]) -> u32 {
     measured("dfsc_read_domains", || unsafe { dfsc_read_domains(reply.as_ptr(), reply.len(), size, doms.as_mut_ptr(), doms.len()) })
+}
+
+pub fn list(refs: &[u16], out: &mut [u16]) -> u64 {
+    let mut r = 0;
+    measured("dfsc_list", || {
+        r = unsafe { dfsc_list(refs.as_ptr(), refs.len(), out.as_mut_ptr(), out.len()) };
+        0
+    });
+    r
+}
+
+pub fn read(text: &[u16], refs: &mut [u16]) -> u32 {
+    measured("dfsc_read", || unsafe { dfsc_read(text.as_ptr(), text.len(), refs.as_mut_ptr(), refs.len()) })
 }

@@ -74,6 +74,7 @@ extern "C" {
 #define DFSC_MOST_PLACES 32     /* places of a cache */
 #define DFSC_WALK_UNITS 800     /* units of a walk */
 #define DFSC_REQUEST_BYTES 516  /* the longest request; with a buffer of so many bytes DFSC_SHORT_BUFFER never comes of a walk */
+#define DFSC_LISTING_UNITS 373248 /* a buffer of so many units holds every listing */
 #define DFSC_MOST_LIMIT 64      /* a walk's limit is 1 to 64 moves */
 #define DFSC_LEAST_SIZE 1024    /* bytes that a referral reply may have: the size given at the start, */
 #define DFSC_MOST_SIZE 57344    /* doubled up to this when a server says 0x80000005 */
@@ -88,11 +89,16 @@ enum {
     DFSC_OUT_OF_FORM = 5,      /* the walk has ended, is out of form, or waits for another kind of answer */
     DFSC_TOO_MANY_NAMES = 6,   /* a domain reply has more different names than the cache has places */
     DFSC_BAD_DOMAIN_REPLY = 7, /* malformed or empty */
+    DFSC_BAD_LISTING = 8,      /* a text is no listing, or its entries are not in order */
+    DFSC_TOO_MANY_ENTRIES = 9, /* a listing has more entries than the cache has places */
     DFSC_SHORT_BUFFER = 10     /* the request, text or numbers are longer than the buffer */
 };
 
 /* What the calls that show something give back: the elements written, or one of these. */
 #define DFSC_REFUSED(number) ((uint32_t)(number) << 16)
+
+/* What dfsc_list gives back where it is refused: a listing may have more than 65,535 units. */
+#define DFSC_LIST_REFUSED(number) ((uint64_t)(number) << 32)
 
 /* Kinds of question. */
 enum {
@@ -163,6 +169,30 @@ uint32_t dfsc_domain_request(uint8_t *out, size_t out_len);
  * 0, or a refusal: 4, 3 (the size), 6, 7.
  */
 uint32_t dfsc_read_domains(const uint8_t *reply, size_t reply_len, uint32_t size, uint16_t *doms, size_t doms_len);
+
+/*
+ * The referral cache as text, to save or to show: for each entry, in place order, lines "key=value", each ended by a unit 0A hex:
+ *
+ *     prefix=\corp\dfs
+ *     kind=root            (or link)
+ *     interlink=0          (or 1)
+ *     failback=1
+ *     ttl=300
+ *     taken=1700000000
+ *     hint=0               (the target hinted at, from 0)
+ *     target=\nas1\dfs     (one line for each target; sets are not listed)
+ *
+ * Numbers are decimal, without leading zeros. In paths the units 21 to 7E hex but "~" stand as they are, any other as "~" and four upper-case hex
+ * digits. The units of the text, or DFSC_LIST_REFUSED of 4 or 10.
+ */
+uint64_t dfsc_list(const uint16_t *refs, size_t refs_len, uint16_t *out, size_t out_len);
+
+/*
+ * Such a text in place of all that the referral cache holds: its entries go into the first places, each with one target set; of the cache only the
+ * number of places matters. No other spelling, order or key is read, and an empty text empties the cache. What was read is listed as the same text.
+ * 0, or a refusal: 4, 8, 9.
+ */
+uint32_t dfsc_read(const uint16_t *text, size_t text_len, uint16_t *refs, size_t refs_len);
 
 #ifdef __cplusplus
 }

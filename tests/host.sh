@@ -1,11 +1,12 @@
 #!/usr/bin/env bash
 # The proved code, compiled: replies against vectors/captures (host/layouts), order test, look-up, start and replies against plain Rust, and timed
-# (host/bench), the listing against plain Rust (host/listing), the calls of a host against vectors/scenarios.txt, with the stack that they take (host/walks).
+# (host/bench), the listing and reading it against plain Rust (host/listing), the calls of a host against vectors/scenarios.txt, with the stack that they
+# take (host/walks).
 set -eu
 cd "$(dirname "$0")/.."
 log=$(mktemp)
 trap 'rm -f "$log"' EXIT
-for c in wire probe lister dfsc; do
+for c in wire probe dfsc; do
     rt staticlib "$c" >"$log" 2>&1 || { cat "$log"; exit 1; }
 done
 for t in layouts bench listing walks; do

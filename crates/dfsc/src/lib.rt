@@ -5,8 +5,11 @@ ghost use mathlib.Core.List.{[]};
 ghost use lib.ListN.{length};
 ghost use Rattle.referral.specs.Found.{bufferWith};
 ghost use Rattle.domains.specs.Domains.{domainsNumber, domainsAfter, requestNumber};
+ghost use Rattle.listing.specs.Listed.{listed, bufferAfter};
+ghost use Rattle.reading.specs.Read.{readNumber, readAfter};
 ghost use Rattle.holding.specs.Units.{unitsLeft, startUnits, answerLeft, referralUnits, ioUnits, seen};
 ghost use Rattle.holding.specs.Units.{partySeen, nameSeen, questionSeen, pathSeen, endSeen};
+ghost use Rattle.holding.specs.Listing.{listResult};
 use referral::Asked;
 
 // A new walk. 0, or a refusal: 4, 1, 2, 3, 5 (the walk has not 800 units) or 10 (the request is longer than `out`).
@@ -152,4 +155,24 @@ pub extern "C" fn dfsc_read_domains(reply: &[u8], size: u32, doms: &mut [u16]) -
 {
     let read = domains::read_domains(reply, size, doms);
     holding::domains_number(read)
+}
+
+// The referral cache as text: its units, or 2^32 times 4 or 10.
+#[no_mangle]
+pub extern "C" fn dfsc_list(refs: &[u16], out: &mut [u16]) -> u64
+    ensures answer { λ r. ⌜ r ≡ listResult (listed (now (refs .entry)) (length (now (out .entry)))) ⌝ }
+    ensures buffer { λ r. ⌜ now (out .exit) ≡ bufferAfter (now (refs .entry)) (now (out .entry)) ⌝ }
+{
+    let answer = listing::list(refs, out);
+    holding::list_result(answer)
+}
+
+// A text into the referral cache: 0, or 4, 8 or 9.
+#[no_mangle]
+pub extern "C" fn dfsc_read(text: &[u16], refs: &mut [u16]) -> u32
+    ensures number { λ r. ⌜ r ≡ readNumber (now (text .entry)) (now (refs .entry)) ⌝ }
+    ensures cache { λ r. ⌜ now (refs .exit) ≡ readAfter (now (text .entry)) (now (refs .entry)) ⌝ }
+{
+    let answer = loading::read(text, refs);
+    holding::read_number(answer)
 }

@@ -1,2 +1,3 @@
 -- The calls of hosts in other languages.
 pub mod Units
+pub mod Listing

@@ -4,9 +4,12 @@ ghost use Prim.Native.Nat.{_≤_, min};
 ghost use lib.ListN.{length};
 ghost use Rattle.resolve.specs.Calls.{refusalNumber};
 ghost use Rattle.holding.specs.Units.{noWalk, walkIn, closedUnits, shownResult, domainsRefusal};
+ghost use Rattle.holding.specs.Listing.{listResult, readRefusal};
 use closing::Outcome;
 use closing::Verdict;
 use domains::DomainsRead;
+use listing::Answer;
+use loading::Loaded;
 use packing::HEAD;
 use packing::Unpacked;
 use shown::Shown;
@@ -102,5 +105,26 @@ pub fn domains_number(read: DomainsRead) -> u32
         DomainsRead::NotInOrder => 4,
         DomainsRead::TooMany => 6,
         DomainsRead::Unreadable => 7,
+    }
+}
+
+pub fn list_result(answer: Answer) -> u64
+    ensures { λ r. ⌜ r ≡ listResult answer ⌝ }
+{
+    match answer {
+        Answer::Units(n) => n as u64,
+        Answer::NotInOrder => 17179869184,
+        Answer::TooShort => 42949672960,
+    }
+}
+
+pub fn read_number(answer: Loaded) -> u32
+    ensures { λ r. ⌜ r ≡ readRefusal answer ⌝ }
+{
+    match answer {
+        Loaded::Done => 0,
+        Loaded::NotInOrder => 4,
+        Loaded::NotListing => 8,
+        Loaded::TooMany => 9,
     }
 }

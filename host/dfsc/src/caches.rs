@@ -1,11 +1,13 @@
 //! The two caches: units that the host owns and lends to each call.
 use crate::calls;
-use crate::refusal::{taken, Refusal};
+use crate::refusal::{listed, taken, Refusal};
 
 /// The units of one place of a cache.
 pub const PLACE_UNITS: usize = 2336;
 /// The most places of a cache.
 pub const MOST_PLACES: usize = 32;
+// More units than the lines of one entry have: nine texts of 256 units, each escaped as five, beside keys and numbers.
+const LISTED_UNITS: usize = 9 * (8 + 5 * 256) + 80;
 
 /// The referrals that are known: for each prefix its targets, how long they hold, and which of them was used last.
 #[derive(Clone, Debug, PartialEq, Eq)]
@@ -40,7 +42,18 @@ impl ReferralCache {
         &mut self.0
     }
 
-    // as text, and from it: go here
+    /// The cache as text, in units: include/dfsc.h has its form.
+    pub fn list(&self) -> Result<Vec<u16>, Refusal> {
+        let mut out = vec![0; self.0.len() / PLACE_UNITS * LISTED_UNITS];
+        let n = listed(calls::list(&self.0, &mut out))?;
+        out.truncate(n);
+        Ok(out)
+    }
+
+    /// Such a text in place of all that the cache holds.
+    pub fn read(&mut self, text: &[u16]) -> Result<(), Refusal> {
+        taken(calls::read(text, &mut self.0))
+    }
 }
 
 impl DomainCache {

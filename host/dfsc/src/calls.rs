@@ -24,7 +24,9 @@ extern "C" {
     fn dfsc_domain_request(out: *mut u8, out_len: usize) -> u32;
     fn dfsc_read_domains(reply: *const u8, reply_len: usize, size: u32, doms: *mut u16, doms_len: usize) -> u32;
 
-    // the referral cache as text, and back: its two functions go here
+    // the referral cache as text, and back
+    fn dfsc_list(refs: *const u16, refs_len: usize, out: *mut u16, out_len: usize) -> u64;
+    fn dfsc_read(text: *const u16, text_len: usize, refs: *mut u16, refs_len: usize) -> u32;
 }
 
 /// `dfsc_start`: a new walk for a path. 0, or a refusal.
@@ -93,4 +95,16 @@ pub fn domain_request(out: &mut [u8]) -> u32 {
 #[inline]
 pub fn read_domains(reply: &[u8], size: u32, doms: &mut [u16]) -> u32 {
     unsafe { dfsc_read_domains(reply.as_ptr(), reply.len(), size, doms.as_mut_ptr(), doms.len()) }
+}
+
+/// `dfsc_list`: the referral cache as text. Its units, or 2^32 times a refusal.
+#[inline]
+pub fn list(refs: &[u16], out: &mut [u16]) -> u64 {
+    unsafe { dfsc_list(refs.as_ptr(), refs.len(), out.as_mut_ptr(), out.len()) }
+}
+
+/// `dfsc_read`: a text in place of what the referral cache holds. 0, or a refusal.
+#[inline]
+pub fn read(text: &[u16], refs: &mut [u16]) -> u32 {
+    unsafe { dfsc_read(text.as_ptr(), text.len(), refs.as_mut_ptr(), refs.len()) }
 }

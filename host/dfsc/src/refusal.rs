@@ -18,6 +18,10 @@ pub enum Refusal {
     TooManyNames,
     /// 7: a domain reply is malformed or empty.
     BadDomainReply,
+    /// 8: a text is no listing, or its entries are not in order.
+    BadListing,
+    /// 9: a listing has more entries than the cache has places.
+    TooManyEntries,
     /// 10: a buffer is too short. The buffers of this crate are long enough.
     ShortBuffer,
     /// 27: the entry in use is gone from its cache, or has lost the target or DC that was to be asked. Any answer ends such a walk with [`Outcome::Gone`](crate::Outcome).
@@ -26,7 +30,7 @@ pub enum Refusal {
     Other(u32),
 }
 
-const NAMED: [(u32, Refusal, &str); 9] = [
+const NAMED: [(u32, Refusal, &str); 11] = [
     (1, Refusal::BadPath, "bad path"),
     (2, Refusal::LongPath, "path of over 256 units"),
     (3, Refusal::BadSettings, "bad limit, size or bootstrap DC"),
@@ -34,6 +38,8 @@ const NAMED: [(u32, Refusal, &str); 9] = [
     (5, Refusal::OutOfForm, "the walk has ended, is out of form, or waits for another kind of answer"),
     (6, Refusal::TooManyNames, "more domains than the cache has places"),
     (7, Refusal::BadDomainReply, "domain reply malformed or empty"),
+    (8, Refusal::BadListing, "no listing, or its entries are not in order"),
+    (9, Refusal::TooManyEntries, "more entries than the cache has places"),
     (10, Refusal::ShortBuffer, "buffer too short"),
     (27, Refusal::Gone, "the entry in use is gone"),
 ];
@@ -70,4 +76,9 @@ pub(crate) fn taken(number: u32) -> Result<(), Refusal> {
 /// What a call that shows something gives back: the elements written, or 65,536 times a refusal.
 pub(crate) fn shown(number: u32) -> Result<usize, Refusal> {
     if number < 1 << 16 { Ok(number as usize) } else { Err(Refusal::of(number >> 16)) }
+}
+
+/// What listing gives back: the units written, or 2^32 times a refusal.
+pub(crate) fn listed(number: u64) -> Result<usize, Refusal> {
+    if number < 1 << 32 { Ok(number as usize) } else { Err(Refusal::of((number >> 32) as u32)) }
 }

@@ -42,11 +42,13 @@ fn functions(text: &str, before: &str, after: &str, parameter: impl Fn(&str) -> 
 
 #[test]
 fn declarations() {
-    let header = functions(&read("../../include/dfsc.h"), "uint32_t dfsc_", ";", from_c);
-    let declared = functions(&read("src/calls.rs"), "fn dfsc_", " -> u32;", str::to_string);
-    assert!(declared.len() >= 10, "{} functions are declared", declared.len());
-    for (name, parameters) in &declared {
-        assert_eq!(Some(parameters), header.get(name), "dfsc_{name}");
+    for (c, rust, least) in [("uint32_t dfsc_", " -> u32;", 11), ("uint64_t dfsc_", " -> u64;", 1)] {
+        let header = functions(&read("../../include/dfsc.h"), c, ";", from_c);
+        let declared = functions(&read("src/calls.rs"), "fn dfsc_", rust, str::to_string);
+        assert!(declared.len() >= least, "{} functions are declared", declared.len());
+        for (name, parameters) in &declared {
+            assert_eq!(Some(parameters), header.get(name), "dfsc_{name}");
+        }
     }
 }
 
@@ -67,6 +69,7 @@ fn numbers() {
     use dfsc::{Outcome, Refusal};
     let refusals = [("BAD_PATH", Refusal::BadPath), ("LONG_PATH", Refusal::LongPath), ("BAD_SETTINGS", Refusal::BadSettings), ("NOT_IN_ORDER", Refusal::NotInOrder),
         ("OUT_OF_FORM", Refusal::OutOfForm), ("TOO_MANY_NAMES", Refusal::TooManyNames), ("BAD_DOMAIN_REPLY", Refusal::BadDomainReply),
+        ("BAD_LISTING", Refusal::BadListing), ("TOO_MANY_ENTRIES", Refusal::TooManyEntries),
         ("SHORT_BUFFER", Refusal::ShortBuffer), ("END_GONE", Refusal::Gone)];
     for (name, refusal) in refusals {
         assert_eq!((refusal.number(), Refusal::of(number(name))), (number(name), refusal));

@@ -137,3 +137,19 @@ fn a_saved_walk_goes_on() {
     // the one that was copied still waits
     assert!(walk.question(&refs, &doms).is_ok());
 }
+
+#[test]
+fn a_cache_as_text() {
+    let (mut refs, _) = caches();
+    assert_eq!(refs.list(), Ok(vec![]));
+    let text = units("prefix=\\files\\s1\nkind=root\ninterlink=0\nfailback=1\nttl=300\ntaken=100\nhint=1\ntarget=\\nas1\\s1\ntarget=\\nas2\\s1\n");
+    assert_eq!(refs.read(&text), Ok(()));
+    assert_eq!(refs.list().as_ref(), Ok(&text));
+    let before = refs.clone();
+    assert_eq!(refs.read(&text[1..]), Err(Refusal::BadListing));
+    let other = units("prefix=\\files\\s2\nkind=link\ninterlink=0\nfailback=0\nttl=0\ntaken=0\nhint=0\ntarget=\\nas1\\s2\n");
+    let mut one = ReferralCache::new(1).unwrap();
+    assert_eq!(one.read(&[text.clone(), other].concat()), Err(Refusal::TooManyEntries));
+    assert_eq!(refs, before);
+    assert_eq!(ReferralCache::from_units(vec![1; dfsc::PLACE_UNITS]).list(), Err(Refusal::NotInOrder));
+}

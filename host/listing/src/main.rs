@@ -1,18 +1,12 @@
-//! Compares the proved listing with a plain one, and times it. Exits with 1 where the usual case takes 100 us or more.
-//! Usual: 32 entries of a prefix and four targets of 30 units each. Worst: 32 entries of nine texts of 256 units, all but the backslashes escaped.
+//! Compares the proved listing, and reading it back, with plain ones, and times both. Exits with 1 where the usual case takes 100 us or more to list, or
+//! 300 us or more to read. Usual: 32 entries of a prefix and four targets of 30 units each. Worst: 32 entries of nine texts of 256 units, all but the backslashes escaped.
+use dfsc::calls::{list, read};
 use std::hint::black_box;
 use std::time::Instant;
 
 const PLACE: usize = 2336;
-const REFUSED: usize = 4294967295;
-
-extern "C" {
-    fn list_units(referrals: *const u16, units: usize, out: *mut u16, room: usize) -> usize;
-}
-
-fn list(cache: &[u16], out: &mut [u16]) -> usize {
-    unsafe { list_units(cache.as_ptr(), cache.len(), out.as_mut_ptr(), out.len()) }
-}
+const NOT_IN_ORDER: u64 = 4 << 32;
+const TOO_SHORT: u64 = 10 << 32;
 
 /// Two components of one unit over and over, with a tag at the end.
 fn path(units: usize, unit: u16, tag: usize) -> Vec<u16> {
@@ -83,19 +77,70 @@ fn time(mut call: impl FnMut(), calls: u32) -> f64 {
         .fold(f64::MAX, f64::min)
 }
 
+/// What reading the listing of a cache leaves: no gaps, one set each.
+fn packed(cache: &[u16]) -> Vec<u16> {
+    let mut o: Vec<u16> = cache.chunks(PLACE).filter(|p| p[0] != 0).flatten().copied().collect();
+    o.resize(cache.len(), 0);
+    for p in o.chunks_mut(PLACE) {
+        p[11..19].fill(0);
+    }
+    o
+}
+
 fn compare(c: &[u16]) {
     let want = plain(c);
+    let units = want.len() as u64;
     let mut out = vec![7u16; want.len() + 3];
-    assert_eq!(list(c, &mut out), want.len());
+    assert_eq!(list(c, &mut out), units);
     assert!(out[..want.len()] == want[..], "another text");
     assert_eq!(out[want.len()..], [7, 7, 7]);
     let mut exact = vec![7u16; want.len()];
-    assert_eq!(list(c, &mut exact), want.len());
+    assert_eq!(list(c, &mut exact), units);
     if !want.is_empty() {
         let mut short = vec![7u16; want.len() - 1];
-        assert_eq!(list(c, &mut short), REFUSED);
+        assert_eq!(list(c, &mut short), TOO_SHORT);
         assert!(short.iter().all(|u| *u == 7));
     }
+    let mut back = vec![7u16; c.len()];
+    assert_eq!(read(&want, &mut back), 0);
+    assert!(back == packed(c), "another cache");
+    let full = c.chunks(PLACE).filter(|p| p[0] != 0).count();
+    if full > 1 {
+        let mut few = vec![7u16; (full - 1) * PLACE];
+        assert_eq!(read(&want, &mut few), 9);
+        assert!(few.iter().all(|u| *u == 7));
+        // what is wrong anywhere is 8 before 9
+        assert_eq!(read(&want[..want.len() - 1], &mut few), 8);
+        assert!(few.iter().all(|u| *u == 7));
+    }
+    let mut none = vec![7u16; PLACE + 1];
+    assert_eq!(read(&want, &mut none), 4);
+    assert!(none.iter().all(|u| *u == 7));
+}
+
+/// Each unit of a listing changed in turn: either it is refused and the cache stays, or the text is listed again as it is.
+fn changed(c: &[u16]) -> (usize, usize) {
+    let text = plain(c);
+    let (mut read_again, mut refused) = (0, 0);
+    let mut out = vec![0u16; text.len() + 8];
+    for i in 0..text.len() {
+        for u in [10, 48, 65, 92, 97, 126, 0x4e00] {
+            let mut other = text.clone();
+            other[i] = u;
+            let mut back = vec![7u16; c.len()];
+            let n = read(&other, &mut back);
+            if n == 0 {
+                assert_eq!(list(&back, &mut out), other.len() as u64);
+                assert!(out[..other.len()] == other[..], "another text");
+                read_again += 1;
+            } else {
+                assert_eq!(n, 8);
+                assert!(back.iter().all(|u| *u == 7));
+                refused += 1;
+            }
+        }
+    }
+    (read_again, refused)
 }
 
 fn main() {
@@ -111,15 +156,23 @@ fn main() {
     let mut bad = usual.clone();
     bad[10] = 4;
     let mut out = vec![7u16; 400_000];
-    assert_eq!(list(&bad, &mut out), REFUSED);
+    assert_eq!(list(&bad, &mut out), NOT_IN_ORDER);
     assert!(out.iter().all(|u| *u == 7));
-    println!("listings compared: 6");
+    println!("listings compared: 6, and read back: 5");
+    let (read_again, refused) = changed(&cache(12, 97, 2)[..2 * PLACE]);
+    println!("listings with one unit changed: {read_again} read, {refused} refused");
     let u = time(|| { black_box(list(black_box(&usual), black_box(&mut out))); }, 4);
     let w = time(|| { black_box(list(black_box(&worst), black_box(&mut out))); }, 1);
     println!("listing of 32 entries with four targets of 30 units: {u:.1} us");
     println!("listing of 32 entries with eight targets of 256 units, all escaped: {w:.1} us, {} units", plain(&worst).len());
-    if u >= 100.0 {
-        println!("100 us or more");
+    let (text, long) = (plain(&usual), plain(&worst));
+    let mut back = vec![0u16; usual.len()];
+    let r = time(|| { assert_eq!(read(black_box(&text), black_box(&mut back)), 0); }, 4);
+    let l = time(|| { assert_eq!(read(black_box(&long), black_box(&mut back)), 0); }, 1);
+    println!("reading 32 entries with four targets of 30 units: {r:.1} us");
+    println!("reading 32 entries with eight targets of 256 units, all escaped: {l:.1} us");
+    if u >= 100.0 || r >= 300.0 {
+        println!("100 us or more to list, or 300 us or more to read");
         std::process::exit(1);
     }
 }

@@ -42,3 +42,11 @@ pub fn domain_request(out: &mut [u8]) -> u32 {
 pub fn read_domains(reply: &[u8], size: u32, doms: &mut [u16]) -> u32 {
     measured("dfsc_read_domains", || calls::read_domains(reply, size, doms))
 }
+
+pub fn list(refs: &[u16], out: &mut [u16]) -> u64 {
+    measured("dfsc_list", || calls::list(refs, out))
+}
+
+pub fn read(text: &[u16], refs: &mut [u16]) -> u32 {
+    measured("dfsc_read", || calls::read(text, refs))
+}

@@ -35,7 +35,7 @@ fn depth(top: usize, from: usize) -> usize {
     from - at
 }
 
-pub fn measured(name: &'static str, call: impl FnOnce() -> u32) -> u32 {
+pub fn measured<T>(name: &'static str, call: impl FnOnce() -> T) -> T {
     let here = 0u64;
     let from = black_box(&here) as *const u64 as usize;
     let top = paint();

@@ -1,0 +1,51 @@
+use borrow.Author.Tests.{not-true, not-false}
+use Rattle.checking.proofs.ListingLaws.{check-unended, check-bad, check-equal, check-good}
+use borrow.Author.Needs.{needs}
+use Rattle.checking.proofs.check_text.Statement.{statement}
+use Rattle.checking.proofs.check_text.Tie as tie
+use Rattle.checking.proofs.check_text.Reads as reads
+use Rattle.checking.proofs.check_text.Lts as lts
+use Rattle.checking.proofs.count_entries.Reads as count-entries-reads
+use Rattle.checking.proofs.is_ended.Reads as is-ended-reads
+use Rattle.checking.proofs.prefixes_apart.Reads as prefixes-apart-reads
+
+is-ended-requires : tie.Need-is-ended-requires
+is-ended-requires c κs = search needs
+
+returns : tie.Need-returns
+returns c = check-unended _ (c .before .is-ended .ensures) (not-true _ (c .if1 .taken))
+
+count-entries-requires : tie.Need-count-entries-requires
+count-entries-requires c κs = search needs
+
+enum-known-n : tie.Need-enum-known-n
+enum-known-n c = search needs
+
+enum-told : tie.Need-enum-told
+enum-told c = search needs
+
+returns-2 : tie.Need-returns-2
+returns-2 c = check-bad _ (c .before .before .count-entries .ensures) (c .enum-told .given .1)
+
+prefixes-apart-requires : tie.Need-prefixes-apart-requires
+prefixes-apart-requires c κs = search needs
+
+returns-3 : tie.Need-returns-3
+returns-3 c = check-equal _ (c .before .prefixes-apart .ensures) (not-true _ (c .if2 .taken))
+
+returns-4 : tie.Need-returns-4
+returns-4 c = check-good _ (c .before .before .before .before .before .before .before .is-ended .ensures) (not-false _ (c .before .before .before .before .before .before .if1 .left)) (c .before .before .before .before .before .count-entries .ensures) (c .before .before .before .n .given .1) (c .before .prefixes-apart .ensures) (not-false _ (c .if2 .left))
+
+pub check-text-spec : {M : Type 1} → statement M
+check-text-spec =
+    tie.close
+    (tie.spec
+    is-ended-requires
+    returns
+    count-entries-requires
+    enum-known-n
+    enum-told
+    returns-2
+    prefixes-apart-requires
+    returns-3
+    returns-4)

@@ -1,0 +1,3 @@
+-- Document 01, "The listing": whether a text is one.
+pub mod Checked
+pub mod Tests

@@ -1,0 +1,2 @@
+-- Reading a listing into a cache.
+pub mod Filling

@@ -1,0 +1,140 @@
+// A listing read into the places of a referral cache: document 01, "The listing". What is read here has been tested; nothing is tested again.
+ghost use mathlib.Core.Path.{_≡_};
+ghost use mathlib.Core.Bool.{true};
+ghost use mathlib.Core.List.{[]};
+ghost use Prim.Native.Nat.{_+_, _-_, _/_, _≤_, _<_};
+ghost use lib.ListN.{length, take, drop};
+ghost use Rattle.places.specs.Layout.{placeCount, changed};
+ghost use Rattle.caches.specs.Memory.{referrals, referralUnits, rightSize, encode};
+ghost use Rattle.listing.specs.Form.{targetLines, entryLines};
+ghost use Rattle.unspelling.specs.Reading.{unspelled, isSpelled};
+ghost use Rattle.entries.specs.Writing.{addText, addTarget, addAll};
+ghost use Rattle.reading.specs.Entries.{entriesSaid};
+ghost use Rattle.reading.specs.Read.{isListing, placed};
+ghost use Rattle.filling.specs.Filling.{saidAt, LinesAt, NumberAt, NumberRead, PathAt, PathRead, TargetRead, SettingsRead, TargetsRead, EntryRead};
+use places::PLACE;
+use unspelling::Number;
+
+const HEAD: usize = 32;
+
+const ROOM: usize = 256;
+
+// The units of "prefix=" and of "target=".
+const PATH_KEY: usize = 7;
+
+// A number that a line says, and where the next line begins.
+struct Read {
+    value: u32,
+    next: usize,
+}
+
+// The number in the line at `at`, after a key of so many units.
+fn number_at(text: &[u16], at: usize, key: usize) -> Read
+    requires { ⌜ NumberAt key (drop at (now text)) ⌝ }
+    ensures { λ r. ⌜ NumberRead key at (now (text .entry)) r ⌝ }
+{
+    let end = lines::line_end(text, at);
+    let from = at + key;
+    let Number::Value(value) = unspelling::decimal_form(&text[from..end]) else {
+        return Read {
+            value: 0,
+            next: end + 1,
+        };
+    };
+    Read {
+        value,
+        next: end + 1,
+    }
+}
+
+// Text j of place i, as the last text of the place, from the spelling between `from` and `end`.
+fn put_value(text: &[u16], from: usize, end: usize, refs: &mut [u16], i: usize, j: usize)
+    requires { ⌜ (i < length (now refs) / 2336) × ((j < 9) × ((from ≤ end) × ((end ≤ length (now text)) × ((isSpelled (take (end - from) (drop from (now text))) ≡ true) × (length (unspelled (take (end - from) (drop from (now text)))) ≤ 256))))) ⌝ }
+    ensures { λ r. ⌜ now (refs .exit) ≡ changed i (addText j (unspelled (take (end - from) (drop from (now (text .entry)))))) (now (refs .entry)) ⌝ }
+{
+    let at = i * PLACE;
+    let start = at + HEAD + j * ROOM;
+    let stop = unspelling::unspell(&text[from..end], refs, start);
+    rooms::clear_units(refs, stop, start + ROOM - stop);
+    rooms::put_unit(refs, at + j, (stop - start) as u16);
+    places::put_unit(refs, i, 9, j as u16);
+}
+
+// Text j of place i from the line of a prefix or a target at `at`; answers where the next line begins.
+fn put_path(text: &[u16], at: usize, refs: &mut [u16], i: usize, j: usize) -> usize
+    requires { ⌜ (i < length (now refs) / 2336) × ((j < 9) × PathAt (drop at (now text))) ⌝ }
+    ensures { λ r. ⌜ PathRead at (now (text .entry)) i j (now (refs .entry)) (now (refs .exit)) r ⌝ }
+{
+    let end = lines::line_end(text, at);
+    put_value(text, at + PATH_KEY, end, refs, i, j);
+    end + 1
+}
+
+// Target n of place i, which opens no set, from the line at `at`.
+fn put_target(text: &[u16], at: usize, refs: &mut [u16], i: usize, n: usize) -> usize
+    requires { ⌜ (i < length (now refs) / 2336) × ((n < 8) × PathAt (drop at (now text))) ⌝ }
+    ensures { λ r. ⌜ TargetRead at (now (text .entry)) i n (now (refs .entry)) (now (refs .exit)) r ⌝ }
+{
+    let next = put_path(text, at, refs, i, 1 + n);
+    places::put_unit(refs, i, 11 + n, 0);
+    next
+}
+
+// The targets of entry i into its place: of the lines that may stand here only those of targets begin with "t".
+fn put_targets(text: &[u16], at: usize, refs: &mut [u16], i: usize) -> usize
+    requires { ⌜ (i < length (now refs) / 2336) × LinesAt (now text) i at (targetLines (saidAt (now text) i .targets)) ⌝ }
+    ensures { λ r. ⌜ TargetsRead (now (text .entry)) i (now (refs .entry)) (now (refs .exit)) r ⌝ }
+{
+    let mut end = at;
+    let mut n = 0;
+    while end < text.len() {
+        if text[end] != 116 {
+            return end;
+        }
+        end = put_target(text, end, refs, i, n);
+        n += 1;
+    }
+    end
+}
+
+// The lines of entry i between its prefix and its targets. Those of kind, interlink and failback have 10, 12 and 11 units whatever they say.
+fn put_settings(text: &[u16], at: usize, refs: &mut [u16], i: usize) -> usize
+    requires { ⌜ (i < length (now refs) / 2336) × LinesAt (now text) i at (drop 1 (entryLines (saidAt (now text) i))) ⌝ }
+    ensures { λ r. ⌜ SettingsRead (now (text .entry)) i (now (refs .entry)) (now (refs .exit)) r ⌝ }
+{
+    let root = text[at + 5] == 114;
+    let interlink = text[at + 20] == 49;
+    let failback = text[at + 31] == 49;
+    let ttl = number_at(text, at + 33, 4);
+    let taken = number_at(text, ttl.next, 6);
+    let hint = number_at(text, taken.next, 5);
+    entries::put_settings(refs, i, root, interlink, failback, ttl.value, taken.value);
+    places::put_unit(refs, i, 10, hint.value as u16);
+    hint.next
+}
+
+// Entry i of the text, which begins at `at`, into place i; answers where the next entry begins.
+fn put_entry(text: &[u16], at: usize, refs: &mut [u16], i: usize) -> usize
+    requires { ⌜ (i < length (now refs) / 2336) × LinesAt (now text) i at (entryLines (saidAt (now text) i)) ⌝ }
+    ensures { λ r. ⌜ EntryRead (now (text .entry)) i (now (refs .entry)) (now (refs .exit)) r ⌝ }
+{
+    places::clear_place(refs, i);
+    let settings = put_path(text, at, refs, i, 0);
+    let targets = put_settings(text, settings, refs, i);
+    put_targets(text, targets, refs, i)
+}
+
+// The entries of a listing into the first places of a cache; every other place becomes free.
+pub fn fill(text: &[u16], refs: &mut [u16])
+    requires { ⌜ (rightSize (now refs) ≡ true) × ((isListing (now text) ≡ true) × (length (entriesSaid (now text)) ≤ placeCount (now refs))) ⌝ }
+    ensures { λ r. ⌜ now (refs .exit) ≡ encode referrals (placed (placeCount (now (refs .entry))) (entriesSaid (now (text .entry)))) ⌝ }
+{
+    let mut at = 0;
+    let mut i = 0;
+    while at < text.len() {
+        at = put_entry(text, at, refs, i);
+        i += 1;
+    }
+    let held = i * PLACE;
+    rooms::clear_units(refs, held, refs.len() - held);
+}

@@ -1,2 +1,0 @@
--- Laws of what is handed on.
-pub mod ShownLaws

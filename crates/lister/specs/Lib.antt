@@ -1,2 +1,0 @@
--- What is handed on.
-pub mod Shown

@@ -1,0 +1,2 @@
+-- Laws of reading a listing.
+pub mod ReadLaws

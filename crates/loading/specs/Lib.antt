@@ -1,0 +1,2 @@
+-- What reading a listing answers.
+pub mod Loaded

@@ -197,7 +197,7 @@ module _ (refs doms : List ℕ) (clock left : ℕ) (path : List ℕ) (size i : �
   held-dcs : decode domains m ≡ dcsStored i (map (spanned reply) (take (f .count) (f .kept))) (decode domains doms)
   held-dcs = ap (decode domains) e ∙ dcs-held doms i at reply f s
 
-  pub saved-inside : i < length m / 2336
+  saved-inside : i < length m / 2336
   unfolding dcsStored
   saved-inside =
       omega (
@@ -212,23 +212,39 @@ module _ (refs doms : List ℕ) (clock left : ℕ) (path : List ℕ) (size i : �
     pub saved-rest : joined r rooms ≡ packed (dcsRest left path size (dcsStored i (map (spanned reply) (take (f .count) (f .kept))) (decode domains doms)))
     saved-rest = dcs-rest refs doms clock left path size (dcsStored i (map (spanned reply) (take (f .count) (f .kept))) (decode domains doms)) m held-dcs h
 
-    pub saved-path : r .path ≤ 256
-    saved-path = rest-path _ r rooms saved-rest left (coreOf path size true) (dcs-kept refs doms clock left path size (dcsStored i (map (spanned reply) (take (f .count) (f .kept))) (decode domains doms)) short)
-
-    module _ (room : ℕ) {b : Bool} (g : b ≡ nameFits room (named (nextUnits (r .next) (take (r .path) rooms)) (take (r .path) rooms))) where
-      pub saved-fit : b ≡ true → m ≡ dcsLeft room left path size (dcsStored i (map (spanned reply) (take (f .count) (f .kept))) (decode domains doms)) doms
-      saved-fit t = dcs-fit refs doms clock left path size _ room (rest-tested _ r rooms saved-rest room g) t e
-
-      pub saved-back : b ≡ false → {p o : List ℕ} → p ≡ placeAt i doms → o ≡ changed i (λ q. p) m
-          → o ≡ dcsLeft room left path size (dcsStored i (map (spanned reply) (take (f .count) (f .kept))) (decode domains doms)) doms
-      unfolding dcsStored
-      saved-back t a c =
-          dcs-back refs doms clock left path size _ room (rest-tested _ r rooms saved-rest room g) t
-          (put-again domains domains-lawful doms m i (withDcs (map (spanned reply) (take (f .count) (f .kept))) (getD (decode domains doms) i free)) (at .order) (at .fits)
-          (ap (inOrder domains) e ∙ dcs-in-order doms i at reply f s) held-dcs a c)
-
     pub stored-fit : (room : ℕ) → 516 ≤ room → m ≡ dcsLeft room left path size (dcsStored i (map (spanned reply) (take (f .count) (f .kept))) (decode domains doms)) doms
     stored-fit room l =
         dcs-fit refs doms clock left path size _ room
         (sym (always-fits room (dcsRest left path size (dcsStored i (map (spanned reply) (take (f .count) (f .kept))) (decode domains doms))) l
         (dcs-kept refs doms clock left path size (dcsStored i (map (spanned reply) (take (f .count) (f .kept))) (decode domains doms)) short .path-kept))) refl e
+
+-- stored with room for every request, and tested by a shorter buffer
+module _ (refs doms : List ℕ) (clock left : ℕ) (path : List ℕ) (size i : ℕ) (at : DomainAt i doms) (reply : List ℕ) (f : DcsFound) (s : StorableDcs reply f) (short : length path ≤ 256)
+    {m : List ℕ} (v : m ≡ dcsLeft 516 left path size (dcsStored i (map (spanned reply) (take (f .count) (f .kept))) (decode domains doms)) doms)
+    (rooms : List ℕ) (r : Rested) (h : joined r rooms ≡ packed (dcsRest left path size (dcsStored i (map (spanned reply) (take (f .count) (f .kept))) (decode domains doms)))) where
+  all-stored : m ≡ encode domains (dcsStored i (map (spanned reply) (take (f .count) (f .kept))) (decode domains doms))
+  unfolding dcsLeft
+  all-stored =
+      v
+      ∙ choose-yes _ _
+      (always-fits 516 (dcsRest left path size (dcsStored i (map (spanned reply) (take (f .count) (f .kept))) (decode domains doms))) (omega arith)
+      (dcs-kept refs doms clock left path size (dcsStored i (map (spanned reply) (take (f .count) (f .kept))) (decode domains doms)) short .path-kept))
+
+  pub tested-inside : i < length m / 2336
+  tested-inside = saved-inside refs doms clock left path size i at reply f s short all-stored
+
+  pub tested-path : r .path ≤ 256
+  tested-path = rest-path _ r rooms h left (coreOf path size true) (dcs-kept refs doms clock left path size (dcsStored i (map (spanned reply) (take (f .count) (f .kept))) (decode domains doms)) short)
+
+  module _ (room : ℕ) {b : Bool} (g : b ≡ nameFits room (named (nextUnits (r .next) (take (r .path) rooms)) (take (r .path) rooms))) where
+    pub tested-fit : b ≡ true → m ≡ dcsLeft room left path size (dcsStored i (map (spanned reply) (take (f .count) (f .kept))) (decode domains doms)) doms
+    tested-fit t = dcs-fit refs doms clock left path size _ room (rest-tested _ r rooms h room g) t all-stored
+
+    pub tested-back : b ≡ false → {p o : List ℕ} → p ≡ placeAt i doms → o ≡ changed i (λ q. p) m
+        → o ≡ dcsLeft room left path size (dcsStored i (map (spanned reply) (take (f .count) (f .kept))) (decode domains doms)) doms
+    unfolding dcsStored
+    tested-back t a c =
+        dcs-back refs doms clock left path size _ room (rest-tested _ r rooms h room g) t
+        (put-again domains domains-lawful doms m i (withDcs (map (spanned reply) (take (f .count) (f .kept))) (getD (decode domains doms) i free)) (at .order) (at .fits)
+        (ap (inOrder domains) all-stored ∙ dcs-in-order doms i at reply f s)
+        (ap (decode domains) all-stored ∙ dcs-held doms i at reply f s) a c)

@@ -38,46 +38,7 @@ pub fn rest_fits(r: Rested, rooms: &[u16], room: usize) -> bool
     questions::fits(next, &rooms[..n], room)
 }
 
-// DCs into the entry at place i, and on with step 5.2; the place is saved, to be put back.
-fn dcs_saved(
-    refs: &[u16],
-    doms: &mut [u16],
-    rooms: &mut [u16],
-    len: usize,
-    left: u16,
-    size: u32,
-    clock: u32,
-    i: usize,
-    reply: &[u8],
-    found: DcsFound,
-    room: usize,
-) -> Rested
-    requires { ⌜ Ready (now refs) (now rooms) len × (DomainAt i (now doms) × StorableDcs (now reply) found) ⌝ }
-    ensures rest { λ r. ⌜ joined r (now (rooms .exit)) ≡ packed (dcsRest left (take len (now (rooms .entry))) size (dcsStored i (map (spanned (now (reply .entry))) (take (found .count) (found .kept))) (decode domains (now (doms .entry))))) ⌝ }
-    ensures cache { λ r. ⌜ now (doms .exit) ≡ dcsLeft room left (take len (now (rooms .entry))) size (dcsStored i (map (spanned (now (reply .entry))) (take (found .count) (found .kept))) (decode domains (now (doms .entry)))) (now (doms .entry)) ⌝ }
-{
-    let mut saved = [0; 2336];
-    places::save_place(doms, i, &mut saved);
-    domains::store_dcs(doms, i, reply, found);
-    let r = moves::domain(
-        refs,
-        doms,
-        rooms,
-        len,
-        left,
-        true,
-        size,
-        clock,
-        Found::Nothing,
-    );
-    if rest_fits(r, rooms, room) {
-        return r;
-    }
-    places::put_place(doms, i, &saved);
-    r
-}
-
-// The same where every request fits.
+// DCs into the entry at place i, and on with step 5.2, where every request fits.
 fn dcs_stored(
     refs: &[u16],
     doms: &mut [u16],
@@ -96,7 +57,7 @@ fn dcs_stored(
     ensures cache { λ r. ⌜ now (doms .exit) ≡ dcsLeft room left (take len (now (rooms .entry))) size (dcsStored i (map (spanned (now (reply .entry))) (take (found .count) (found .kept))) (decode domains (now (doms .entry)))) (now (doms .entry)) ⌝ }
 {
     domains::store_dcs(doms, i, reply, found);
-    moves::domain(
+    moves::from_domain(
         refs,
         doms,
         rooms,
@@ -109,6 +70,8 @@ fn dcs_stored(
     )
 }
 
+// The same with any buffer: with a shorter one the place is saved, all is done as with room for every request, and the place put back
+// where the request does not fit. It calls itself, so its frame, with the saved place, stands only while DCs are stored.
 fn dcs_put(
     refs: &[u16],
     doms: &mut [u16],
@@ -126,8 +89,8 @@ fn dcs_put(
     ensures rest { λ r. ⌜ joined r (now (rooms .exit)) ≡ packed (dcsRest left (take len (now (rooms .entry))) size (dcsStored i (map (spanned (now (reply .entry))) (take (found .count) (found .kept))) (decode domains (now (doms .entry))))) ⌝ }
     ensures cache { λ r. ⌜ now (doms .exit) ≡ dcsLeft room left (take len (now (rooms .entry))) size (dcsStored i (map (spanned (now (reply .entry))) (take (found .count) (found .kept))) (decode domains (now (doms .entry)))) (now (doms .entry)) ⌝ }
 {
-    if room < LONGEST {
-        return dcs_saved(
+    if LONGEST <= room {
+        return dcs_stored(
             refs,
             doms,
             rooms,
@@ -141,7 +104,9 @@ fn dcs_put(
             room,
         );
     }
-    dcs_stored(
+    let mut saved = [0; 2336];
+    places::save_place(doms, i, &mut saved);
+    let r = dcs_put(
         refs,
         doms,
         rooms,
@@ -152,8 +117,13 @@ fn dcs_put(
         i,
         reply,
         found,
-        room,
-    )
+        LONGEST,
+    );
+    if rest_fits(r, rooms, room) {
+        return r;
+    }
+    places::put_place(doms, i, &saved);
+    r
 }
 
 // The answer to a DC request: the reply's DCs into the entry at place i, that of the path's first component.

@@ -1,3 +1,4 @@
 -- Laws.
 pub mod MatchedLaws
 pub mod MoveLaws
+pub mod PointLaws

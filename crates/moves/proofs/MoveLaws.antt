@@ -33,7 +33,7 @@ use Rattle.caches.specs.Memory.{referrals, domains, decode, inOrder}
 use Rattle.lookup.specs.Lookup.{entryAt, targetPath}
 use Rattle.lookup.specs.declared.Found.{Found}
 use Rattle.lookup.specs.declared.Found.the-variants.{At, Nothing}
-use Rattle.steps.specs.Steps.{Caches, Core, Question, asks, replaces, Rest, Resting, waits, ended, rests, asking, goes, hitAt, withHit, withPath, step2, step3, step4, step5, step5With, step5Domain, step6, step6Host, step10, dcRequest, domainNamed, step7, step8, step11, linkRequest}
+use Rattle.steps.specs.Steps.{Caches, Core, Question, stops, asks, replaces, Rest, Resting, waits, ended, rests, asking, goes, hitAt, withHit, withPath, step2, step3, step4, step5, step5With, step5Domain, step6, step6Host, step10, dcRequest, domainNamed, step7, step8, step11, linkRequest}
 use Rattle.steps.specs.Rested.{cachesOf, coreOf, askingOf, nextOf, triedOf, restedOf, endedAt, turning, step2In}
 use Rattle.steps.specs.declared.Kind.the-variants.{Io}
 use Rattle.steps.specs.declared.End.{End}
@@ -45,7 +45,7 @@ use Rattle.steps.specs.declared.Matched.{Matched}
 use Rattle.steps.specs.declared.Matched.the-variants.{Fresh, Refresh, Stale, Missed}
 use Rattle.steps.proofs.StepLaws.{domain-untried}
 use Rattle.moves.specs.Moves.{Packed, joined, packed, stepsFrom, calledAt, movedTo, Ready, Usable}
-use Rattle.moves.proofs.MatchedLaws.{calledBy, hitBy, step2-called, step2-hit}
+use Rattle.moves.proofs.MatchedLaws.{requestAt, calledBy, hitBy, step2-called, step2-hit}
 
 -- a question put: no move is left, its path tried is too long, or it waits
 module _ (w : Core) (q : Question) where
@@ -244,6 +244,11 @@ unfolding goes
 goes-asks zero c clock w q = refl
 goes-asks (suc n) c clock w q = refl
 
+pub goes-stops : (n : ℕ) (c : Caches) (clock : ℕ) (w : Core) (e : End) (status : ℕ) (tried : List ℕ) → goes n c clock w (stops e status tried) ≡ rests w n (ended e status tried)
+unfolding goes
+goes-stops zero c clock w e status tried = refl
+goes-stops (suc n) c clock w e status tried = refl
+
 host-untried : (w : Core) → step5With w none .tried ≡ []
 unfolding step5With step6Host
 host-untried w = refl
@@ -253,7 +258,7 @@ unfolding step5With
 with-untried w d = domain-untried w d
 
 -- step 5 puts a question without a path tried, whatever the hit
-step5-untried : (raw : List ℕ) (w : Core) → step5 (decode domains raw) w .tried ≡ []
+pub step5-untried : (raw : List ℕ) (w : Core) → step5 (decode domains raw) w .tried ≡ []
 unfolding step5
 step5-untried raw w = go (domainNamed (getD (components (w .path)) 0 []) (decode domains raw))
   where
@@ -298,23 +303,23 @@ module _ (w : Core) (e : Referral) where
       go (inr t) (inl u) = absurd (not-both (and-both (ap not t) u) h)
       go (inr t) (inr u) = choose-no _ _ t ∙ choose-no _ _ u
 
-step7-hit : (p : List ℕ) (s : ℕ) (h g : Bool) (e : Referral) → step7 (coreOf p s h) e ≡ step7 (coreOf p s g) e
+pub step7-hit : (p : List ℕ) (s : ℕ) (h g : Bool) (e : Referral) → step7 (coreOf p s h) e ≡ step7 (coreOf p s g) e
 unfolding step7 step4 step3 step8 step11
 step7-hit p s h g e = refl
 
 -- a replacement
 module _ (c : Caches) (clock : ℕ) (w : Core) (p : List ℕ) where
-  replaces-limit : (left : ℕ) → left ≡ 0 → goes left c clock w (replaces p) ≡ rests w left (ended LimitReached 0 [])
+  pub replaces-limit : (left : ℕ) → left ≡ 0 → goes left c clock w (replaces p) ≡ rests w left (ended LimitReached 0 [])
   unfolding goes
   replaces-limit zero h = refl
   replaces-limit (suc n) h = absurd (omega arith)
 
-  replaces-long : (left : ℕ) → (left ≡ 0 → ⊥) → 256 < length p → goes left c clock w (replaces p) ≡ rests w left (ended ends.TooLong 0 [])
+  pub replaces-long : (left : ℕ) → (left ≡ 0 → ⊥) → 256 < length p → goes left c clock w (replaces p) ≡ rests w left (ended ends.TooLong 0 [])
   unfolding goes
   replaces-long zero h u = absurd (h refl)
   replaces-long (suc n) h u = choose-no _ _ (lt-leb (length p) pathUnits u)
 
-  replaces-made : (left : ℕ) → (left ≡ 0 → ⊥) → length p ≤ 256
+  pub replaces-made : (left : ℕ) → (left ≡ 0 → ⊥) → length p ≤ 256
       → goes left c clock w (replaces p) ≡ goes (left - 1) c clock (withHit (hitAt c (withPath p w)) (withPath p w)) (step2 c (withPath p w) clock)
   unfolding goes
   replaces-made zero h u = absurd (h refl)
@@ -375,23 +380,31 @@ module _ (refs doms texts : List ℕ) (len left size clock : ℕ) where
   domain-linked hit stored i t n h =
       h ∙ (λ k. stepsFrom left refs doms clock (coreOf (take len texts) size (sym t k)) (calledAt refs doms (coreOf (take len texts) size (sym t k)) (sym n k)))
 
-  -- link: to step 11, or to step 3
-  module _ (i : ℕ) {x : Packed} {b : Bool} (t : b ≡ turning (take len texts) (entryAt referrals i refs)) where
-    pub link-turned : b ≡ true
-        → x ≡ stepsFrom left refs doms clock (coreOf (take len texts) size true) (replaces (step11 (coreOf (take len texts) size true) (entryAt referrals i refs)))
-        → x ≡ stepsFrom left refs doms clock (coreOf (take len texts) size true) (step7 (coreOf (take len texts) size true) (entryAt referrals i refs))
-    link-turned u h =
-        h ∙ ap (stepsFrom left refs doms clock (coreOf (take len texts) size true)) (sym (turns-to (coreOf (take len texts) size true) (entryAt referrals i refs) (sym t ∙ u)))
+  -- step 3
+  pub tried-steps : (i : ℕ) {x : Packed}
+      → x ≡ packed (asking left (coreOf (take len texts) 0 true) (step8 (coreOf (take len texts) 0 true) (entryAt referrals i refs) (entryAt referrals i refs .hint) (entryAt referrals i refs .hint)))
+      → x ≡ stepsFrom left refs doms clock (coreOf (take len texts) size true) (asks (step3 (coreOf (take len texts) size true) (entryAt referrals i refs)))
+  unfolding stepsFrom step3
+  tried-steps i h =
+      h
+      ∙ (tried-size left (take len texts) 0 size true (entryAt referrals i refs) (entryAt referrals i refs .hint) (entryAt referrals i refs .hint)
+      ∙ ap packed (sym (goes-asks left (cachesOf refs doms) clock (coreOf (take len texts) size true) (step3 (coreOf (take len texts) size true) (entryAt referrals i refs)))))
 
-    pub link-tried : b ≡ false
-        → x ≡ packed (asking left (coreOf (take len texts) 0 true) (step8 (coreOf (take len texts) 0 true) (entryAt referrals i refs) (entryAt referrals i refs .hint) (entryAt referrals i refs .hint)))
-        → x ≡ stepsFrom left refs doms clock (coreOf (take len texts) size true) (step7 (coreOf (take len texts) size true) (entryAt referrals i refs))
-    unfolding stepsFrom step3
-    link-tried u h =
-        h
-        ∙ (tried-size left (take len texts) 0 size true (entryAt referrals i refs) (entryAt referrals i refs .hint) (entryAt referrals i refs .hint)
-        ∙ (ap packed (sym (goes-asks left (cachesOf refs doms) clock (coreOf (take len texts) size true) (step3 (coreOf (take len texts) size true) (entryAt referrals i refs))))
-        ∙ ap (stepsFrom left refs doms clock (coreOf (take len texts) size true)) (sym (tries-at (coreOf (take len texts) size true) (entryAt referrals i refs) (sym t ∙ u)))))
+  -- step 9
+  pub link-steps : (i : ℕ) {r : Rested} → Standing len texts
+      → r ≡ restedOf (asking left (coreOf (take len texts) size true) (linkRequest (coreOf (take len texts) size true) (length (entryAt referrals i refs .prefix)) (entryAt referrals i refs .hint) (entryAt referrals i refs .hint) false))
+      → joined r texts ≡ stepsFrom left refs doms clock (coreOf (take len texts) size true) (requestAt (coreOf (take len texts) size true) refs i)
+  unfolding linkRequest stepsFrom
+  link-steps i s f =
+      packed-asked len texts s left size true (linkRequest (coreOf (take len texts) size true) (length (entryAt referrals i refs .prefix)) (entryAt referrals i refs .hint) (entryAt referrals i refs .hint) false) refl f
+      ∙ ap packed (sym (goes-asks left (cachesOf refs doms) clock (coreOf (take len texts) size true) (linkRequest (coreOf (take len texts) size true) (length (entryAt referrals i refs .prefix)) (entryAt referrals i refs .hint) (entryAt referrals i refs .hint) false)))
+
+  -- an end
+  pub end-steps : (e : End) {r : Rested} → Standing len texts → r ≡ endedAt e 0 len left true
+      → joined r texts ≡ stepsFrom left refs doms clock (coreOf (take len texts) size true) (stops e 0 [])
+  unfolding stepsFrom
+  end-steps e s f =
+      packed-end len texts s e 0 left size true f ∙ ap packed (sym (goes-stops left (cachesOf refs doms) clock (coreOf (take len texts) size true) e 0 []))
 
   -- lookup, by what step 2 finds
   module _ (hit : Bool) (order : inOrder referrals refs ≡ true) {m : Matched} (e : m ≡ step2In clock (take len texts) refs) where
@@ -419,14 +432,11 @@ module _ (refs doms texts : List ℕ) (len left size clock : ℕ) where
         ∙ (ap (stepsFrom left refs doms clock (coreOf (take len texts) size true)) (step7-hit (take len texts) size true hit (entryAt referrals i refs))
         ∙ by (Fresh i) h)
 
-    pub lookup-refresh : (i : ℕ) {r : Rested} → Standing len texts → m ≡ Refresh i
-        → r ≡ restedOf (asking left (coreOf (take len texts) size true) (linkRequest (coreOf (take len texts) size true) (length (entryAt referrals i refs .prefix)) (entryAt referrals i refs .hint) (entryAt referrals i refs .hint) false))
-        → joined r texts ≡ stepsFrom left refs doms clock (withHit (hitAt (cachesOf refs doms) (coreOf (take len texts) size hit)) (coreOf (take len texts) size hit)) (step2 (cachesOf refs doms) (coreOf (take len texts) size hit) clock)
-    unfolding withHit calledBy hitBy linkRequest stepsFrom
-    lookup-refresh i s h f =
-        packed-asked len texts s left size true (linkRequest (coreOf (take len texts) size true) (length (entryAt referrals i refs .prefix)) (entryAt referrals i refs .hint) (entryAt referrals i refs .hint) false) refl f
-        ∙ (ap packed (sym (goes-asks left (cachesOf refs doms) clock (coreOf (take len texts) size true) (linkRequest (coreOf (take len texts) size true) (length (entryAt referrals i refs .prefix)) (entryAt referrals i refs .hint) (entryAt referrals i refs .hint) false)))
-        ∙ by (Refresh i) h)
+    pub lookup-refresh : (i : ℕ) {x : Packed} → m ≡ Refresh i
+        → x ≡ stepsFrom left refs doms clock (coreOf (take len texts) size true) (requestAt (coreOf (take len texts) size true) refs i)
+        → x ≡ stepsFrom left refs doms clock (withHit (hitAt (cachesOf refs doms) (coreOf (take len texts) size hit)) (coreOf (take len texts) size hit)) (step2 (cachesOf refs doms) (coreOf (take len texts) size hit) clock)
+    unfolding withHit calledBy hitBy linkRequest
+    lookup-refresh i h f = f ∙ by (Refresh i) h
 
     pub lookup-stale : {x : Packed} → m ≡ Stale
         → x ≡ stepsFrom left refs doms clock (coreOf (take len texts) size true) (calledAt refs doms (coreOf (take len texts) size true) Nothing)
@@ -449,43 +459,3 @@ module _ (refs doms texts : List ℕ) (len left size clock : ℕ) where
         → joined r texts ≡ stepsFrom left refs doms clock (coreOf (take len texts) size true) (replaces (step11 (coreOf (take len texts) size true) (entryAt referrals i refs)))
     unfolding stepsFrom
     inter-limit h f = packed-end len texts s LimitReached 0 left size true f ∙ ap packed (sym (replaces-limit _ clock _ _ left h))
-
-    module _ (some : left ≡ 0 → ⊥) {g : Written} (f : g ≡ written 256 (step11 (coreOf (take len texts) 0 true) (entryAt referrals i refs))) {o : List ℕ}
-        (v : o ≡ movedTo (step11 (coreOf (take len texts) 0 true) (entryAt referrals i refs)) texts) where
-      pub inter-long : {r : Rested} → g ≡ TooLong → r ≡ endedAt ends.TooLong 0 len left true
-          → joined r o ≡ stepsFrom left refs doms clock (coreOf (take len texts) size true) (replaces (step11 (coreOf (take len texts) size true) (entryAt referrals i refs)))
-      unfolding stepsFrom step11 movedTo
-      inter-long {r} h k =
-          let x : 256 < length (step11 (coreOf (take len texts) 0 true) (entryAt referrals i refs)) = written-long 256 _ (sym f ∙ h) in
-          ap (λ (l : List ℕ). joined r l) (v ∙ choose-no _ _ (lt-leb _ _ x))
-          ∙ (packed-end len texts s ends.TooLong 0 left size true k ∙ ap packed (sym (replaces-long _ clock _ _ left some x)))
-
-      module _ (n : ℕ) (h : g ≡ Units n) where
-        fit : (n ≡ length (step11 (coreOf (take len texts) 0 true) (entryAt referrals i refs))) × (length (step11 (coreOf (take len texts) 0 true) (entryAt referrals i refs)) ≤ 256)
-        fit = written-units 256 (step11 (coreOf (take len texts) 0 true) (entryAt referrals i refs)) n (sym f ∙ h)
-
-        pub moved-rooms : o ≡ textsOf (step11 (coreOf (take len texts) 0 true) (entryAt referrals i refs)) []
-        unfolding movedTo
-        moved-rooms = v ∙ choose-yes _ _ (le-leb _ _ (fit .1))
-
-        pub moved-path : take n o ≡ step11 (coreOf (take len texts) 0 true) (entryAt referrals i refs)
-        moved-path = (λ k. take (fit .0 k) (moved-rooms k)) ∙ path-in (step11 (coreOf (take len texts) 0 true) (entryAt referrals i refs)) []
-
-        pub inter-moved : {x : Packed}
-            → x ≡ stepsFrom (left - 1) refs doms clock (withHit (hitAt (cachesOf refs doms) (coreOf (take n o) size true)) (coreOf (take n o) size true)) (step2 (cachesOf refs doms) (coreOf (take n o) size true) clock)
-            → x ≡ stepsFrom left refs doms clock (coreOf (take len texts) size true) (replaces (step11 (coreOf (take len texts) size true) (entryAt referrals i refs)))
-        unfolding stepsFrom step11 withPath
-        inter-moved k =
-            k
-            ∙ ((λ j. stepsFrom (left - 1) refs doms clock (withHit (hitAt (cachesOf refs doms) (coreOf (moved-path j) size true)) (coreOf (moved-path j) size true)) (step2 (cachesOf refs doms) (coreOf (moved-path j) size true) clock))
-            ∙ ap packed (sym (replaces-made (cachesOf refs doms) clock (coreOf (take len texts) size true) (step11 (coreOf (take len texts) size true) (entryAt referrals i refs)) left some (fit .1))))
-
-        pub inter-ready : inOrder referrals refs ≡ true → goodPrefix (take len texts) ≡ true → Usable refs (take len texts) i → Ready refs o n
-        inter-ready order good u = record {
-          order = order;
-          standing =
-              subst (λ (l : List ℕ). Standing n l) (sym moved-rooms)
-              (subst (λ (k : ℕ). Standing k (textsOf (step11 (coreOf (take len texts) 0 true) (entryAt referrals i refs)) [])) (sym (fit .0))
-              (taken-stands (step11 (coreOf (take len texts) 0 true) (entryAt referrals i refs)) (fit .1)));
-          good = ap goodPrefix moved-path ∙ new-good (take len texts) (entryAt referrals i refs) good (u .good) (u .matched) (fit .1);
-        }

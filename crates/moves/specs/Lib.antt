@@ -1,2 +1,3 @@
 -- The cycle of steps.
 pub mod Moves
+pub mod Points

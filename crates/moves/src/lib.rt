@@ -1,16 +1,19 @@
-// The steps that call each other: lookup, domain, link and interlink. Moves left and step rank fall.
+// The steps that call each other: lookup, domain, link and interlink. Moves left and step rank fall. They hand on a point of the steps as
+// one number (specs/Points.antt); what takes more room, the look-up, the new path and the rest, is made in functions that have returned
+// before the next is called.
 ghost use mathlib.Core.Path.{_≡_};
 ghost use mathlib.Core.Bool.{true};
-ghost use Prim.Native.Nat.{ℕ, _<_};
+ghost use Prim.Native.Nat.{ℕ, suc, _+_, _*_, _/_, _%_, _≤_, _<_};
 ghost use lib.ListN.{length, take};
 ghost use Rattle.unc.specs.Paths.{written};
 ghost use Rattle.texts.specs.Texts.{textsOf, Standing};
 ghost use Rattle.caches.specs.Memory.{referrals};
 ghost use Rattle.lookup.specs.Lookup.{entryAt};
 ghost use Rattle.lookup.specs.declared.Found.the-variants.{At};
-ghost use Rattle.steps.specs.Steps.{replaces, asking, hitAt, withHit, step2, step7, step8, step11};
-ghost use Rattle.steps.specs.Rested.{cachesOf, coreOf};
+ghost use Rattle.steps.specs.Steps.{asking, hitAt, withHit, step2, step8, step11};
+ghost use Rattle.steps.specs.Rested.{cachesOf, coreOf, step2In};
 ghost use Rattle.moves.specs.Moves.{joined, packed, stepsFrom, calledAt, movedTo, Ready, Usable};
+ghost use Rattle.moves.specs.Points.{whatOf, placeIn, unitsOf, stepsAt, Point, Halted, Halts, pointFresh, pointFound, goneTo, pointReached};
 use lookup::Found;
 use steps::Asking;
 use steps::End;
@@ -84,8 +87,171 @@ fn step11(refs: &[u16], texts: &mut [u16], len: usize, i: usize) -> Written
     Written::Units(n)
 }
 
+// What a point calls for, and how its moves left are counted in.
+const LEFT: u64 = 131072;
+
+const TRY: u64 = 0;
+
+const TURN: u64 = 1;
+
+const LINK: u64 = 2;
+
+const LONG: u64 = 3;
+
+const STALE: u64 = 4;
+
+const MISSED: u64 = 5;
+
+// A point, the moves left not counted in.
+fn point(what: u64, i: usize, len: usize) -> u64
+    requires { ⌜ (what < 8) × ((i < 32) × (len ≤ 256)) ⌝ }
+    ensures { λ r. ⌜ r ≡ what + 8 * i + 256 * len ⌝ }
+{
+    what + 8 * (i as u64) + 256 * (len as u64)
+}
+
+fn with_left(n: u64, left: u64) -> u64
+    requires { ⌜ (n < 131072) × (left < 65536) ⌝ }
+    ensures { λ r. ⌜ r ≡ n + 131072 * left ⌝ }
+{
+    n + LEFT * left
+}
+
+fn place(n: u64) -> usize
+    ensures { λ r. ⌜ r ≡ placeIn n ⌝ }
+{
+    (n / 8 % 32) as usize
+}
+
+fn units(n: u64) -> usize
+    ensures { λ r. ⌜ r ≡ unitsOf n ⌝ }
+{
+    (n / 256 % 512) as usize
+}
+
+// Steps 7 and 4 at the entry at place i: a try, or a replacement.
+fn fresh(refs: &[u16], texts: &[u16], len: usize, i: usize) -> u64
+    requires { ⌜ Ready (now refs) (now texts) len × Usable (now refs) (take len (now texts)) i ⌝ }
+    ensures { λ r. ⌜ r ≡ pointFresh (now (refs .entry)) (take len (now (texts .entry))) i ⌝ }
+{
+    if steps::turns(refs, &texts[..len], i) {
+        return point(TURN, i, len);
+    }
+    point(TRY, i, len)
+}
+
 // Step 2.
-pub fn lookup(
+fn found(refs: &[u16], texts: &[u16], len: usize, clock: u32) -> u64
+    requires { ⌜ Ready (now refs) (now texts) len ⌝ }
+    ensures { λ r. ⌜ r ≡ pointFound (now (refs .entry)) (take len (now (texts .entry))) (step2In clock (take len (now (texts .entry))) (now (refs .entry))) ⌝ }
+{
+    let m = steps::step2(refs, &texts[..len], clock);
+    match m {
+        Matched::Fresh(i) => fresh(refs, texts, len, i),
+        Matched::Refresh(i) => point(LINK, i, len),
+        Matched::Stale => point(STALE, 0, len),
+        Matched::Missed => point(MISSED, 0, len),
+    }
+}
+
+// Step 11 at the entry before place `by`; 0: the path stays.
+fn replace(refs: &[u16], texts: &mut [u16], len: usize, by: usize) -> Written
+    requires { ⌜ Standing len (now texts) × ((i : ℕ) → by ≡ suc i → Usable (now refs) (take len (now texts)) i) ⌝ }
+    ensures answer { λ r. ⌜ r ≡ written 256 (goneTo (now (refs .entry)) (take len (now (texts .entry))) by) ⌝ }
+    ensures texts { λ r. ⌜ now (texts .exit) ≡ movedTo (goneTo (now (refs .entry)) (take len (now (texts .entry))) by) (now (texts .entry)) ⌝ }
+{
+    if by == 0 {
+        return Written::Units(len);
+    }
+    step11(refs, texts, len, by - 1)
+}
+
+// Step 11, if it is due, and step 2.
+fn reached(refs: &[u16], texts: &mut [u16], len: usize, clock: u32, by: usize) -> u64
+    requires { ⌜ Ready (now refs) (now texts) len × ((i : ℕ) → by ≡ suc i → Usable (now refs) (take len (now texts)) i) ⌝ }
+    ensures answer { λ r. ⌜ r ≡ pointReached (now (refs .entry)) clock len (goneTo (now (refs .entry)) (take len (now (texts .entry))) by) ⌝ }
+    ensures texts { λ r. ⌜ now (texts .exit) ≡ movedTo (goneTo (now (refs .entry)) (take len (now (texts .entry))) by) (now (texts .entry)) ⌝ }
+{
+    let Written::Units(n) = replace(refs, texts, len, by) else {
+        return point(LONG, 0, len);
+    };
+    found(refs, texts, n, clock)
+}
+
+// Step 2: a request of step 9 waits; else on.
+fn lookup(refs: &[u16], texts: &mut [u16], n: u64, clock: u32) -> u64
+    requires { ⌜ Point (now refs) (now texts) n ⌝ }
+    ensures { λ r. ⌜ Halts (now (refs .entry)) clock n (now (texts .entry)) r (now (texts .exit)) ⌝ }
+{
+    if n % 8 == LINK {
+        return n;
+    }
+    domain(refs, texts, n, clock)
+}
+
+// Step 5 puts its question; step 7 goes by an entry that was found fresh or has just been stored.
+fn domain(refs: &[u16], texts: &mut [u16], n: u64, clock: u32) -> u64
+    requires { ⌜ Point (now refs) (now texts) n ⌝ }
+    ensures { λ r. ⌜ Halts (now (refs .entry)) clock n (now (texts .entry)) r (now (texts .exit)) ⌝ }
+{
+    if TURN < n % 8 {
+        return n;
+    }
+    link(refs, texts, n, clock)
+}
+
+// Step 4: step 3's try, or step 11.
+fn link(refs: &[u16], texts: &mut [u16], n: u64, clock: u32) -> u64
+    requires { ⌜ Point (now refs) (now texts) n × (whatOf n < 2) ⌝ }
+    ensures { λ r. ⌜ Halts (now (refs .entry)) clock n (now (texts .entry)) r (now (texts .exit)) ⌝ }
+{
+    if n % 8 == TRY {
+        return n;
+    }
+    interlink(refs, texts, n, clock)
+}
+
+// Step 11, and on from step 2. The limit is tested, then the length of the new path.
+fn interlink(refs: &[u16], texts: &mut [u16], n: u64, clock: u32) -> u64
+    requires { ⌜ Point (now refs) (now texts) n × (whatOf n ≡ 1) ⌝ }
+    ensures { λ r. ⌜ Halts (now (refs .entry)) clock n (now (texts .entry)) r (now (texts .exit)) ⌝ }
+{
+    let left = n / LEFT;
+    if left == 0 {
+        return n;
+    }
+    let m = reached(refs, texts, units(n), clock, place(n) + 1);
+    if m % 8 == LONG {
+        return with_left(m, left);
+    }
+    lookup(refs, texts, with_left(m, left - 1), clock)
+}
+
+// The rest at a point from which no move is made.
+fn rest_at(refs: &[u16], doms: &[u16], texts: &mut [u16], n: u64, size: u32) -> Rested
+    requires { ⌜ Halted (now refs) (now texts) n ⌝ }
+    ensures { λ r. ⌜ ((clock : ℕ) → joined r (now (texts .exit)) ≡ stepsAt (now (refs .entry)) (now (doms .entry)) size clock n (now (texts .entry))) ⌝ }
+{
+    let what = n % 8;
+    let left = (n / LEFT) as u16;
+    let len = units(n);
+    if what == TRY {
+        return step3(refs, texts, len, left, place(n));
+    }
+    if what == TURN {
+        return steps::end_at(End::LimitReached, 0, len, left, true);
+    }
+    if what == LINK {
+        return steps::ask_link(refs, &texts[..len], place(n), left, size);
+    }
+    if what == LONG {
+        return steps::end_at(End::TooLong, 0, len, left, true);
+    }
+    steps::step5(doms, &texts[..len], left, true, size)
+}
+
+// From step 2.
+pub fn from_lookup(
     refs: &[u16],
     doms: &[u16],
     texts: &mut [u16],
@@ -98,37 +264,16 @@ pub fn lookup(
     requires { ⌜ Ready (now refs) (now texts) len ⌝ }
     ensures { λ r. ⌜ joined r (now (texts .exit)) ≡ stepsFrom left (now (refs .entry)) (now (doms .entry)) clock (withHit (hitAt (cachesOf (now (refs .entry)) (now (doms .entry))) (coreOf (take len (now (texts .entry))) size hit)) (coreOf (take len (now (texts .entry))) size hit)) (step2 (cachesOf (now (refs .entry)) (now (doms .entry))) (coreOf (take len (now (texts .entry))) size hit) clock) ⌝ }
 {
-    let m = steps::step2(refs, &texts[..len], clock);
-    match m {
-        Matched::Fresh(i) => link(refs, doms, texts, len, left, size, clock, i),
-        Matched::Refresh(i) => steps::ask_link(refs, &texts[..len], i, left, size),
-        Matched::Stale => domain(
-            refs,
-            doms,
-            texts,
-            len,
-            left,
-            true,
-            size,
-            clock,
-            Found::Nothing,
-        ),
-        Matched::Missed => domain(
-            refs,
-            doms,
-            texts,
-            len,
-            left,
-            hit,
-            size,
-            clock,
-            Found::Nothing,
-        ),
+    let n = reached(refs, texts, len, clock, 0);
+    if n % 8 == MISSED {
+        return steps::step5(doms, &texts[..len], left, hit, size);
     }
+    let r = lookup(refs, texts, with_left(n, left as u64), clock);
+    rest_at(refs, doms, texts, r, size)
 }
 
-// Step 5, or step 7 where the entry at a place has just been stored.
-pub fn domain(
+// From step 5, or from step 7 where the entry at a place has just been stored.
+pub fn from_domain(
     refs: &[u16],
     doms: &[u16],
     texts: &mut [u16],
@@ -145,48 +290,7 @@ pub fn domain(
     let Found::At(i) = stored else {
         return steps::step5(doms, &texts[..len], left, hit, size);
     };
-    link(refs, doms, texts, len, left, size, clock, i)
-}
-
-// Steps 7 and 4.
-fn link(
-    refs: &[u16],
-    doms: &[u16],
-    texts: &mut [u16],
-    len: usize,
-    left: u16,
-    size: u32,
-    clock: u32,
-    i: usize,
-) -> Rested
-    requires { ⌜ Ready (now refs) (now texts) len × Usable (now refs) (take len (now texts)) i ⌝ }
-    ensures { λ r. ⌜ joined r (now (texts .exit)) ≡ stepsFrom left (now (refs .entry)) (now (doms .entry)) clock (coreOf (take len (now (texts .entry))) size true) (step7 (coreOf (take len (now (texts .entry))) size true) (entryAt referrals i (now (refs .entry)))) ⌝ }
-{
-    if steps::turns(refs, &texts[..len], i) {
-        return interlink(refs, doms, texts, len, left, size, clock, i);
-    }
-    step3(refs, texts, len, left, i)
-}
-
-// Step 11, and on from step 2.
-fn interlink(
-    refs: &[u16],
-    doms: &[u16],
-    texts: &mut [u16],
-    len: usize,
-    left: u16,
-    size: u32,
-    clock: u32,
-    i: usize,
-) -> Rested
-    requires { ⌜ Ready (now refs) (now texts) len × Usable (now refs) (take len (now texts)) i ⌝ }
-    ensures { λ r. ⌜ joined r (now (texts .exit)) ≡ stepsFrom left (now (refs .entry)) (now (doms .entry)) clock (coreOf (take len (now (texts .entry))) size true) (replaces (step11 (coreOf (take len (now (texts .entry))) size true) (entryAt referrals i (now (refs .entry))))) ⌝ }
-{
-    if left == 0 {
-        return steps::end_at(End::LimitReached, 0, len, left, true);
-    }
-    let Written::Units(n) = step11(refs, texts, len, i) else {
-        return steps::end_at(End::TooLong, 0, len, left, true);
-    };
-    lookup(refs, doms, texts, n, left - 1, true, size, clock)
+    let n = fresh(refs, texts, len, i);
+    let r = domain(refs, texts, with_left(n, left as u64), clock);
+    rest_at(refs, doms, texts, r, size)
 }

@@ -46,7 +46,7 @@ fn first_rest(
     if k == 1 {
         return steps::end_at(End::NotDfs, 0, n, limit, false);
     }
-    moves::lookup(refs, doms, rooms, n, limit, false, size, clock)
+    moves::from_lookup(refs, doms, rooms, n, limit, false, size, clock)
 }
 
 // A start with a path of n units and k components in its room, both caches being in order.

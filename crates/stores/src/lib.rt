@@ -39,7 +39,7 @@ fn after_store(
         let hint = lookup::target_hint(refs, place);
         return moves::step8(refs, rooms, len, left, true, place, hint, hint);
     }
-    moves::domain(
+    moves::from_domain(
         refs,
         doms,
         rooms,

@@ -211,13 +211,52 @@ fn run(s: &Scenario, counts: &mut Counts) {
     }
 }
 
+// The goals: the bytes of stack that a start of 64 moves round may take, and any call with any limit.
+const ROUND_GOAL: usize = 8192;
+const CALL_GOAL: usize = 16384;
+
+// A cache of two places, the first a link that leads to itself by Interlink, and a domain with a DC.
+const WARM: [&str; 6] = [
+    "referrals places=2",
+    "entry place=0 prefix=\\a\\b kind=link interlink=1 failback=0 ttl=300 taken=100 hint=0",
+    "target boundary=0 path=\\a\\b",
+    "domains places=1",
+    "domain place=0 name=d hint=0",
+    "dc name=dc0",
+];
+
 // A walk that goes round by interlinks in a warm cache: `limit` moves, no question, end 24. The bytes of stack that its start took.
 fn round(limit: u32) -> usize {
-    let lines = ["referrals places=1", "entry place=0 prefix=\\a\\b kind=link interlink=1 failback=0 ttl=300 taken=100 hint=0", "target boundary=0 path=\\a\\b", "domains places=1"];
-    let mut host = Host { caches: Caches::read(&lines), walk: vec![0; WALK] };
+    let mut host = Host { caches: Caches::read(&WARM), walk: vec![0; WALK] };
     stack::most();
     let n = calls::start(&host.caches.refs, &host.caches.doms, &mut host.walk, &units("\\a\\b\\c"), &units("dc1"), limit, 8192, 100, &mut [0; 516]);
     let used = stack::most()["dfsc_start"];
+    assert_eq!(n, 0);
+    host.shows(&format!("end=24 status=00000000 path=\\a\\b\\c moves={limit}")).unwrap();
+    used
+}
+
+// A reply with one entry, a link by Interlink.
+fn link_reply(prefix: &str, target: &str) -> Vec<u8> {
+    let text = |s: &str| -> Vec<u8> { units(s).iter().chain(&[0]).flat_map(|u| u.to_le_bytes()).collect() };
+    let (prefix, target) = (text(prefix), text(target));
+    let mut reply: Vec<u8> = [0u16, 1, 1, 0, 3, 34, 0, 0, 300, 0, 34, 34, 34 + prefix.len() as u16].iter().flat_map(|u| u.to_le_bytes()).collect();
+    reply.extend([0; 16]);
+    reply.extend(prefix);
+    reply.extend(target);
+    reply
+}
+
+// The same after an answer: a root request to a DC brings a link that leads into the round. The buffer is shorter than the longest
+// request, so the place is saved.
+fn round_after(limit: u32) -> usize {
+    let mut host = Host { caches: Caches::read(&WARM), walk: vec![0; WALK] };
+    let mut out = [0; 515];
+    assert_eq!(calls::start(&host.caches.refs, &host.caches.doms, &mut host.walk, &units("\\d\\x\\c"), &units("dc1"), limit, 8192, 100, &mut out), 0);
+    assert_eq!(host.waits().unwrap(), Some([2, 8192, 1]));
+    stack::most();
+    let n = calls::answer_referral(&mut host.caches.refs, &mut host.caches.doms, &mut host.walk, 0, &link_reply("\\d\\x", "\\a\\b"), 100, &mut out);
+    let used = stack::most()["dfsc_answer_referral"];
     assert_eq!(n, 0);
     host.shows(&format!("end=24 status=00000000 path=\\a\\b\\c moves={limit}")).unwrap();
     used
@@ -269,11 +308,21 @@ fn all() -> bool {
         run(s, &mut counts);
     }
     println!("walks: {} scenarios, {} calls equal", list.len(), counts.calls);
+    let mut within = |what: &str, n: usize, goal: usize| {
+        println!("stack: {what} {n} bytes");
+        if n >= goal {
+            counts.wrong += 1;
+            println!("stack: {what}: {goal} bytes or more");
+        }
+    };
     for (name, n) in stack::most() {
-        println!("stack: {name} {n} bytes");
+        within(name, n, CALL_GOAL);
     }
     for limit in [1, 5, 32, 64] {
-        println!("stack: {limit} moves round {} bytes", round(limit));
+        within(&format!("a start of {limit} moves round"), round(limit), ROUND_GOAL);
+    }
+    for limit in [2, 64] {
+        within(&format!("an answer after 1 of {limit} moves, the rest round"), round_after(limit), CALL_GOAL);
     }
     counts.wrong == 0
 }

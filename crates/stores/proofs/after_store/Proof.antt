@@ -17,14 +17,14 @@ same-length c = search needs
 returns : tie.Need-returns
 returns c = after-sysvol _ _ (now (c .before .before .before .before .before .before .before .before .before .args .rooms)) (c .before .before .before .before .before .before .before .before .before .args .len) _ (c .before .before .before .before .before .before .before .before .before .args .size) _ _ (c .before .before .before .before .before .if1 .taken) (c .before .before .before .before .target-hint .ensures) (c .before .before .step8 .ensures)
 
-domain-requires : tie.Need-domain-requires
-domain-requires c κs = (c .before .before .before .before .before .pre .0, only-place _ _ _ (c .before .before .before .before .before .pre .1))
+from-domain-requires : tie.Need-from-domain-requires
+from-domain-requires c κs = (c .before .before .before .before .before .pre .0, only-place _ _ _ (c .before .before .before .before .before .pre .1))
 
 same-length-2 : tie.Need-same-length-2
 same-length-2 c = search needs
 
 returns-2 : tie.Need-returns-2
-returns-2 c = after-other _ _ (now (c .before .before .before .before .before .before .before .before .args .rooms)) (c .before .before .before .before .before .before .before .before .args .len) _ (c .before .before .before .before .before .before .before .before .args .size) _ _ (c .before .before .before .before .if1 .left) (c .before .before .domain .ensures)
+returns-2 c = after-other _ _ (now (c .before .before .before .before .before .before .before .before .args .rooms)) (c .before .before .before .before .before .before .before .before .args .len) _ (c .before .before .before .before .before .before .before .before .args .size) _ _ (c .before .before .before .before .if1 .left) (c .before .before .from-domain .ensures)
 
 pub after-store-spec : {M : Type 1} → statement M
 after-store-spec =
@@ -34,6 +34,6 @@ after-store-spec =
     step8-requires
     same-length
     returns
-    domain-requires
+    from-domain-requires
     same-length-2
     returns-2)

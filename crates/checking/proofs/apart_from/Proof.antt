@@ -42,7 +42,7 @@ loop-again : tie.Need-loop-again Inv-loop μ-loop
 loop-again c = c .before .before .before .before .loop .inv ∙ apart-other (now (c .before .before .before .before .before .before .before .args .text)) (c .before .before .before .before .loop .at) (c .before .before .line-end .result) (omega arith) (c .before .before .line-end .ensures) (now (c .before .before .before .before .before .before .before .args .line)) (c .if1 .taken)
 
 mul-same-name : tie.Need-mul-same-name Inv-loop μ-loop
-mul-same-name c = search needs
+mul-same-name c = omega (arith, end-fits (now (c .before .before .before .before .before .before .before .args .text)) (c .before .before .before .before .loop .at) (c .before .before .line-end .result) (omega arith) (c .before .before .line-end .ensures))
 
 sub-same-name : tie.Need-sub-same-name Inv-loop μ-loop
 sub-same-name c = search needs

@@ -22,6 +22,15 @@ const ROOM: usize = 256;
 // The units of "prefix=" and of "target=".
 const PATH_KEY: usize = 7;
 
+// With which "root" begins, and not "link".
+const ROOT: u16 = 114;
+
+// A flag that is set.
+const ONE: u16 = 49;
+
+// With which the line of a target begins; of those that may stand there no other does.
+const TARGET: u16 = 116;
+
 // A number that a line says, and where the next line begins.
 struct Read {
     value: u32,
@@ -80,7 +89,7 @@ fn put_target(text: &[u16], at: usize, refs: &mut [u16], i: usize, n: usize) -> 
     next
 }
 
-// The targets of entry i into its place: of the lines that may stand here only those of targets begin with "t".
+// The targets of entry i into its place, up to the next entry or the end.
 fn put_targets(text: &[u16], at: usize, refs: &mut [u16], i: usize) -> usize
     requires { ⌜ (i < length (now refs) / 2336) × LinesAt (now text) i at (targetLines (saidAt (now text) i .targets)) ⌝ }
     ensures { λ r. ⌜ TargetsRead (now (text .entry)) i (now (refs .entry)) (now (refs .exit)) r ⌝ }
@@ -88,7 +97,7 @@ fn put_targets(text: &[u16], at: usize, refs: &mut [u16], i: usize) -> usize
     let mut end = at;
     let mut n = 0;
     while end < text.len() {
-        if text[end] != 116 {
+        if text[end] != TARGET {
             return end;
         }
         end = put_target(text, end, refs, i, n);
@@ -97,14 +106,14 @@ fn put_targets(text: &[u16], at: usize, refs: &mut [u16], i: usize) -> usize
     end
 }
 
-// The lines of entry i between its prefix and its targets. Those of kind, interlink and failback have 10, 12 and 11 units whatever they say.
+// The lines of entry i between its prefix and its targets: kind=, interlink= and failback=, which have 10, 12 and 11 units whatever they say, then ttl=, taken= and hint=.
 fn put_settings(text: &[u16], at: usize, refs: &mut [u16], i: usize) -> usize
     requires { ⌜ (i < length (now refs) / 2336) × LinesAt (now text) i at (drop 1 (entryLines (saidAt (now text) i))) ⌝ }
     ensures { λ r. ⌜ SettingsRead (now (text .entry)) i (now (refs .entry)) (now (refs .exit)) r ⌝ }
 {
-    let root = text[at + 5] == 114;
-    let interlink = text[at + 20] == 49;
-    let failback = text[at + 31] == 49;
+    let root = text[at + 5] == ROOT;
+    let interlink = text[at + 20] == ONE;
+    let failback = text[at + 31] == ONE;
     let ttl = number_at(text, at + 33, 4);
     let taken = number_at(text, ttl.next, 6);
     let hint = number_at(text, taken.next, 5);

@@ -1,0 +1,3 @@
+-- Laws of hex digits, and of the line that is held.
+pub mod HexLaws
+pub mod HeldLaws

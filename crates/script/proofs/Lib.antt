@@ -1,0 +1,2 @@
+-- Laws of the lines of `walk`'s input.
+pub mod LineLaws

@@ -1,0 +1,2 @@
+-- Document 01, "Examples to hold it to": those marked P.
+pub mod Examples

@@ -1,0 +1,29 @@
+use native.Mathlib.Omega.{arith}
+use Rattle.spelling.proofs.SpellingLaws.{digit-low, digit-high}
+use borrow.Author.Needs.{needs}
+use Rattle.printing.proofs.digit.Statement.{statement}
+use Rattle.printing.proofs.digit.Tie as tie
+use Rattle.printing.proofs.digit.Reads as reads
+use Rattle.printing.proofs.digit.Lts as lts
+
+cast-result : tie.Need-cast-result
+cast-result c = search needs
+
+add-result : tie.Need-add-result
+add-result c = search needs
+
+returns : tie.Need-returns
+returns c = digit-low _ (c .if1 .taken)
+
+cast-result-2 : tie.Need-cast-result-2
+cast-result-2 c = search needs
+
+add-result-2 : tie.Need-add-result-2
+add-result-2 c = search needs
+
+returns-2 : tie.Need-returns-2
+returns-2 c = digit-high _ (omega arith)
+
+pub digit-spec : {M : Type 1} → statement M
+digit-spec =
+    tie.close (tie.spec cast-result add-result returns cast-result-2 add-result-2 returns-2)

@@ -232,6 +232,15 @@ takes s line r path boot reply =
     (read (takesAfter (s .last) s line path boot .script) (takesAfter (s .last) s line path boot .path) (takesAfter (s .last) s line path boot .boot) reply)
     (read (after Other s) path boot reply))
 
+-- A whole line of any length, where the first `most` bytes are kept: a reply is read to its end, any other line may have no more bytes than these. Theorem
+-- `line-taken`: this is what `takes` makes of the kept bytes and the rest.
+unfoldable pub lineTaken : ℕ → Script → List ℕ → List ℕ → List ℕ → List ℕ → Read
+lineTaken most s line path boot reply =
+    choose (isReply s line) (read (takesReply s line rest.None reply .script) path boot (takesReply s line rest.None reply .room))
+    (choose (leb (length line) most)
+    (read (takesAfter (s .last) s line path boot .script) (takesAfter (s .last) s line path boot .path) (takesAfter (s .last) s line path boot .boot) reply)
+    (read (after Other s) path boot reply))
+
 -- the bytes that are kept
 unfoldable pub keptOf : List ℕ → Held → List ℕ
 keptOf line h = take (h .kept) line

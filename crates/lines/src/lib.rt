@@ -45,7 +45,8 @@ pub fn same_units(a: &[u16], b: &[u16]) -> bool
     true
 }
 
-fn has_key(key: &[u16], line: &[u16]) -> bool
+// Whether a line begins with a key.
+pub fn has_key(key: &[u16], line: &[u16]) -> bool
     ensures { λ r. ⌜ r ≡ hasKey (now (key .entry)) (now (line .entry)) ⌝ }
 {
     let n = key.len();

@@ -1,0 +1,59 @@
+use Rattle.hexes.proofs.HeldLaws.{rest-other, rest-digit}
+use Rattle.hexes.specs.Held.{oneMore}
+use borrow.Author.Tests.{not-true, not-false}
+use mathlib.Core.Path.{refl, sym, ap}
+use borrow.Author.Needs.{needs}
+use Rattle.hexes.proofs.next_rest.Statement.{statement}
+use Rattle.hexes.proofs.next_rest.Tie as tie
+use Rattle.hexes.proofs.next_rest.Reads as reads
+use Rattle.hexes.proofs.next_rest.Lts as lts
+use Rattle.hexes.proofs.is_hex.Reads as is-hex-reads
+
+is-hex-requires : tie.Need-is-hex-requires
+is-hex-requires c κs = search needs
+
+returns : tie.Need-returns
+returns c = rest-other _ _ (c .before .is-hex .ensures) (not-true _ (c .if1 .taken))
+
+enum-told : tie.Need-enum-told
+enum-told c = search needs
+
+enum-told-2 : tie.Need-enum-told-2
+enum-told-2 c = search needs
+
+enum-told-3 : tie.Need-enum-told-3
+enum-told-3 c = search needs
+
+enum-told-4 : tie.Need-enum-told-4
+enum-told-4 c = search needs
+
+returns-2 : tie.Need-returns-2
+unfolding oneMore
+returns-2 c = rest-digit _ _ (c .before .before .before .is-hex .ensures) (not-false _ (c .before .before .if1 .left)) (ap oneMore (sym (c .enum-told .given .1)))
+
+returns-3 : tie.Need-returns-3
+unfolding oneMore
+returns-3 c = rest-digit _ _ (c .before .before .before .is-hex .ensures) (not-false _ (c .before .before .if1 .left)) (ap oneMore (sym (c .enum-told2 .given .1)))
+
+returns-4 : tie.Need-returns-4
+unfolding oneMore
+returns-4 c = rest-digit _ _ (c .before .before .before .is-hex .ensures) (not-false _ (c .before .before .if1 .left)) (ap oneMore (sym (c .enum-told3 .given .1)))
+
+returns-5 : tie.Need-returns-5
+unfolding oneMore
+returns-5 c = rest-digit _ _ (c .before .before .before .is-hex .ensures) (not-false _ (c .before .before .if1 .left)) (ap oneMore (sym (c .enum-told4 .given .1)))
+
+pub next-rest-spec : {M : Type 1} → statement M
+next-rest-spec =
+    tie.close
+    (tie.spec
+    is-hex-requires
+    returns
+    enum-told
+    enum-told-2
+    enum-told-3
+    enum-told-4
+    returns-2
+    returns-3
+    returns-4
+    returns-5)

@@ -1,0 +1,22 @@
+use Rattle.hexes.proofs.HexLaws.{upper-low, upper-letter, upper-high}
+use native.Mathlib.Omega.{arith}
+use borrow.Author.Needs.{needs}
+use Rattle.hexes.proofs.upper.Statement.{statement}
+use Rattle.hexes.proofs.upper.Tie as tie
+use Rattle.hexes.proofs.upper.Reads as reads
+use Rattle.hexes.proofs.upper.Lts as lts
+
+returns : tie.Need-returns
+returns c = upper-low _ (c .if1 .taken)
+
+sub-result : tie.Need-sub-result
+sub-result c = search needs
+
+returns-2 : tie.Need-returns-2
+returns-2 c = upper-letter _ (c .before .if1 .left) (c .if2 .taken)
+
+returns-3 : tie.Need-returns-3
+returns-3 c = upper-high _ (c .if2 .left)
+
+pub upper-spec : {M : Type 1} → statement M
+upper-spec = tie.close (tie.spec returns sub-result returns-2 returns-3)

@@ -1,0 +1,34 @@
+use Rattle.hexes.proofs.HexLaws.{value-decimal, value-letter}
+use native.Mathlib.Omega.{arith}
+use borrow.Author.Needs.{needs}
+use Rattle.hexes.proofs.value.Statement.{statement}
+use Rattle.hexes.proofs.value.Tie as tie
+use Rattle.hexes.proofs.value.Reads as reads
+use Rattle.hexes.proofs.value.Lts as lts
+use Rattle.hexes.proofs.upper.Reads as upper-reads
+
+upper-requires : tie.Need-upper-requires
+upper-requires c κs = search needs
+
+cast-result : tie.Need-cast-result
+cast-result c = search needs
+
+sub-result : tie.Need-sub-result
+sub-result c = omega (arith, value-decimal (c .before .before .args .u) (c .before .upper .ensures) (c .before .before .pre) (c .if1 .taken) .0)
+
+returns : tie.Need-returns
+returns c = (value-decimal (c .before .before .args .u) (c .before .upper .ensures) (c .before .before .pre) (c .if1 .taken) .1, omega (arith, c .if1 .taken))
+
+cast-result-2 : tie.Need-cast-result-2
+cast-result-2 c = omega (arith, value-letter (c .before .before .args .u) (c .before .upper .ensures) (c .before .before .pre) (c .if1 .left) .0)
+
+sub-result-2 : tie.Need-sub-result-2
+sub-result-2 c = search needs
+
+returns-2 : tie.Need-returns-2
+returns-2 c = (value-letter (c .before .before .args .u) (c .before .upper .ensures) (c .before .before .pre) (c .if1 .left) .1, omega (arith, value-letter (c .before .before .args .u) (c .before .upper .ensures) (c .before .before .pre) (c .if1 .left) .0))
+
+pub value-spec : {M : Type 1} → statement M
+value-spec =
+    tie.close
+    (tie.spec upper-requires cast-result sub-result returns cast-result-2 sub-result-2 returns-2)

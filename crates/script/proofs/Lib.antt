@@ -1,0 +1,3 @@
+-- Laws of the lines of `walk`'s input.
+pub mod LineLaws
+pub mod WholeLaws

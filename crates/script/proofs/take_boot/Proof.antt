@@ -1,0 +1,59 @@
+use Rattle.script.specs.declared.Last.the-variants.{Boot}
+use Rattle.script.proofs.LineLaws.{text-refused, text-taken}
+use Rattle.script.specs.Script.{takesBoot, after, withBoot}
+use mathlib.Core.Path.{refl, sym, ap, _∙_}
+use denote.Ref.{now}
+use borrow.Author.Needs.{needs}
+use Rattle.script.proofs.take_boot.Statement.{statement}
+use Rattle.script.proofs.take_boot.Tie as tie
+use Rattle.script.proofs.take_boot.Reads as reads
+use Rattle.script.proofs.take_boot.Lts as lts
+use Rattle.script.proofs.text_line.Reads as text-line-reads
+use Rattle.script.proofs.with_last.Reads as with-last-reads
+
+slice-aggregate-text-line : tie.Need-slice-aggregate-text-line
+slice-aggregate-text-line c = search needs
+
+text-line-requires : tie.Need-text-line-requires
+text-line-requires c κs = search needs
+
+enum-known-n : tie.Need-enum-known-n
+enum-known-n c = search needs
+
+enum-told : tie.Need-enum-told
+enum-told c = search needs
+
+with-last-requires : tie.Need-with-last-requires
+with-last-requires c κs = search needs
+
+same-length : tie.Need-same-length
+same-length c = search needs
+
+returns : tie.Need-returns
+unfolding takesBoot
+returns c = text-refused (c .before .before .before .before .before .before .before .before .before .before .args .s) (λ n. after Boot (withBoot n (c .before .before .before .before .before .before .before .before .before .before .args .s))) (c .before .before .before .before .before .text-line .ensures) (c .before .enum-told .given .1) (c .with-last .ensures)
+
+with-last-requires-2 : tie.Need-with-last-requires-2
+with-last-requires-2 c κs = search needs
+
+same-length-2 : tie.Need-same-length-2
+same-length-2 c = search needs
+
+returns-2 : tie.Need-returns-2
+unfolding takesBoot withBoot
+returns-2 c = text-taken (c .before .before .before .before .before .before .before .before .before .before .before .args .s) (λ n. after Boot (withBoot n (c .before .before .before .before .before .before .before .before .before .before .before .args .s))) (c .before .before .before .before .before .before .text-line .ensures) (c .before .before .n .given .1) (c .with-last2 .ensures)
+
+pub take-boot-spec : {M : Type 1} → statement M
+take-boot-spec =
+    tie.close
+    (tie.spec
+    slice-aggregate-text-line
+    text-line-requires
+    enum-known-n
+    enum-told
+    with-last-requires
+    same-length
+    returns
+    with-last-requires-2
+    same-length-2
+    returns-2)

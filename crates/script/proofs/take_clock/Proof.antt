@@ -1,0 +1,50 @@
+use Rattle.script.proofs.LineLaws.{number-refused, number-taken}
+use Rattle.script.specs.Script.{takesClock, after, withClock}
+use mathlib.Core.Path.{refl, sym, ap, _∙_}
+use denote.Ref.{now}
+use borrow.Author.Needs.{needs}
+use Rattle.script.proofs.take_clock.Statement.{statement}
+use Rattle.script.proofs.take_clock.Tie as tie
+use Rattle.script.proofs.take_clock.Reads as reads
+use Rattle.script.proofs.take_clock.Lts as lts
+use Rattle.lines.proofs.number_line.Reads as number-line-reads
+use Rattle.script.proofs.with_last.Reads as with-last-reads
+
+slice-aggregate-number-line : tie.Need-slice-aggregate-number-line
+slice-aggregate-number-line c = search needs
+
+number-line-requires : tie.Need-number-line-requires
+number-line-requires c κs = search needs
+
+enum-known-n : tie.Need-enum-known-n
+enum-known-n c = search needs
+
+enum-told : tie.Need-enum-told
+enum-told c = search needs
+
+with-last-requires : tie.Need-with-last-requires
+with-last-requires c κs = search needs
+
+returns : tie.Need-returns
+unfolding takesClock
+returns c = number-refused (c .before .before .before .before .before .before .args .s) (λ n. after (c .before .before .before .before .before .before .args .last) (withClock n (c .before .before .before .before .before .before .args .s))) (c .before .before .before .number-line .ensures) (c .before .enum-told .given .1) (c .with-last .ensures)
+
+with-last-requires-2 : tie.Need-with-last-requires-2
+with-last-requires-2 c κs = search needs
+
+returns-2 : tie.Need-returns-2
+unfolding takesClock withClock
+returns-2 c = number-taken (c .before .before .before .before .before .before .before .args .s) (λ n. after (c .before .before .before .before .before .before .before .args .last) (withClock n (c .before .before .before .before .before .before .before .args .s))) (c .before .before .before .before .number-line .ensures) (c .before .before .n .given .1) (c .with-last2 .ensures)
+
+pub take-clock-spec : {M : Type 1} → statement M
+take-clock-spec =
+    tie.close
+    (tie.spec
+    slice-aggregate-number-line
+    number-line-requires
+    enum-known-n
+    enum-told
+    with-last-requires
+    returns
+    with-last-requires-2
+    returns-2)

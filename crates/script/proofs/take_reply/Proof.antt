@@ -1,0 +1,79 @@
+use Rattle.script.proofs.LineLaws.{reply-odd, reply-digits, reply-said}
+use Rattle.script.specs.Script.{replyKey, withReply}
+use Rattle.lines.proofs.LineLaws.{key-fits, tail-value}
+use Rattle.hexes.specs.Hexes.{isHex, bytesOf}
+use Rattle.laws.specs.Lists.{every, pasted}
+use lib.ListN.{length, take}
+use Prim.Native.Nat.{ℕ, _-_}
+use mathlib.Core.List.{List}
+use borrow.Author.Tests.{not-true, not-false}
+use mathlib.Core.Path.{refl, sym, ap, _∙_}
+use native.Mathlib.Omega.{arith}
+use denote.Ref.{now}
+use borrow.Author.Needs.{needs}
+use Rattle.script.proofs.take_reply.Statement.{statement}
+use Rattle.script.proofs.take_reply.Tie as tie
+use Rattle.script.proofs.take_reply.Reads as reads
+use Rattle.script.proofs.take_reply.Lts as lts
+use Rattle.hexes.proofs.all_hex.Reads as all-hex-reads
+use Rattle.hexes.proofs.put_bytes.Reads as put-bytes-reads
+use Rattle.script.proofs.whole_bytes.Reads as whole-bytes-reads
+use Rattle.script.proofs.with_last.Reads as with-last-reads
+
+sub-digits : tie.Need-sub-digits
+sub-digits c = omega (arith, (key-fits replyKey (now (c .before .before .args .line)) refl (c .before .before .pre)))
+
+part-digits-start : tie.Need-part-digits-start
+part-digits-start c = omega (arith, (key-fits replyKey (now (c .before .before .args .line)) refl (c .before .before .pre)))
+
+part-digits-end : tie.Need-part-digits-end
+part-digits-end c = search needs
+
+whole-bytes-requires : tie.Need-whole-bytes-requires
+whole-bytes-requires c κs = search needs
+
+with-last-requires : tie.Need-with-last-requires
+with-last-requires c κs = search needs
+
+returns : tie.Need-returns
+returns c = reply-odd (c .before .before .before .before .before .before .args .s) (now (c .before .before .before .before .before .before .args .line)) (c .before .before .before .before .before .before .args .rest) (now (c .before .before .before .before .before .before .args .reply)) (ap length (tail-value replyKey (now (c .before .before .before .before .before .before .args .line)) (length (now (c .before .before .before .before .before .before .args .line)) - 6) (omega arith))) (c .before .before .whole-bytes .ensures) (not-true _ (c .before .if1 .taken)) (c .with-last .ensures)
+
+all-hex-requires : tie.Need-all-hex-requires
+all-hex-requires c κs = search needs
+
+with-last-requires-2 : tie.Need-with-last-requires-2
+with-last-requires-2 c κs = search needs
+
+returns-2 : tie.Need-returns-2
+returns-2 c = reply-digits (c .before .before .before .before .before .before .before .before .args .s) (now (c .before .before .before .before .before .before .before .before .args .line)) (c .before .before .before .before .before .before .before .before .args .rest) (now (c .before .before .before .before .before .before .before .before .args .reply)) (c .before .before .all-hex .ensures ∙ ap (every isHex) (tail-value replyKey (now (c .before .before .before .before .before .before .before .before .args .line)) (length (now (c .before .before .before .before .before .before .before .before .args .line)) - 6) (omega arith))) (not-true _ (c .before .if2 .taken)) (c .with-last2 .ensures)
+
+put-bytes-requires : tie.Need-put-bytes-requires
+put-bytes-requires c κs = sym (c .before .before .all-hex .ensures) ∙ not-false _ (c .before .if2 .left)
+
+with-last-requires-3 : tie.Need-with-last-requires-3
+with-last-requires-3 c κs = search needs
+
+same-length : tie.Need-same-length
+same-length c = search needs
+
+returns-3 : tie.Need-returns-3
+unfolding withReply
+returns-3 c = reply-said (c .before .before .before .before .before .before .before .before .before .before .before .before .args .s) (now (c .before .before .before .before .before .before .before .before .before .before .before .before .args .line)) (c .before .before .before .before .before .before .before .before .before .before .before .before .args .rest) (now (c .before .before .before .before .before .before .before .before .before .before .before .before .args .reply)) (ap length (tail-value replyKey (now (c .before .before .before .before .before .before .before .before .before .before .before .before .args .line)) (length (now (c .before .before .before .before .before .before .before .before .before .before .before .before .args .line)) - 6) (omega arith))) (c .before .before .before .before .before .before .before .before .whole-bytes .ensures) (not-false _ (c .before .before .before .before .before .before .before .if1 .left)) (c .before .before .before .before .before .before .all-hex .ensures ∙ ap (every isHex) (tail-value replyKey (now (c .before .before .before .before .before .before .before .before .before .before .before .before .args .line)) (length (now (c .before .before .before .before .before .before .before .before .before .before .before .before .args .line)) - 6) (omega arith))) (not-false _ (c .before .before .before .before .before .if2 .left)) (c .before .before .before .put-bytes .ensures .0 ∙ ap (λ (x : List ℕ). length (take (length (now (c .before .before .before .before .before .before .before .before .before .before .before .before .args .reply))) (bytesOf x))) (tail-value replyKey (now (c .before .before .before .before .before .before .before .before .before .before .before .before .args .line)) (length (now (c .before .before .before .before .before .before .before .before .before .before .before .before .args .line)) - 6) (omega arith))) (c .before .before .before .put-bytes .ensures .1 ∙ ap (λ (x : List ℕ). pasted (now (c .before .before .before .before .before .before .before .before .before .before .before .before .args .reply)) 0 (take (length (now (c .before .before .before .before .before .before .before .before .before .before .before .before .args .reply))) (bytesOf x))) (tail-value replyKey (now (c .before .before .before .before .before .before .before .before .before .before .before .before .args .line)) (length (now (c .before .before .before .before .before .before .before .before .before .before .before .before .args .line)) - 6) (omega arith))) (c .with-last3 .ensures)
+
+pub take-reply-spec : {M : Type 1} → statement M
+take-reply-spec =
+    tie.close
+    (tie.spec
+    sub-digits
+    part-digits-start
+    part-digits-end
+    whole-bytes-requires
+    with-last-requires
+    returns
+    all-hex-requires
+    with-last-requires-2
+    returns-2
+    put-bytes-requires
+    with-last-requires-3
+    same-length
+    returns-3)

@@ -1,0 +1,96 @@
+use Rattle.script.proofs.LineLaws.{text-other, text-bad, text-long, text-said}
+use Rattle.lines.proofs.LineLaws.{key-fits, tail-value, spelled-good}
+use Rattle.unspelling.specs.Reading.{spelledForm, unspelled, isSpelled}
+use Rattle.laws.specs.Lists.{pasted}
+use lib.ListN.{length}
+use mathlib.Core.List.{List}
+use Prim.Native.Nat.{ℕ, _-_}
+use borrow.Author.Tests.{not-true, not-false}
+use mathlib.Core.Path.{refl, sym, ap, _∙_}
+use native.Mathlib.Omega.{arith}
+use denote.Ref.{now}
+use borrow.Author.Needs.{needs}
+use Rattle.script.proofs.text_line.Statement.{statement}
+use Rattle.script.proofs.text_line.Tie as tie
+use Rattle.script.proofs.text_line.Reads as reads
+use Rattle.script.proofs.text_line.Lts as lts
+use Rattle.lines.proofs.has_key.Reads as has-key-reads
+use Rattle.unspelling.proofs.spelled_form.Reads as spelled-form-reads
+use Rattle.unspelling.proofs.unspell.Reads as unspell-reads
+
+has-key-requires : tie.Need-has-key-requires
+has-key-requires c κs = search needs
+
+returns : tie.Need-returns
+returns c = text-other (now (c .before .before .before .before .before .args .key)) (now (c .before .before .before .before .before .args .line)) (now (c .before .before .before .before .before .args .out)) (c .before .has-key .ensures) (not-true _ (c .if1 .taken))
+
+mul-spelled-form : tie.Need-mul-spelled-form
+mul-spelled-form c = search needs
+
+sub-spelled-form : tie.Need-sub-spelled-form
+sub-spelled-form c = omega (arith, (key-fits (now (c .before .before .before .before .before .args .key)) (now (c .before .before .before .before .before .args .line)) (c .before .has-key .ensures) (not-false _ (c .if1 .left))))
+
+part-spelled-form-start : tie.Need-part-spelled-form-start
+part-spelled-form-start c = omega (arith, (key-fits (now (c .before .before .before .before .before .args .key)) (now (c .before .before .before .before .before .args .line)) (c .before .has-key .ensures) (not-false _ (c .if1 .left))))
+
+part-spelled-form-end : tie.Need-part-spelled-form-end
+part-spelled-form-end c = search needs
+
+spelled-form-requires : tie.Need-spelled-form-requires
+spelled-form-requires c κs = search needs
+
+enum-known-n : tie.Need-enum-known-n
+enum-known-n c = search needs
+
+enum-told : tie.Need-enum-told
+enum-told c = search needs
+
+returns-2 : tie.Need-returns-2
+returns-2 c = text-bad (now (c .before .before .before .before .before .before .before .before .before .args .key)) (now (c .before .before .before .before .before .before .before .before .before .args .line)) (now (c .before .before .before .before .before .before .before .before .before .args .out)) (c .before .before .spelled-form .ensures ∙ ap spelledForm (tail-value (now (c .before .before .before .before .before .before .before .before .before .args .key)) (now (c .before .before .before .before .before .before .before .before .before .args .line)) (length (now (c .before .before .before .before .before .before .before .before .before .args .line)) - length (now (c .before .before .before .before .before .before .before .before .before .args .key))) (omega arith))) (c .enum-told .given .1)
+
+returns-3 : tie.Need-returns-3
+returns-3 c = text-long (now (c .before .before .before .before .before .before .before .before .before .before .before .args .key)) (now (c .before .before .before .before .before .before .before .before .before .before .before .args .line)) (now (c .before .before .before .before .before .before .before .before .before .before .before .args .out)) ((spelled-good _ (c .before .before .before .before .spelled-form .ensures) (c .before .before .n .given .1)) .1 ∙ ap (λ (x : List ℕ). length (unspelled x)) (tail-value (now (c .before .before .before .before .before .before .before .before .before .before .before .args .key)) (now (c .before .before .before .before .before .before .before .before .before .before .before .args .line)) (length (now (c .before .before .before .before .before .before .before .before .before .before .before .args .line)) - length (now (c .before .before .before .before .before .before .before .before .before .before .before .args .key))) (omega arith))) (c .if2 .taken)
+
+mul-unspell : tie.Need-mul-unspell
+mul-unspell c = search needs
+
+sub-unspell : tie.Need-sub-unspell
+sub-unspell c = omega (arith, (key-fits (now (c .before .before .before .before .before .before .before .before .before .before .before .args .key)) (now (c .before .before .before .before .before .before .before .before .before .before .before .args .line)) (c .before .before .before .before .before .before .before .has-key .ensures) (not-false _ (c .before .before .before .before .before .before .if1 .left))))
+
+part-unspell-start : tie.Need-part-unspell-start
+part-unspell-start c = omega (arith, (key-fits (now (c .before .before .before .before .before .before .before .before .before .before .before .args .key)) (now (c .before .before .before .before .before .before .before .before .before .before .before .args .line)) (c .before .before .before .before .before .before .before .has-key .ensures) (not-false _ (c .before .before .before .before .before .before .if1 .left))))
+
+part-unspell-end : tie.Need-part-unspell-end
+part-unspell-end c = search needs
+
+unspell-requires : tie.Need-unspell-requires
+unspell-requires c κs = ((spelled-good _ (c .before .before .before .before .before .before .spelled-form .ensures) (c .before .before .before .before .n .given .1)) .0, omega (arith, (spelled-good _ (c .before .before .before .before .before .before .spelled-form .ensures) (c .before .before .before .before .n .given .1)) .1, c .before .before .if2 .left))
+
+same-length : tie.Need-same-length
+same-length c = search needs
+
+returns-4 : tie.Need-returns-4
+returns-4 c = text-said (now (c .before .before .before .before .before .before .before .before .before .before .before .before .before .before .before .before .args .key)) (now (c .before .before .before .before .before .before .before .before .before .before .before .before .before .before .before .before .args .line)) (now (c .before .before .before .before .before .before .before .before .before .before .before .before .before .before .before .before .args .out)) (c .before .before .before .before .before .before .before .before .before .before .before .before .has-key .ensures) (not-false _ (c .before .before .before .before .before .before .before .before .before .before .before .if1 .left)) (sym (ap isSpelled (tail-value (now (c .before .before .before .before .before .before .before .before .before .before .before .before .before .before .before .before .args .key)) (now (c .before .before .before .before .before .before .before .before .before .before .before .before .before .before .before .before .args .line)) (length (now (c .before .before .before .before .before .before .before .before .before .before .before .before .before .before .before .before .args .line)) - length (now (c .before .before .before .before .before .before .before .before .before .before .before .before .before .before .before .before .args .key))) (omega arith))) ∙ (spelled-good _ (c .before .before .before .before .before .before .before .before .before .spelled-form .ensures) (c .before .before .before .before .before .before .before .n .given .1)) .0) ((spelled-good _ (c .before .before .before .before .before .before .before .before .before .spelled-form .ensures) (c .before .before .before .before .before .before .before .n .given .1)) .1 ∙ ap (λ (x : List ℕ). length (unspelled x)) (tail-value (now (c .before .before .before .before .before .before .before .before .before .before .before .before .before .before .before .before .args .key)) (now (c .before .before .before .before .before .before .before .before .before .before .before .before .before .before .before .before .args .line)) (length (now (c .before .before .before .before .before .before .before .before .before .before .before .before .before .before .before .before .args .line)) - length (now (c .before .before .before .before .before .before .before .before .before .before .before .before .before .before .before .before .args .key))) (omega arith))) (c .before .before .before .before .before .if2 .left) (c .before .before .unspell .ensures .memory ∙ ap (λ (x : List ℕ). pasted (now (c .before .before .before .before .before .before .before .before .before .before .before .before .before .before .before .before .args .out)) 0 (unspelled x)) (tail-value (now (c .before .before .before .before .before .before .before .before .before .before .before .before .before .before .before .before .args .key)) (now (c .before .before .before .before .before .before .before .before .before .before .before .before .before .before .before .before .args .line)) (length (now (c .before .before .before .before .before .before .before .before .before .before .before .before .before .before .before .before .args .line)) - length (now (c .before .before .before .before .before .before .before .before .before .before .before .before .before .before .before .before .args .key))) (omega arith)))
+
+pub text-line-spec : {M : Type 1} → statement M
+text-line-spec =
+    tie.close
+    (tie.spec
+    has-key-requires
+    returns
+    mul-spelled-form
+    sub-spelled-form
+    part-spelled-form-start
+    part-spelled-form-end
+    spelled-form-requires
+    enum-known-n
+    enum-told
+    returns-2
+    returns-3
+    mul-unspell
+    sub-unspell
+    part-unspell-start
+    part-unspell-end
+    unspell-requires
+    same-length
+    returns-4)

@@ -1,0 +1,41 @@
+use Rattle.script.specs.Script.{wholeBytes}
+use Rattle.hexes.specs.declared.Rest.{Rest}
+use mathlib.Core.Path.{refl, sym, ap, _∙_}
+use borrow.Author.Needs.{needs}
+use Rattle.script.proofs.whole_bytes.Statement.{statement}
+use Rattle.script.proofs.whole_bytes.Tie as tie
+use Rattle.script.proofs.whole_bytes.Reads as reads
+use Rattle.script.proofs.whole_bytes.Lts as lts
+
+enum-told : tie.Need-enum-told
+enum-told c = search needs
+
+enum-told-2 : tie.Need-enum-told-2
+enum-told-2 c = search needs
+
+enum-told-3 : tie.Need-enum-told-3
+enum-told-3 c = search needs
+
+enum-told-4 : tie.Need-enum-told-4
+enum-told-4 c = search needs
+
+returns : tie.Need-returns
+unfolding wholeBytes
+returns c = ap (λ (x : Rest). wholeBytes (c .before .before .args .n) x) (sym (c .enum-told .given .1))
+
+returns-2 : tie.Need-returns-2
+unfolding wholeBytes
+returns-2 c = ap (λ (x : Rest). wholeBytes (c .before .before .args .n) x) (sym (c .enum-told2 .given .1))
+
+returns-3 : tie.Need-returns-3
+unfolding wholeBytes
+returns-3 c = ap (λ (x : Rest). wholeBytes (c .before .before .args .n) x) (sym (c .enum-told3 .given .1))
+
+returns-4 : tie.Need-returns-4
+unfolding wholeBytes
+returns-4 c = ap (λ (x : Rest). wholeBytes (c .before .before .args .n) x) (sym (c .enum-told4 .given .1))
+
+pub whole-bytes-spec : {M : Type 1} → statement M
+whole-bytes-spec =
+    tie.close
+    (tie.spec enum-told enum-told-2 enum-told-3 enum-told-4 returns returns-2 returns-3 returns-4)

@@ -1,0 +1,2 @@
+-- The input of `walk`: document 01, "Examples to hold it to".
+pub mod Script

@@ -1,0 +1,348 @@
+// The input of the program `walk`: a line of bytes to a setting or an answer. Document 01, "Examples to hold it to".
+ghost use mathlib.Core.Path.{_≡_};
+ghost use mathlib.Core.Bool.{true};
+ghost use Rattle.lines.specs.Lines.{hasKey};
+ghost use Rattle.script.specs.Script.{begun, after, taken, takesPath, takesBoot, takesLimit, takesSize, takesClock};
+ghost use Rattle.script.specs.Script.{replyKey, statusSaid, takesStatus, takesAnswer, isStatus, isReply, wholeBytes, takesReply, read, takesAfter, isWhole, takes, keptOf};
+ghost use Rattle.script.specs.Script.{textRead, textTaken, wholeRead, endsAnswer, atEnd};
+use hexes::Held;
+use hexes::Rest;
+use unspelling::Number;
+use unspelling::Spelled;
+
+const PATH: [u16; 5] = [112, 97, 116, 104, 61];
+
+const LIMIT: [u16; 6] = [108, 105, 109, 105, 116, 61];
+
+const SIZE: [u16; 5] = [115, 105, 122, 101, 61];
+
+const NOW: [u16; 4] = [110, 111, 119, 61];
+
+const BOOT: [u16; 5] = [98, 111, 111, 116, 61];
+
+const STATUS: [u16; 7] = [115, 116, 97, 116, 117, 115, 61];
+
+const REPLY: [u16; 6] = [114, 101, 112, 108, 121, 61];
+
+// The line that was read last.
+pub enum Last {
+    Nothing,
+    Path,
+    Limit,
+    Size,
+    Now,
+    Boot,
+    Clock,
+    Status,
+    Reply,
+    // not of the form
+    Other,
+}
+
+// What was read: the settings, and the answer that comes. The units of path and bootstrap DC and the bytes of the reply are lent.
+pub struct Script {
+    pub last: Last,
+    pub path: usize,
+    pub limit: u32,
+    pub size: u32,
+    pub clock: u32,
+    pub boot: usize,
+    pub status: u32,
+    pub reply: usize,
+}
+
+pub fn begin() -> Script
+    ensures { λ r. ⌜ r ≡ begun ⌝ }
+{
+    Script {
+        last: Last::Nothing,
+        path: 0,
+        limit: 0,
+        size: 0,
+        clock: 0,
+        boot: 0,
+        status: 0,
+        reply: 0,
+    }
+}
+
+fn with_last(s: Script, last: Last) -> Script
+    ensures { λ r. ⌜ r ≡ after last s ⌝ }
+{
+    Script {
+        last,
+        path: s.path,
+        limit: s.limit,
+        size: s.size,
+        clock: s.clock,
+        boot: s.boot,
+        status: s.status,
+        reply: s.reply,
+    }
+}
+
+// What a line with this key spells, into a lent buffer.
+fn text_line(key: &[u16], line: &[u16], out: &mut [u16]) -> Spelled
+    ensures { λ r. ⌜ textRead r (now (out .exit)) ≡ textTaken (now (key .entry)) (now (line .entry)) (now (out .entry)) ⌝ }
+{
+    if !lines::has_key(key, line) {
+        return Spelled::Bad;
+    }
+    let from = key.len();
+    let Spelled::Units(n) = unspelling::spelled_form(&line[from..]) else {
+        return Spelled::Bad;
+    };
+    if out.len() < n {
+        return Spelled::Bad;
+    }
+    unspelling::unspell(&line[from..], out, 0);
+    Spelled::Units(n)
+}
+
+fn status_of(line: &[u16]) -> Number
+    ensures { λ r. ⌜ r ≡ statusSaid (now (line .entry)) ⌝ }
+{
+    let key = STATUS;
+    if !lines::has_key(&key, line) {
+        return Number::None;
+    }
+    if line.len() != 15 {
+        return Number::None;
+    }
+    if !hexes::all_hex(&line[7..]) {
+        return Number::None;
+    }
+    Number::Value(hexes::number(&line[7..]))
+}
+
+// Whether the digits of a reply are whole bytes: n that are kept, and the rest.
+fn whole_bytes(n: usize, rest: Rest) -> bool
+    ensures { λ r. ⌜ r ≡ wholeBytes n rest ⌝ }
+{
+    match rest {
+        Rest::None => n % 2 == 0,
+        Rest::Even => n % 2 == 0,
+        Rest::Odd => n % 2 == 1,
+        Rest::Other => false,
+    }
+}
+
+fn take_path(s: Script, line: &[u16], path: &mut [u16]) -> Script
+    ensures { λ r. ⌜ taken r (now (path .exit)) ≡ takesPath s (now (line .entry)) (now (path .entry)) ⌝ }
+{
+    let key = PATH;
+    let Spelled::Units(n) = text_line(&key, line, path) else {
+        return with_last(s, Last::Other);
+    };
+    let mut t = s;
+    t.path = n;
+    with_last(t, Last::Path)
+}
+
+fn take_boot(s: Script, line: &[u16], boot: &mut [u16]) -> Script
+    ensures { λ r. ⌜ taken r (now (boot .exit)) ≡ takesBoot s (now (line .entry)) (now (boot .entry)) ⌝ }
+{
+    let key = BOOT;
+    let Spelled::Units(n) = text_line(&key, line, boot) else {
+        return with_last(s, Last::Other);
+    };
+    let mut t = s;
+    t.boot = n;
+    with_last(t, Last::Boot)
+}
+
+fn take_limit(s: Script, line: &[u16]) -> Script
+    ensures { λ r. ⌜ r ≡ takesLimit s (now (line .entry)) ⌝ }
+{
+    let key = LIMIT;
+    let Number::Value(n) = lines::number_line(&key, line) else {
+        return with_last(s, Last::Other);
+    };
+    let mut t = s;
+    t.limit = n;
+    with_last(t, Last::Limit)
+}
+
+fn take_size(s: Script, line: &[u16]) -> Script
+    ensures { λ r. ⌜ r ≡ takesSize s (now (line .entry)) ⌝ }
+{
+    let key = SIZE;
+    let Number::Value(n) = lines::number_line(&key, line) else {
+        return with_last(s, Last::Other);
+    };
+    let mut t = s;
+    t.size = n;
+    with_last(t, Last::Size)
+}
+
+// A line of the time: of the settings, or before a status.
+fn take_clock(s: Script, line: &[u16], last: Last) -> Script
+    ensures { λ r. ⌜ r ≡ takesClock last s (now (line .entry)) ⌝ }
+{
+    let key = NOW;
+    let Number::Value(n) = lines::number_line(&key, line) else {
+        return with_last(s, Last::Other);
+    };
+    let mut t = s;
+    t.clock = n;
+    with_last(t, last)
+}
+
+fn take_status(s: Script, line: &[u16]) -> Script
+    ensures { λ r. ⌜ r ≡ takesStatus s (now (line .entry)) ⌝ }
+{
+    let Number::Value(n) = status_of(line) else {
+        return with_last(s, Last::Other);
+    };
+    let mut t = s;
+    t.status = n;
+    with_last(t, Last::Status)
+}
+
+// The first line of an answer.
+fn take_answer(s: Script, line: &[u16]) -> Script
+    ensures { λ r. ⌜ r ≡ takesAnswer s (now (line .entry)) ⌝ }
+{
+    let key = NOW;
+    if lines::has_key(&key, line) {
+        return take_clock(s, line, Last::Clock);
+    }
+    take_status(s, line)
+}
+
+fn take_reply(s: Script, line: &[u16], rest: Rest, reply: &mut [u8]) -> Script
+    requires { ⌜ hasKey replyKey (now line) ≡ true ⌝ }
+    ensures { λ r. ⌜ taken r (now (reply .exit)) ≡ takesReply s (now (line .entry)) rest (now (reply .entry)) ⌝ }
+{
+    let digits = &line[6..];
+    if !whole_bytes(digits.len(), rest) {
+        return with_last(s, Last::Other);
+    }
+    if !hexes::all_hex(digits) {
+        return with_last(s, Last::Other);
+    }
+    let mut t = s;
+    t.reply = hexes::put_bytes(digits, reply);
+    with_last(t, Last::Reply)
+}
+
+fn is_status(last: Last) -> bool
+    ensures { λ r. ⌜ r ≡ isStatus last ⌝ }
+{
+    match last {
+        Last::Nothing => false,
+        Last::Path => false,
+        Last::Limit => false,
+        Last::Size => false,
+        Last::Now => false,
+        Last::Boot => false,
+        Last::Clock => false,
+        Last::Status => true,
+        Last::Reply => false,
+        Last::Other => false,
+    }
+}
+
+// Whether a line is the reply of the status that was read last.
+fn is_reply(s: Script, line: &[u16]) -> bool
+    ensures { λ r. ⌜ r ≡ isReply s (now (line .entry)) ⌝ }
+{
+    let last = s.last;
+    if !is_status(last) {
+        return false;
+    }
+    let key = REPLY;
+    lines::has_key(&key, line)
+}
+
+fn is_whole(rest: Rest) -> bool
+    ensures { λ r. ⌜ r ≡ isWhole rest ⌝ }
+{
+    match rest {
+        Rest::None => true,
+        Rest::Even => false,
+        Rest::Odd => false,
+        Rest::Other => false,
+    }
+}
+
+// A line that is kept whole.
+fn take_whole(s: Script, line: &[u16], path: &mut [u16], boot: &mut [u16]) -> Script
+    ensures { λ r. ⌜ wholeRead r (now (path .exit)) (now (boot .exit)) ≡ takesAfter (s .last) s (now (line .entry)) (now (path .entry)) (now (boot .entry)) ⌝ }
+{
+    let last = s.last;
+    match last {
+        Last::Nothing => take_path(s, line, path),
+        Last::Path => take_limit(s, line),
+        Last::Limit => take_size(s, line),
+        Last::Size => take_clock(s, line, Last::Now),
+        Last::Now => take_boot(s, line, boot),
+        Last::Boot => take_answer(s, line),
+        Last::Clock => take_status(s, line),
+        Last::Status => take_answer(s, line),
+        Last::Reply => take_answer(s, line),
+        Last::Other => s,
+    }
+}
+
+// The line that is held, read by what was read last.
+pub fn take_line(
+    s: Script,
+    line: &[u16],
+    held: Held,
+    path: &mut [u16],
+    boot: &mut [u16],
+    reply: &mut [u8],
+) -> Script
+    ensures { λ r. ⌜ read r (now (path .exit)) (now (boot .exit)) (now (reply .exit)) ≡ takes s (keptOf (now (line .entry)) held) (held .rest) (now (path .entry)) (now (boot .entry)) (now (reply .entry)) ⌝ }
+{
+    let n = hexes::least(held.kept, line.len());
+    let rest = held.rest;
+    if is_reply(s, &line[..n]) {
+        return take_reply(s, &line[..n], rest, reply);
+    }
+    if !is_whole(rest) {
+        return with_last(s, Last::Other);
+    }
+    take_whole(s, &line[..n], path, boot)
+}
+
+// Whether the status that was read last is an answer to an I/O try: the line that is held is no reply.
+pub fn ends_answer(s: Script, line: &[u16], held: Held) -> bool
+    ensures { λ r. ⌜ r ≡ endsAnswer s (keptOf (now (line .entry)) held) ⌝ }
+{
+    let last = s.last;
+    if !is_status(last) {
+        return false;
+    }
+    let n = hexes::least(held.kept, line.len());
+    let key = REPLY;
+    !lines::has_key(&key, &line[..n])
+}
+
+// What the end of the input means.
+pub enum Close {
+    // the status that was read last is an answer to an I/O try
+    Answers,
+    Stops,
+    // not of the form
+    Refused,
+}
+
+pub fn at_end(s: Script) -> Close
+    ensures { λ r. ⌜ r ≡ atEnd (s .last) ⌝ }
+{
+    let last = s.last;
+    match last {
+        Last::Nothing => Close::Refused,
+        Last::Path => Close::Refused,
+        Last::Limit => Close::Refused,
+        Last::Size => Close::Refused,
+        Last::Now => Close::Refused,
+        Last::Boot => Close::Stops,
+        Last::Clock => Close::Refused,
+        Last::Status => Close::Answers,
+        Last::Reply => Close::Stops,
+        Last::Other => Close::Refused,
+    }
+}

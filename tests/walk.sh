@@ -1,0 +1,48 @@
+#!/usr/bin/env bash
+# The program `walk`, proved and linked, on vectors/walk, and on lines at and over the bounds of their length.
+set -eu
+cd "$(dirname "$0")/.."
+folder=$(mktemp -d)
+trap 'rm -rf "$folder"' EXIT
+rt check walk >"$folder/log" 2>&1 || { cat "$folder/log"; exit 1; }
+walk=target/bin/walk good=0 bad=0
+compare() { # NAME INPUT EXPECTED
+    if "$walk" <"$2" 2>/dev/null | cmp -s - "$3"; then good=$((good + 1)); else bad=$((bad + 1)); echo "differs: $1"; fi
+}
+for i in vectors/walk/*.in; do compare "$i" "$i" "${i%.in}.out"; done
+
+# NAME EXPECTED, with the input in $folder/in: what is printed after the question
+settings='path=\\files\s1\nlimit=4\nsize=8192\nnow=100\nboot=dc1\n'
+question='ask=root\nto=files\nname=\\files\\s1\nsize=8192\n'
+after() {
+    printf "$question$2" >"$folder/out"
+    compare "$1" "$folder/in" "$folder/out"
+}
+digits() { head -c "$1" /dev/zero | tr '\0' 0; }
+answer() { printf '%b' "${settings//\\\\/\\\\\\\\}status=00000000\nreply="; }
+ended='end=25\nstatus=00000000\npath=\\files\\s1\nmoves=1\n'
+# a reply of any length is read to its end: an even number of digits is malformed for its length, an odd one not of the form
+for n in 131064 131066 131068 400000; do
+    { answer; digits "$n"; printf '\n'; } >"$folder/in"
+    after "a reply of $n digits" "$ended"
+    { answer; digits "$((n + 1))"; printf '\n'; } >"$folder/in"
+    after "a reply of $((n + 1)) digits" 'refused=0\n'
+    { answer; digits "$n"; printf 'g0\n'; } >"$folder/in"
+    after "a reply with another byte after $n digits" 'refused=0\n'
+done
+# any other line over 131,072 bytes is not of the form; one of that length is
+for n in 131067 131068; do
+    { printf 'path='; head -c "$n" /dev/zero | tr '\0' a; printf '\nlimit=4\nsize=8192\nnow=100\nboot=dc1\n'; } >"$folder/in"
+    if [ "$n" -eq 131067 ]; then printf 'refused=1\n' >"$folder/out"; else printf 'refused=0\n' >"$folder/out"; fi
+    compare "a path of $n bytes" "$folder/in" "$folder/out"
+done
+# nothing, and bytes of every value
+: >"$folder/in"
+printf 'refused=0\n' >"$folder/out"
+compare "no input" "$folder/in" "$folder/out"
+for n in 1 100 5000 300000; do
+    head -c "$n" /dev/urandom >"$folder/in"
+    compare "$n random bytes" "$folder/in" "$folder/out"
+done
+echo "walk: $good passed, $bad failed"
+[ "$bad" -eq 0 ]

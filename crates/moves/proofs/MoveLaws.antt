@@ -25,7 +25,7 @@ use Rattle.laws.proofs.Tests.{not-both}
 use Rattle.unc.specs.declared.Written.{Written}
 use Rattle.unc.specs.declared.Written.the-variants.{Units, TooLong}
 use Rattle.texts.specs.Texts.{textsOf, withTried, Standing}
-use Rattle.texts.proofs.TextLaws.{length-texts, path-in, put-fits, put-long, tried-taken, taken-stands, written-units, written-long}
+use Rattle.texts.proofs.TextLaws.{length-texts, put-fits, put-long, tried-taken, written-units, written-long}
 use Rattle.caches.specs.Entries.{Referral, Domain}
 use mathlib.Core.Option.{Option, none, some}
 use Rattle.caches.specs.Order.{goodReferral, goodPrefix, goodTarget}
@@ -44,7 +44,7 @@ use Rattle.steps.specs.declared.Rested.{Rested}
 use Rattle.steps.specs.declared.Matched.{Matched}
 use Rattle.steps.specs.declared.Matched.the-variants.{Fresh, Refresh, Stale, Missed}
 use Rattle.steps.proofs.StepLaws.{domain-untried}
-use Rattle.moves.specs.Moves.{Packed, joined, packed, stepsFrom, calledAt, movedTo, Ready, Usable}
+use Rattle.moves.specs.Moves.{Packed, joined, packed, stepsFrom, calledAt, movedTo, Usable}
 use Rattle.moves.proofs.MatchedLaws.{requestAt, calledBy, hitBy, step2-called, step2-hit}
 
 -- a question put: no move is left, its path tried is too long, or it waits
@@ -258,7 +258,7 @@ unfolding step5With
 with-untried w d = domain-untried w d
 
 -- step 5 puts a question without a path tried, whatever the hit
-pub step5-untried : (raw : List ℕ) (w : Core) → step5 (decode domains raw) w .tried ≡ []
+step5-untried : (raw : List ℕ) (w : Core) → step5 (decode domains raw) w .tried ≡ []
 unfolding step5
 step5-untried raw w = go (domainNamed (getD (components (w .path)) 0 []) (decode domains raw))
   where
@@ -303,13 +303,13 @@ module _ (w : Core) (e : Referral) where
       go (inr t) (inl u) = absurd (not-both (and-both (ap not t) u) h)
       go (inr t) (inr u) = choose-no _ _ t ∙ choose-no _ _ u
 
-pub step7-hit : (p : List ℕ) (s : ℕ) (h g : Bool) (e : Referral) → step7 (coreOf p s h) e ≡ step7 (coreOf p s g) e
+step7-hit : (p : List ℕ) (s : ℕ) (h g : Bool) (e : Referral) → step7 (coreOf p s h) e ≡ step7 (coreOf p s g) e
 unfolding step7 step4 step3 step8 step11
 step7-hit p s h g e = refl
 
 -- a replacement
 module _ (c : Caches) (clock : ℕ) (w : Core) (p : List ℕ) where
-  pub replaces-limit : (left : ℕ) → left ≡ 0 → goes left c clock w (replaces p) ≡ rests w left (ended LimitReached 0 [])
+  replaces-limit : (left : ℕ) → left ≡ 0 → goes left c clock w (replaces p) ≡ rests w left (ended LimitReached 0 [])
   unfolding goes
   replaces-limit zero h = refl
   replaces-limit (suc n) h = absurd (omega arith)

@@ -7,8 +7,7 @@ use Prim.Native.Nat.{ℕ, zero, suc, _+_, _*_, _-_, _/_, _%_, _≤_, _<_}
 use native.Mathlib.Omega.{arith}
 use native.Mathlib.Numerals.{add-one}
 use lib.ListN.{length, take}
-use lib.Dec.{leb}
-use borrow.Author.Tests.{le-leb, leb-true, lt-leb}
+use borrow.Author.Tests.{le-leb, lt-leb}
 use Rattle.laws.specs.Choice.{choose}
 use Rattle.laws.proofs.Choices.{choose-yes, choose-no}
 use Rattle.laws.proofs.Orders.{told, lt-or-le}
@@ -22,7 +21,7 @@ use Rattle.caches.specs.Memory.{referrals, domains, decode, inOrder}
 use Rattle.caches.proofs.MemoryLaws.{cache-told, order-good, length-decode}
 use Rattle.lookup.specs.Lookup.{entryAt}
 use Rattle.lookup.specs.declared.Found.the-variants.{Nothing}
-use Rattle.steps.specs.Steps.{Core, Called, stops, asks, replaces, Rest, ended, rests, goes, hitAt, withHit, withPath, step2, step3, step5, step7, step11, linkRequest, asking, step8}
+use Rattle.steps.specs.Steps.{Core, asks, asking, hitAt, withHit, withPath, step2, step5, step7, step8, step11, linkRequest}
 use Rattle.steps.specs.Rested.{cachesOf, coreOf, restedOf, endedAt, turning, step2In}
 use Rattle.steps.specs.declared.End.the-variants.{LimitReached}
 use Rattle.steps.specs.declared.End.the-variants as ends
@@ -195,12 +194,12 @@ module _ (refs texts : List ℕ) (n i left : ℕ) (r : Ready refs texts n) (u : 
   pub fresh-small : pointFresh refs (take n texts) i < 131072
   fresh-small = omega (arith, fresh-is, what-few, place-is, few-units)
 
-  pub fresh-point : left < 65536 → Point refs texts (pointFresh refs (take n texts) i + 131072 * left)
+  fresh-point : left < 65536 → Point refs texts (pointFresh refs (take n texts) i + 131072 * left)
   fresh-point l =
       subst (λ (k : ℕ). Point refs texts (k + 131072 * left)) (sym fresh-is)
       (point-made what i n left what-few place-is few-units refs texts l r (λ h. u) (λ h. u .fits))
 
-  pub fresh-steps : (doms : List ℕ) (size clock : ℕ) → stepsAt refs doms size clock (pointFresh refs (take n texts) i + 131072 * left) texts
+  fresh-steps : (doms : List ℕ) (size clock : ℕ) → stepsAt refs doms size clock (pointFresh refs (take n texts) i + 131072 * left) texts
       ≡ stepsFrom left refs doms clock (coreOf (take n texts) size true) (step7 (coreOf (take n texts) size true) (entryAt referrals i refs))
   unfolding what
   fresh-steps doms size clock =
@@ -244,7 +243,7 @@ module _ (refs texts : List ℕ) (n : ℕ) (r : Ready refs texts n) (clock : ℕ
   small-as Stale h = omega (arith, few-there, are-there)
   small-as Missed h = omega (arith, few-there, are-there)
 
-  pub found-small : pointFound refs (take n texts) (step2In clock (take n texts) refs) < 131072
+  found-small : pointFound refs (take n texts) (step2In clock (take n texts) refs) < 131072
   found-small = small-as (step2In clock (take n texts) refs) refl
 
   point-as : (left : ℕ) → left < 65536 → (m : Matched) → step2In clock (take n texts) refs ≡ m → Point refs texts (pointFound refs (take n texts) m + 131072 * left)
@@ -260,7 +259,7 @@ module _ (refs texts : List ℕ) (n : ℕ) (r : Ready refs texts n) (clock : ℕ
       subst (λ (k : ℕ). Point refs texts (k + 131072 * left)) (sym (request-is 5 0))
       (point-made 5 0 n left (omega arith) (omega arith) few-there refs texts l r (λ z. absurd (omega arith)) (λ z. absurd (omega arith)))
 
-  pub found-point : (left : ℕ) → left < 65536 → Point refs texts (pointFound refs (take n texts) (step2In clock (take n texts) refs) + 131072 * left)
+  found-point : (left : ℕ) → left < 65536 → Point refs texts (pointFound refs (take n texts) (step2In clock (take n texts) refs) + 131072 * left)
   found-point left l = point-as left l (step2In clock (take n texts) refs) refl
 
   module _ (doms : List ℕ) (size left : ℕ) (hit : Bool) where
@@ -286,7 +285,7 @@ module _ (refs texts : List ℕ) (n : ℕ) (r : Ready refs texts n) (clock : ℕ
         ∙ (steps-made 5 0 n left (omega arith) (omega arith) few-there refs doms texts size clock
         ∙ ap (λ (b : Bool). stepsFrom left refs doms clock (coreOf (take n texts) size b) (asks (step5 (decode domains doms) (coreOf (take n texts) size b)))) (sym (t refl))))
 
-    pub found-steps : (step2In clock (take n texts) refs ≡ Missed → hit ≡ true)
+    found-steps : (step2In clock (take n texts) refs ≡ Missed → hit ≡ true)
         → stepsAt refs doms size clock (pointFound refs (take n texts) (step2In clock (take n texts) refs) + 131072 * left) texts ≡ looked
     found-steps t = steps-as (step2In clock (take n texts) refs) refl t
 
@@ -301,7 +300,7 @@ found-not-long refs path (Refresh i) h = omega arith
 found-not-long refs path Stale h = omega arith
 found-not-long refs path Missed h = omega arith
 
-pub found-was-missed : (refs path : List ℕ) (m : Matched) → pointFound refs path m % 8 ≡ 5 → m ≡ Missed
+found-was-missed : (refs path : List ℕ) (m : Matched) → pointFound refs path m % 8 ≡ 5 → m ≡ Missed
 unfolding pointFound pointFresh
 found-was-missed refs path (Fresh i) h = absurd (let z : (choose (turning path (entryAt referrals i refs)) 1 0 + 8 * i + 256 * length path) % 8 < 2 = fresh-mod (turning path (entryAt referrals i refs)) i (length path) in omega arith)
 found-was-missed refs path (Refresh i) h = absurd (omega arith)
@@ -518,7 +517,7 @@ module _ (refs doms texts : List ℕ) (len left size clock : ℕ) (hit : Bool) (
   short-enough : length (take len texts) ≤ 256
   short-enough = omega (arith, standing-path len texts (r .standing), r .standing .few)
 
-  pub start-rooms : o ≡ texts
+  start-rooms : o ≡ texts
   unfolding goneTo
   start-rooms = v ∙ sym (path-stays refs texts len 0 (r .standing) refl .1)
 
@@ -537,7 +536,7 @@ module _ (refs doms texts : List ℕ) (len left size clock : ℕ) (hit : Bool) (
       subst (λ (k : ℕ). Point refs o k) (sym (d ∙ ap (λ (k : ℕ). k + 131072 * left) start-found))
       (subst (λ (q : List ℕ). Point refs q (pointFound refs (take len texts) (step2In clock (take len texts) refs) + 131072 * left)) (sym start-rooms) (found-point refs texts len r clock left l))
 
-  pub start-missed : m % 8 ≡ 5 → step2In clock (take len texts) refs ≡ Missed
+  start-missed : m % 8 ≡ 5 → step2In clock (take len texts) refs ≡ Missed
   start-missed h = found-was-missed refs (take len texts) (step2In clock (take len texts) refs) (ap (λ (k : ℕ). k % 8) (sym start-found) ∙ h)
 
   pub start-steps : {s : ℕ} {x : Packed} → (m % 8 ≡ 5 → ⊥) → s ≡ m + 131072 * left → x ≡ stepsAt refs doms size clock s o

@@ -236,15 +236,17 @@ fn round(limit: u32) -> usize {
     used
 }
 
-// A reply with one entry, a link by Interlink.
-fn link_reply(prefix: &str, target: &str) -> Vec<u8> {
+// A reply of version 3, with an entry for each target; `kind` is 1 for a root, 0 for a link by Interlink.
+fn reply(kind: u16, prefix: &str, targets: &[String]) -> Vec<u8> {
     let text = |s: &str| -> Vec<u8> { units(s).iter().chain(&[0]).flat_map(|u| u.to_le_bytes()).collect() };
-    let (prefix, target) = (text(prefix), text(target));
-    let mut reply: Vec<u8> = [0u16, 1, 1, 0, 3, 34, 0, 0, 300, 0, 34, 34, 34 + prefix.len() as u16].iter().flat_map(|u| u.to_le_bytes()).collect();
-    reply.extend([0; 16]);
-    reply.extend(prefix);
-    reply.extend(target);
-    reply
+    let mut numbers = vec![0u16, targets.len() as u16, 1, 0];
+    let mut texts = text(prefix);
+    for (i, target) in targets.iter().enumerate() {
+        let after = 34 * (targets.len() - i);
+        numbers.extend([3, 34, kind, 0, 300, 0, after as u16, after as u16, (after + texts.len()) as u16, 0, 0, 0, 0, 0, 0, 0, 0]);
+        texts.extend(text(target));
+    }
+    numbers.iter().flat_map(|u| u.to_le_bytes()).chain(texts).collect()
 }
 
 // The same after an answer: a root request to a DC brings a link that leads into the round. The buffer is shorter than the longest
@@ -255,10 +257,30 @@ fn round_after(limit: u32) -> usize {
     assert_eq!(calls::start(&host.caches.refs, &host.caches.doms, &mut host.walk, &units("\\d\\x\\c"), &units("dc1"), limit, 8192, 100, &mut out), 0);
     assert_eq!(host.waits().unwrap(), Some([2, 8192, 1]));
     stack::most();
-    let n = calls::answer_referral(&mut host.caches.refs, &mut host.caches.doms, &mut host.walk, 0, &link_reply("\\d\\x", "\\a\\b"), 100, &mut out);
+    let n = calls::answer_referral(&mut host.caches.refs, &mut host.caches.doms, &mut host.walk, 0, &reply(0, "\\d\\x", &["\\a\\b".to_string()]), 100, &mut out);
     let used = stack::most()["dfsc_answer_referral"];
     assert_eq!(n, 0);
     host.shows(&format!("end=24 status=00000000 path=\\a\\b\\c moves={limit}")).unwrap();
+    used
+}
+
+// An answer that refreshes an expired root of eight targets by the same eight, which are compared one inside the other.
+fn refreshed() -> usize {
+    let targets: Vec<String> = (0..8).map(|i| format!("\\t{i}\\s")).collect();
+    let entry: Vec<String> = targets.iter().map(|t| format!("target boundary=0 path={t}")).collect();
+    let mut lines = vec!["referrals places=1", "entry place=0 prefix=\\d\\x kind=root interlink=0 failback=0 ttl=1 taken=1 hint=7"];
+    lines.extend(entry.iter().map(String::as_str));
+    lines.extend(&WARM[3..]);
+    let mut host = Host { caches: Caches::read(&lines), walk: vec![0; WALK] };
+    let mut out = [0; 515];
+    assert_eq!(calls::start(&host.caches.refs, &host.caches.doms, &mut host.walk, &units("\\d\\x\\c"), &units("dc1"), 64, 8192, 100, &mut out), 0);
+    assert_eq!(host.waits().unwrap(), Some([2, 8192, 1]));
+    stack::most();
+    let n = calls::answer_referral(&mut host.caches.refs, &mut host.caches.doms, &mut host.walk, 0, &reply(1, "\\d\\x", &targets), 100, &mut out);
+    let used = stack::most()["dfsc_answer_referral"];
+    assert_eq!(n, 0);
+    // the hint is kept, so the targets were equivalent
+    host.shows("ask=io to=\\t7\\s name=\\t7\\s\\c moves=2").unwrap();
     used
 }
 
@@ -324,6 +346,7 @@ fn all() -> bool {
     for limit in [2, 64] {
         within(&format!("an answer after 1 of {limit} moves, the rest round"), round_after(limit), CALL_GOAL);
     }
+    within("an answer that refreshes eight targets", refreshed(), CALL_GOAL);
     counts.wrong == 0
 }
 

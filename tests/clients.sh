@@ -5,7 +5,7 @@ set -eu
 cd "$(dirname "$0")/.."
 folder=$(mktemp -d)
 trap 'rm -rf "$folder"' EXIT
-rt staticlib dfsc >"$folder/log" 2>&1 || { cat "$folder/log"; exit 1; }
+tests/library dfsc
 for e in resolve moved_link; do
     cc -O2 -Wall -Werror -Iinclude "host/examples/$e.c" target/staticlib/libdfsc.a -o "$folder/$e"
     "$folder/$e" >"$folder/$e.out"

@@ -4,11 +4,7 @@
 # take (host/walks).
 set -eu
 cd "$(dirname "$0")/.."
-log=$(mktemp)
-trap 'rm -f "$log"' EXIT
-for c in wire probe dfsc; do
-    rt staticlib "$c" >"$log" 2>&1 || { cat "$log"; exit 1; }
-done
+tests/library wire probe dfsc
 for t in layouts bench listing walks; do
     cargo run --quiet --release --offline --manifest-path "host/$t/Cargo.toml"
 done

@@ -6,10 +6,7 @@ cd "$(dirname "$0")/.."
 command -v valgrind >/dev/null || { echo "memory: there is no valgrind on this machine"; exit 1; }
 log=$(mktemp)
 trap 'rm -f "$log"' EXIT
-lib=target/staticlib/libdfsc.a
-if [ ! -e "$lib" ] || [ -n "$(find crates crates.txt -newer "$lib" -print -quit)" ]; then
-    rt staticlib dfsc >"$log" 2>&1 || { cat "$log"; exit 1; }
-fi
+tests/library dfsc
 cargo build --quiet --release --offline --manifest-path host/model/Cargo.toml
 model=${CARGO_TARGET_DIR:-host/model/target}/release/model
 

@@ -111,7 +111,7 @@ pub extern "C" fn dfsc_question(walk: &[u16], out: &mut [u32]) -> u32
     ensures { λ r. ⌜ seen r (now (out .exit)) ≡ questionSeen (now (walk .entry)) (now (out .entry)) ⌝ }
 {
     let n = holding::head_units(walk);
-    let s = shown::question_numbers(holding::held(walk), &walk[n..], out);
+    let s = numbers::question_numbers(holding::held(walk), &walk[n..], out);
     holding::shown_result(s)
 }
 
@@ -121,7 +121,7 @@ pub extern "C" fn dfsc_end_path(walk: &[u16], out: &mut [u16]) -> u32
     ensures { λ r. ⌜ seen r (now (out .exit)) ≡ pathSeen (now (walk .entry)) (now (out .entry)) ⌝ }
 {
     let n = holding::head_units(walk);
-    let s = shown::end_path(holding::held(walk), &walk[n..], out);
+    let s = numbers::end_path(holding::held(walk), &walk[n..], out);
     holding::shown_result(s)
 }
 
@@ -131,7 +131,7 @@ pub extern "C" fn dfsc_end(walk: &[u16], out: &mut [u32]) -> u32
     ensures { λ r. ⌜ seen r (now (out .exit)) ≡ endSeen (now (walk .entry)) (now (out .entry)) ⌝ }
 {
     let n = holding::head_units(walk);
-    let s = shown::end_numbers(holding::held(walk), &walk[n..], out);
+    let s = numbers::end_numbers(holding::held(walk), &walk[n..], out);
     holding::shown_result(s)
 }
 

@@ -183,5 +183,5 @@ pub fn domain_request(out: &mut [u8]) -> Asked
     ensures buffer { λ v. ⌜ now (out .exit) ≡ bufferWith [] (now (out .entry)) ⌝ }
 {
     let none: [u16; 0] = [];
-    referral::request(&none, out)
+    requests::request(&none, out)
 }

@@ -7,13 +7,13 @@ ghost use Rattle.referral.specs.Replies.{says, readReferral};
 ghost use Rattle.referral.specs.Found.{referralShown};
 ghost use Rattle.namelists.specs.NameLists.{readDcs};
 ghost use Rattle.steps.specs.declared.Kind.the-variants.{Dc};
-ghost use Rattle.steps.specs.Steps.{emptyEnd, pathNotFound, coversNothing, dcAnswer, referralAnswer, referralSucceeds, referralAnswered, turned};
+ghost use Rattle.steps.specs.Steps.{emptyEnd, pathNotFound, coversNothing, dcAnswer, referralAnswer, turned};
 ghost use Rattle.steps.specs.Rested.{cachesOf, coreOf, endedAt};
 ghost use Rattle.moves.specs.Moves.{joined, packed};
 ghost use Rattle.rounds.specs.Rounds.{questionOf};
 ghost use Rattle.answers.specs.Answers.{domainsLeft};
 ghost use Rattle.hints.specs.Hints.{referralsLeft, Answering};
-ghost use Rattle.events.specs.Events.{Awaiting, Using, Asked};
+ghost use Rattle.events.specs.Events.{Using, Asked};
 use lookup::Found;
 use referral::Answer;
 use referral::ReferralFound;
@@ -25,11 +25,6 @@ use steps::Rested;
 const PATH_NOT_FOUND: u32 = 0xC000003A;
 
 const PATH_NOT_COVERED: u32 = 0xC0000257;
-
-// Severity is the top two bits of a status; 2 and 3 fail a referral.
-const SEVERITY: u32 = 0x40000000;
-
-const WARNING: u32 = 2;
 
 // The end of a reply without an entry.
 fn empty_end(kind: Kind) -> End
@@ -106,7 +101,7 @@ fn said(
 }
 
 // A root, link or SYSVOL reply; the name asked is the first `name` units of the path.
-fn referral_reply(
+pub fn referral_reply(
     refs: &mut [u16],
     doms: &mut [u16],
     rooms: &mut [u16],
@@ -148,7 +143,7 @@ fn referral_reply(
 }
 
 // A DC reply, into the domain of the first component.
-fn dc_reply(
+pub fn dc_reply(
     refs: &[u16],
     doms: &mut [u16],
     rooms: &mut [u16],
@@ -180,128 +175,6 @@ fn dc_reply(
         i,
         q.size,
         reply,
-        room,
-    )
-}
-
-// A referral that succeeded.
-fn succeeded(
-    refs: &mut [u16],
-    doms: &mut [u16],
-    rooms: &mut [u16],
-    len: usize,
-    left: u16,
-    hit: bool,
-    size: u32,
-    q: Asking,
-    reply: &[u8],
-    clock: u32,
-    room: usize,
-) -> Rested
-    requires { ⌜ Using (now refs) (now doms) (now rooms) len q ⌝ }
-    ensures rest { λ r. ⌜ joined r (now (rooms .exit)) ≡ packed (turned left clock (referralSucceeds (cachesOf (now (refs .entry)) (now (doms .entry))) (coreOf (take len (now (rooms .entry))) size hit) (questionOf q []) (now (reply .entry)) clock)) ⌝ }
-    ensures refs { λ r. ⌜ now (refs .exit) ≡ referralsLeft room left clock (referralSucceeds (cachesOf (now (refs .entry)) (now (doms .entry))) (coreOf (take len (now (rooms .entry))) size hit) (questionOf q []) (now (reply .entry)) clock) (now (refs .entry)) ⌝ }
-    ensures doms { λ r. ⌜ now (doms .exit) ≡ domainsLeft room left clock (referralSucceeds (cachesOf (now (refs .entry)) (now (doms .entry))) (coreOf (take len (now (rooms .entry))) size hit) (questionOf q []) (now (reply .entry)) clock) (now (doms .entry)) ⌝ }
-{
-    let kind = q.kind;
-    let two = matching::first_end(&rooms[..len], 2);
-    match kind {
-        Kind::Dc => dc_reply(
-            refs,
-            doms,
-            rooms,
-            len,
-            left,
-            hit,
-            size,
-            q,
-            reply,
-            clock,
-            room,
-        ),
-        Kind::Root => referral_reply(
-            refs,
-            doms,
-            rooms,
-            len,
-            left,
-            hit,
-            size,
-            q,
-            two,
-            reply,
-            clock,
-            room,
-        ),
-        Kind::Link => referral_reply(
-            refs,
-            doms,
-            rooms,
-            len,
-            left,
-            hit,
-            size,
-            q,
-            len,
-            reply,
-            clock,
-            room,
-        ),
-        Kind::Sysvol => referral_reply(
-            refs,
-            doms,
-            rooms,
-            len,
-            left,
-            hit,
-            size,
-            q,
-            two,
-            reply,
-            clock,
-            room,
-        ),
-        Kind::Io => steps::end_at(End::Malformed, 0, len, left, hit),
-    }
-}
-
-// The answer to the referral request q. `rooms` are those of the path and of the path tried.
-pub fn referral_answer(
-    refs: &mut [u16],
-    doms: &mut [u16],
-    rooms: &mut [u16],
-    len: usize,
-    left: u16,
-    hit: bool,
-    size: u32,
-    q: Asking,
-    status: u32,
-    reply: &[u8],
-    clock: u32,
-    room: usize,
-) -> Rested
-    requires { ⌜ Awaiting (now refs) (now doms) (now rooms) len q ⌝ }
-    ensures rest { λ r. ⌜ joined r (now (rooms .exit)) ≡ packed (turned left clock (referralAnswered (cachesOf (now (refs .entry)) (now (doms .entry))) (coreOf (take len (now (rooms .entry))) size hit) (questionOf q []) status (now (reply .entry)) clock)) ⌝ }
-    ensures refs { λ r. ⌜ now (refs .exit) ≡ referralsLeft room left clock (referralAnswered (cachesOf (now (refs .entry)) (now (doms .entry))) (coreOf (take len (now (rooms .entry))) size hit) (questionOf q []) status (now (reply .entry)) clock) (now (refs .entry)) ⌝ }
-    ensures doms { λ r. ⌜ now (doms .exit) ≡ domainsLeft room left clock (referralAnswered (cachesOf (now (refs .entry)) (now (doms .entry))) (coreOf (take len (now (rooms .entry))) size hit) (questionOf q []) status (now (reply .entry)) clock) (now (doms .entry)) ⌝ }
-{
-    if !rounds::in_use(refs, doms, &rooms[..len], q) {
-        return steps::end_at(End::Gone, 0, len, left, hit);
-    }
-    if WARNING <= status / SEVERITY {
-        return rounds::referral_fails(refs, doms, &rooms[..len], left, hit, size, q, status);
-    }
-    succeeded(
-        refs,
-        doms,
-        rooms,
-        len,
-        left,
-        hit,
-        size,
-        q,
-        reply,
-        clock,
         room,
     )
 }

@@ -41,7 +41,7 @@ pub fn fits(next: Next, path: &[u16], room: usize) -> bool
     let Name::First(n) = next_units(next, path) else {
         return true;
     };
-    referral::request_length(&path[..n]) <= room
+    requests::request_length(&path[..n]) <= room
 }
 
 // The request of the next move, if it fits.
@@ -51,5 +51,5 @@ pub fn put_request(next: Next, path: &[u16], out: &mut [u8])
     let Name::First(n) = next_units(next, path) else {
         return;
     };
-    referral::request(&path[..n], out);
+    requests::request(&path[..n], out);
 }

@@ -2,18 +2,17 @@
 ghost use mathlib.Core.Path.{_≡_};
 ghost use mathlib.Core.Bool.{true, _&&_};
 ghost use lib.Dec.{eqb};
-ghost use mathlib.Core.List.{List, [], _∷_, map};
-ghost use Prim.Native.Nat.{_+_, _-_, _*_, _≤_, _<_, min};
+ghost use mathlib.Core.List.{map};
+ghost use Prim.Native.Nat.{_+_, _≤_, _<_, min};
 ghost use lib.ListN.{length, take};
-ghost use Rattle.laws.specs.Lists.{every, pasted};
-ghost use Rattle.spans.specs.Bytes.{u16At, flag, ended, textAt};
+ghost use Rattle.laws.specs.Lists.{every};
+ghost use Rattle.spans.specs.Bytes.{flag, ended, textAt};
 ghost use Rattle.spans.specs.Spans.{spanned, Inside};
-ghost use Rattle.referral.specs.Request.{bytesOf, request};
 ghost use Rattle.referral.specs.Replies.{pathOf};
-ghost use Rattle.referral.specs.Replies.{referralCount, versionAt, sizeAt, serverTypeAt, starts, entries, fits, readable};
+ghost use Rattle.referral.specs.Replies.{referralCount, versionAt, sizeAt, serverTypeAt, entries, fits, readable};
 ghost use Rattle.referral.specs.Replies.{goodFields, goodEntry, keptTargets, prefixAt, targetAt, referralIn, readReferral};
 ghost use Rattle.referral.specs.Replies.{says};
-ghost use Rattle.referral.specs.Found.{inside, Held, Told, Within, noReferral, opensAt, keptInside, targetShown, denoted, asked, bufferWith};
+ghost use Rattle.referral.specs.Found.{inside, Held, Told, Within, noReferral, opensAt, keptInside, targetShown, denoted, asked};
 use spans::Read;
 use spans::Span;
 
@@ -54,6 +53,18 @@ pub enum Asked {
     Bytes(usize),
     TooShort,
 }
+
+// A DC name, and where the text after it starts.
+// The DC name at a byte; no units where there is none.
+// Whether the n texts from a byte on are DC names.
+// The first 8 of the n DC names from a byte on.
+// The first entry of a DC reply.
+// What a good DC reply says.
+// A DC reply, with the size asked for.
+// The entry at e of a domain reply.
+// All entries of a domain reply.
+// A domain reply, with the size asked for. Of one that says something the names are read one by one: `domain_at` of the entry at 8, then
+// of each that `next_entry` gives.
 
 // Whether the flag m, a power of two, is set.
 pub fn has_flag(m: u32, f: u32) -> bool
@@ -358,59 +369,4 @@ pub fn read_referral(r: &[u8], size: u32, asked: &[u16]) -> ReferralFound
         return no_referral(Answer::Malformed);
     }
     referral_in(r, prefix)
-}
-
-// A DC name, and where the text after it starts.
-// The DC name at a byte; no units where there is none.
-// Whether the n texts from a byte on are DC names.
-// The first 8 of the n DC names from a byte on.
-// The first entry of a DC reply.
-// What a good DC reply says.
-// A DC reply, with the size asked for.
-// The entry at e of a domain reply.
-// All entries of a domain reply.
-// A domain reply, with the size asked for. Of one that says something the names are read one by one: `domain_at` of the entry at 8, then
-// of each that `next_entry` gives.
-
-// The number of bytes of a request for a name.
-pub fn request_length(name: &[u16]) -> usize
-    ensures { λ v. ⌜ v ≡ length (request (now (name .entry))) ⌝ }
-{
-    4 + 2 * name.len()
-}
-
-// A unit as two bytes.
-fn put_pair(out: &mut [u8], at: usize, u: u16)
-    requires { ⌜ at + 1 < length (now out) ⌝ }
-    ensures { λ v. ⌜ now (out .exit) ≡ pasted (now (out .entry)) at (bytesOf (u ∷ [])) ⌝ }
-{
-    out[at] = (u % 256) as u8;
-    out[at + 1] = (u / 256) as u8;
-}
-
-// Units as bytes, one after another.
-fn put_units(out: &mut [u8], at: usize, name: &[u16])
-    requires { ⌜ at + 2 * length (now name) ≤ length (now out) ⌝ }
-    ensures { λ v. ⌜ now (out .exit) ≡ pasted (now (out .entry)) at (bytesOf (now (name .entry))) ⌝ }
-{
-    let mut i = 0;
-    while i < name.len() {
-        put_pair(out, at + 2 * i, name[i]);
-        i += 1;
-    }
-}
-
-// The request for a name, the empty one for domains, into a lent buffer. A buffer that is too short is told before anything is written.
-pub fn request(name: &[u16], out: &mut [u8]) -> Asked
-    ensures answer { λ v. ⌜ v ≡ asked (length (now (out .entry))) (now (name .entry)) ⌝ }
-    ensures buffer { λ v. ⌜ now (out .exit) ≡ bufferWith (now (name .entry)) (now (out .entry)) ⌝ }
-{
-    let n = request_length(name);
-    if out.len() < n {
-        return Asked::TooShort;
-    }
-    put_pair(out, 0, 4);
-    put_units(out, 2, name);
-    put_pair(out, n - 2, 0);
-    Asked::Bytes(n)
 }

@@ -3,9 +3,8 @@ ghost use mathlib.Core.Path.{_≡_};
 ghost use mathlib.Core.Bool.{true};
 ghost use Rattle.lines.specs.Lines.{hasKey};
 ghost use Rattle.script.specs.Script.{begun, after, taken, takesPath, takesBoot, takesLimit, takesSize, takesClock};
-ghost use Rattle.script.specs.Script.{replyKey, statusSaid, takesStatus, takesAnswer, isStatus, isReply, wholeBytes, takesReply, read, takesAfter, isWhole, takes, keptOf};
-ghost use Rattle.script.specs.Script.{textRead, textTaken, wholeRead, endsAnswer, atEnd};
-use hexes::Held;
+ghost use Rattle.script.specs.Script.{replyKey, statusSaid, takesStatus, wholeBytes, takesReply};
+ghost use Rattle.script.specs.Script.{textRead, textTaken};
 use hexes::Rest;
 use unspelling::Number;
 use unspelling::Spelled;
@@ -21,8 +20,6 @@ const NOW: [u16; 4] = [110, 111, 119, 61];
 const BOOT: [u16; 5] = [98, 111, 111, 116, 61];
 
 const STATUS: [u16; 7] = [115, 116, 97, 116, 117, 115, 61];
-
-const REPLY: [u16; 6] = [114, 101, 112, 108, 121, 61];
 
 // The line that was read last.
 pub enum Last {
@@ -51,6 +48,15 @@ pub struct Script {
     pub reply: usize,
 }
 
+// What the end of the input means.
+pub enum Close {
+    // the status that was read last is an answer to an I/O try
+    Answers,
+    Stops,
+    // not of the form
+    Refused,
+}
+
 pub fn begin() -> Script
     ensures { λ r. ⌜ r ≡ begun ⌝ }
 {
@@ -66,7 +72,7 @@ pub fn begin() -> Script
     }
 }
 
-fn with_last(s: Script, last: Last) -> Script
+pub fn with_last(s: Script, last: Last) -> Script
     ensures { λ r. ⌜ r ≡ after last s ⌝ }
 {
     Script {
@@ -127,7 +133,7 @@ fn whole_bytes(n: usize, rest: Rest) -> bool
     }
 }
 
-fn take_path(s: Script, line: &[u16], path: &mut [u16]) -> Script
+pub fn take_path(s: Script, line: &[u16], path: &mut [u16]) -> Script
     ensures { λ r. ⌜ taken r (now (path .exit)) ≡ takesPath s (now (line .entry)) (now (path .entry)) ⌝ }
 {
     let key = PATH;
@@ -139,7 +145,7 @@ fn take_path(s: Script, line: &[u16], path: &mut [u16]) -> Script
     with_last(t, Last::Path)
 }
 
-fn take_boot(s: Script, line: &[u16], boot: &mut [u16]) -> Script
+pub fn take_boot(s: Script, line: &[u16], boot: &mut [u16]) -> Script
     ensures { λ r. ⌜ taken r (now (boot .exit)) ≡ takesBoot s (now (line .entry)) (now (boot .entry)) ⌝ }
 {
     let key = BOOT;
@@ -151,7 +157,7 @@ fn take_boot(s: Script, line: &[u16], boot: &mut [u16]) -> Script
     with_last(t, Last::Boot)
 }
 
-fn take_limit(s: Script, line: &[u16]) -> Script
+pub fn take_limit(s: Script, line: &[u16]) -> Script
     ensures { λ r. ⌜ r ≡ takesLimit s (now (line .entry)) ⌝ }
 {
     let key = LIMIT;
@@ -163,7 +169,7 @@ fn take_limit(s: Script, line: &[u16]) -> Script
     with_last(t, Last::Limit)
 }
 
-fn take_size(s: Script, line: &[u16]) -> Script
+pub fn take_size(s: Script, line: &[u16]) -> Script
     ensures { λ r. ⌜ r ≡ takesSize s (now (line .entry)) ⌝ }
 {
     let key = SIZE;
@@ -176,7 +182,7 @@ fn take_size(s: Script, line: &[u16]) -> Script
 }
 
 // A line of the time: of the settings, or before a status.
-fn take_clock(s: Script, line: &[u16], last: Last) -> Script
+pub fn take_clock(s: Script, line: &[u16], last: Last) -> Script
     ensures { λ r. ⌜ r ≡ takesClock last s (now (line .entry)) ⌝ }
 {
     let key = NOW;
@@ -188,7 +194,7 @@ fn take_clock(s: Script, line: &[u16], last: Last) -> Script
     with_last(t, last)
 }
 
-fn take_status(s: Script, line: &[u16]) -> Script
+pub fn take_status(s: Script, line: &[u16]) -> Script
     ensures { λ r. ⌜ r ≡ takesStatus s (now (line .entry)) ⌝ }
 {
     let Number::Value(n) = status_of(line) else {
@@ -199,18 +205,7 @@ fn take_status(s: Script, line: &[u16]) -> Script
     with_last(t, Last::Status)
 }
 
-// The first line of an answer.
-fn take_answer(s: Script, line: &[u16]) -> Script
-    ensures { λ r. ⌜ r ≡ takesAnswer s (now (line .entry)) ⌝ }
-{
-    let key = NOW;
-    if lines::has_key(&key, line) {
-        return take_clock(s, line, Last::Clock);
-    }
-    take_status(s, line)
-}
-
-fn take_reply(s: Script, line: &[u16], rest: Rest, reply: &mut [u8]) -> Script
+pub fn take_reply(s: Script, line: &[u16], rest: Rest, reply: &mut [u8]) -> Script
     requires { ⌜ hasKey replyKey (now line) ≡ true ⌝ }
     ensures { λ r. ⌜ taken r (now (reply .exit)) ≡ takesReply s (now (line .entry)) rest (now (reply .entry)) ⌝ }
 {
@@ -224,125 +219,4 @@ fn take_reply(s: Script, line: &[u16], rest: Rest, reply: &mut [u8]) -> Script
     let mut t = s;
     t.reply = hexes::put_bytes(digits, reply);
     with_last(t, Last::Reply)
-}
-
-fn is_status(last: Last) -> bool
-    ensures { λ r. ⌜ r ≡ isStatus last ⌝ }
-{
-    match last {
-        Last::Nothing => false,
-        Last::Path => false,
-        Last::Limit => false,
-        Last::Size => false,
-        Last::Now => false,
-        Last::Boot => false,
-        Last::Clock => false,
-        Last::Status => true,
-        Last::Reply => false,
-        Last::Other => false,
-    }
-}
-
-// Whether a line is the reply of the status that was read last.
-fn is_reply(s: Script, line: &[u16]) -> bool
-    ensures { λ r. ⌜ r ≡ isReply s (now (line .entry)) ⌝ }
-{
-    let last = s.last;
-    if !is_status(last) {
-        return false;
-    }
-    let key = REPLY;
-    lines::has_key(&key, line)
-}
-
-fn is_whole(rest: Rest) -> bool
-    ensures { λ r. ⌜ r ≡ isWhole rest ⌝ }
-{
-    match rest {
-        Rest::None => true,
-        Rest::Even => false,
-        Rest::Odd => false,
-        Rest::Other => false,
-    }
-}
-
-// A line that is kept whole.
-fn take_whole(s: Script, line: &[u16], path: &mut [u16], boot: &mut [u16]) -> Script
-    ensures { λ r. ⌜ wholeRead r (now (path .exit)) (now (boot .exit)) ≡ takesAfter (s .last) s (now (line .entry)) (now (path .entry)) (now (boot .entry)) ⌝ }
-{
-    let last = s.last;
-    match last {
-        Last::Nothing => take_path(s, line, path),
-        Last::Path => take_limit(s, line),
-        Last::Limit => take_size(s, line),
-        Last::Size => take_clock(s, line, Last::Now),
-        Last::Now => take_boot(s, line, boot),
-        Last::Boot => take_answer(s, line),
-        Last::Clock => take_status(s, line),
-        Last::Status => take_answer(s, line),
-        Last::Reply => take_answer(s, line),
-        Last::Other => s,
-    }
-}
-
-// The line that is held, read by what was read last.
-pub fn take_line(
-    s: Script,
-    line: &[u16],
-    held: Held,
-    path: &mut [u16],
-    boot: &mut [u16],
-    reply: &mut [u8],
-) -> Script
-    ensures { λ r. ⌜ read r (now (path .exit)) (now (boot .exit)) (now (reply .exit)) ≡ takes s (keptOf (now (line .entry)) held) (held .rest) (now (path .entry)) (now (boot .entry)) (now (reply .entry)) ⌝ }
-{
-    let n = hexes::least(held.kept, line.len());
-    let rest = held.rest;
-    if is_reply(s, &line[..n]) {
-        return take_reply(s, &line[..n], rest, reply);
-    }
-    if !is_whole(rest) {
-        return with_last(s, Last::Other);
-    }
-    take_whole(s, &line[..n], path, boot)
-}
-
-// Whether the status that was read last is an answer to an I/O try: the line that is held is no reply.
-pub fn ends_answer(s: Script, line: &[u16], held: Held) -> bool
-    ensures { λ r. ⌜ r ≡ endsAnswer s (keptOf (now (line .entry)) held) ⌝ }
-{
-    let last = s.last;
-    if !is_status(last) {
-        return false;
-    }
-    let n = hexes::least(held.kept, line.len());
-    let key = REPLY;
-    !lines::has_key(&key, &line[..n])
-}
-
-// What the end of the input means.
-pub enum Close {
-    // the status that was read last is an answer to an I/O try
-    Answers,
-    Stops,
-    // not of the form
-    Refused,
-}
-
-pub fn at_end(s: Script) -> Close
-    ensures { λ r. ⌜ r ≡ atEnd (s .last) ⌝ }
-{
-    let last = s.last;
-    match last {
-        Last::Nothing => Close::Refused,
-        Last::Path => Close::Refused,
-        Last::Limit => Close::Refused,
-        Last::Size => Close::Refused,
-        Last::Now => Close::Refused,
-        Last::Boot => Close::Stops,
-        Last::Clock => Close::Refused,
-        Last::Status => Close::Answers,
-        Last::Reply => Close::Stops,
-        Last::Other => Close::Refused,
-    }
 }

@@ -1,7 +1,7 @@
 // What a host is shown of a walk: the texts and numbers of the question that waits, or of its end, into a lent buffer.
 ghost use mathlib.Core.Path.{_≡_};
 ghost use mathlib.Core.Bool.{true, _&&_};
-ghost use mathlib.Core.List.{[], _∷_};
+ghost use mathlib.Core.List.{[]};
 ghost use Prim.Native.Nat.{_≤_, _<_};
 ghost use lib.ListN.{length, getD};
 ghost use Rattle.unc.specs.Paths.{components};
@@ -11,12 +11,11 @@ ghost use Rattle.storing.specs.Stored.{prefixed};
 ghost use Rattle.steps.specs.Steps.{domainNamed, nameAsked};
 ghost use Rattle.steps.specs.Rested.{cachesOf, coreOf};
 ghost use Rattle.rounds.specs.Rounds.{questionOf, dcsNamed, targetsUnder};
-ghost use Rattle.shown.specs.Shown.{given, shows, showsSome, dcOf, targetOf, rootParty, partyOf, partyText, endPath, Asked};
-ghost use Rattle.shown.specs.Shown.{partyCall, nameCall, pathCall, questionCall, endCall};
+ghost use Rattle.shown.specs.Shown.{given, shows, showsSome, dcOf, targetOf, rootParty, partyOf, partyText, Asked};
+ghost use Rattle.shown.specs.Shown.{partyCall, nameCall};
 use lookup::Found;
 use questions::Name;
 use steps::Asking;
-use steps::End;
 use steps::Kind;
 use steps::Next;
 use walks::Walk;
@@ -43,7 +42,7 @@ fn caches_in_order(refs: &[u16], doms: &[u16]) -> bool
     caches::domains_in_order(doms)
 }
 
-fn put(text: &[u16], out: &mut [u16]) -> Shown
+pub fn put(text: &[u16], out: &mut [u16]) -> Shown
     requires { ⌜ length (now text) ≤ 256 ⌝ }
     ensures { λ r. ⌜ given r (now (out .exit)) ≡ shows (now (text .entry)) (now (out .entry)) ⌝ }
 {
@@ -176,87 +175,4 @@ pub fn question_name(walk: Walk, texts: &[u16], out: &mut [u16]) -> Shown
     let n = walk.path as usize;
     let tried = walk.tried as usize;
     put_name(&texts[..n], &texts[ROOM..ROOM + tried], q, out)
-}
-
-fn put_end(end: End, path: &[u16], tried: &[u16], out: &mut [u16]) -> Shown
-    requires { ⌜ (length (now path) ≤ 256) × (length (now tried) ≤ 256) ⌝ }
-    ensures { λ r. ⌜ given r (now (out .exit)) ≡ shows (endPath end (now (path .entry)) (now (tried .entry))) (now (out .entry)) ⌝ }
-{
-    match end {
-        End::Done => put(tried, out),
-        End::NotDfs => put(path, out),
-        End::NoDc => put(path, out),
-        End::Failed => put(path, out),
-        End::LimitReached => put(path, out),
-        End::Malformed => put(path, out),
-        End::TooLong => put(path, out),
-        End::Gone => put(path, out),
-    }
-}
-
-// The path of an end: of end 20 the path tried.
-pub fn end_path(walk: Walk, texts: &[u16], out: &mut [u16]) -> Shown
-    ensures { λ r. ⌜ given r (now (out .exit)) ≡ pathCall walk (now (texts .entry)) (now (out .entry)) ⌝ }
-{
-    if !walks::in_form(walk, texts) {
-        return Shown::OutOfForm;
-    }
-    let next = walk.next;
-    let Next::Ends(end, _) = next else {
-        return Shown::OutOfForm;
-    };
-    let n = walk.path as usize;
-    let tried = walk.tried as usize;
-    put_end(end, &texts[..n], &texts[ROOM..ROOM + tried], out)
-}
-
-fn put_numbers(a: u32, b: u32, c: u32, out: &mut [u32]) -> Shown
-    ensures { λ r. ⌜ given r (now (out .exit)) ≡ shows (a ∷ b ∷ c ∷ []) (now (out .entry)) ⌝ }
-{
-    if out.len() < 3 {
-        return Shown::ShortBuffer;
-    }
-    out[0] = a;
-    out[1] = b;
-    out[2] = c;
-    Shown::Units(3)
-}
-
-// Of the question that waits: its kind's number, the size asked, and the moves made.
-pub fn question_numbers(walk: Walk, texts: &[u16], out: &mut [u32]) -> Shown
-    ensures { λ r. ⌜ given r (now (out .exit)) ≡ questionCall walk (now (texts .entry)) (now (out .entry)) ⌝ }
-{
-    if !walks::in_form(walk, texts) {
-        return Shown::OutOfForm;
-    }
-    let next = walk.next;
-    let Next::Asks(q) = next else {
-        return Shown::OutOfForm;
-    };
-    let kind = q.kind;
-    put_numbers(
-        packing::kind_number(kind) as u32,
-        q.size,
-        walk.moves as u32,
-        out,
-    )
-}
-
-// Of the end: its number, its status, and the moves made.
-pub fn end_numbers(walk: Walk, texts: &[u16], out: &mut [u32]) -> Shown
-    ensures { λ r. ⌜ given r (now (out .exit)) ≡ endCall walk (now (texts .entry)) (now (out .entry)) ⌝ }
-{
-    if !walks::in_form(walk, texts) {
-        return Shown::OutOfForm;
-    }
-    let next = walk.next;
-    let Next::Ends(end, status) = next else {
-        return Shown::OutOfForm;
-    };
-    put_numbers(
-        packing::end_number(end) as u32,
-        status,
-        walk.moves as u32,
-        out,
-    )
 }

@@ -72,10 +72,10 @@ fn store_saved(
     ensures cache { λ r. ⌜ now (refs .exit) ≡ storedLeft room (storedRest left clock (take len (now (rooms .entry))) size sysvol (referralShown (now (reply .entry)) found) interlink (decode referrals (now (refs .entry))) (decode domains (now (doms .entry)))) (referralShown (now (reply .entry)) found) interlink clock (now (refs .entry)) ⌝ }
 {
     let prefix = found.prefix;
-    let place = storing::store_place(refs, reply, prefix, clock);
+    let place = refreshing::store_place(refs, reply, prefix, clock);
     let mut saved = [0; 2336];
     places::save_place(refs, place, &mut saved);
-    storing::store(refs, reply, found, interlink, clock);
+    refreshing::store(refs, reply, found, interlink, clock);
     let r = after_store(refs, doms, rooms, len, left, size, clock, place, sysvol);
     if answers::rest_fits(r, rooms, room) {
         return r;
@@ -104,8 +104,8 @@ fn store_plain(
     ensures cache { λ r. ⌜ now (refs .exit) ≡ storedLeft room (storedRest left clock (take len (now (rooms .entry))) size sysvol (referralShown (now (reply .entry)) found) interlink (decode referrals (now (refs .entry))) (decode domains (now (doms .entry)))) (referralShown (now (reply .entry)) found) interlink clock (now (refs .entry)) ⌝ }
 {
     let prefix = found.prefix;
-    let place = storing::store_place(refs, reply, prefix, clock);
-    storing::store(refs, reply, found, interlink, clock);
+    let place = refreshing::store_place(refs, reply, prefix, clock);
+    refreshing::store(refs, reply, found, interlink, clock);
     after_store(refs, doms, rooms, len, left, size, clock, place, sysvol)
 }
 

@@ -1,19 +1,17 @@
 // A reply into the caches: document 01, "Storing", and source document 001.
 ghost use mathlib.Core.Path.{_≡_};
-ghost use mathlib.Core.Bool.{true, false};
+ghost use mathlib.Core.Bool.{true};
 ghost use mathlib.Core.List.{map};
-ghost use Prim.Native.Nat.{_+_, _/_, _≤_, _<_};
+ghost use Prim.Native.Nat.{_/_, _≤_, _<_};
 ghost use lib.ListN.{length, take};
 ghost use Rattle.laws.specs.Lists.{every};
 ghost use Rattle.spans.specs.Spans.{spanned, Inside};
 ghost use Rattle.places.specs.Layout.{changed, placeAt, putUnit, putSettings};
-ghost use Rattle.caches.specs.Memory.{referrals, decode, encode, inOrder};
+ghost use Rattle.caches.specs.Memory.{referrals, decode};
 ghost use Rattle.lookup.specs.Keys.{keyIs};
 ghost use Rattle.lookup.specs.Lookup.{entryAt, withKey};
-ghost use Rattle.storing.specs.Stored.{firstEqual, hinted, inFirstSet, failedBack, stored, storePlace};
-ghost use Rattle.referral.specs.Found.{referralShown};
+ghost use Rattle.storing.specs.Stored.{firstEqual, hinted, inFirstSet, failedBack};
 ghost use Rattle.entries.specs.Writing.{heldTarget, keptFits, settings};
-ghost use Rattle.storing.specs.Writing.{Storable, Held, equivalentAt, refreshedAt, insertedAt};
 use lookup::Found;
 use places::PLACE;
 use referral::Kept;
@@ -32,7 +30,7 @@ fn prefix_is(cache: &[u16], i: usize, reply: &[u8], s: Span) -> bool
 }
 
 // The place of the entry whose prefix is equal to one in the reply.
-fn find_prefix(cache: &[u16], reply: &[u8], s: Span) -> Found
+pub fn find_prefix(cache: &[u16], reply: &[u8], s: Span) -> Found
     requires { ⌜ Inside (now reply) s ⌝ }
     ensures { λ r. ⌜ r ≡ withKey referrals (spanned (now (reply .entry)) s) (decode referrals (now (cache .entry))) ⌝ }
 {
@@ -48,7 +46,7 @@ fn find_prefix(cache: &[u16], reply: &[u8], s: Span) -> Found
 }
 
 // The first target of the entry at place i that is equal to the one hinted at.
-fn held_place(cache: &[u16], i: usize) -> usize
+pub fn held_place(cache: &[u16], i: usize) -> usize
     requires { ⌜ (i < length (now cache) / 2336) × (entryAt referrals i (now cache) .hint < length (entryAt referrals i (now cache) .targets)) ⌝ }
     ensures { λ r. ⌜ r ≡ firstEqual 0 (hinted (entryAt referrals i (now (cache .entry)))) (entryAt referrals i (now (cache .entry)) .targets) ⌝ }
 {
@@ -66,7 +64,7 @@ fn held_place(cache: &[u16], i: usize) -> usize
 }
 
 // The first target of the reply that is equal to the one that the entry at place i hints at; 0 where there is none.
-fn given_place(cache: &[u16], i: usize, reply: &[u8], kept: [Kept; 8], count: usize) -> usize
+pub fn given_place(cache: &[u16], i: usize, reply: &[u8], kept: [Kept; 8], count: usize) -> usize
     requires { ⌜ (i < length (now cache) / 2336) × ((entryAt referrals i (now cache) .hint < length (entryAt referrals i (now cache) .targets)) × ((count ≤ 8) × (every (keptFits (now reply)) (take count kept) ≡ true))) ⌝ }
     ensures { λ r. ⌜ r ≡ firstEqual 0 (hinted (entryAt referrals i (now (cache .entry)))) (map (heldTarget (now (reply .entry))) (take count kept)) ⌝ }
 {
@@ -99,7 +97,7 @@ fn in_first_set(cache: &[u16], i: usize, hint: usize) -> bool
 }
 
 // The hint of place i: target `hint`, or by failback the first where that is not in the first set.
-fn put_hint(cache: &mut [u16], i: usize, hint: usize, failback: bool)
+pub fn put_hint(cache: &mut [u16], i: usize, hint: usize, failback: bool)
     requires { ⌜ (i < length (now cache) / 2336) × (hint < length (entryAt referrals i (now cache) .targets)) ⌝ }
     ensures { λ r. ⌜ now (cache .exit) ≡ changed i (putUnit 10 (failedBack failback (entryAt referrals i (now (cache .entry)) .targets) hint)) (now (cache .entry)) ⌝ }
 {
@@ -115,7 +113,7 @@ fn put_hint(cache: &mut [u16], i: usize, hint: usize, failback: bool)
 }
 
 // The settings of the reply, and the time taken, into place i.
-fn settle(cache: &mut [u16], i: usize, found: ReferralFound, interlink: bool, clock: u32)
+pub fn settle(cache: &mut [u16], i: usize, found: ReferralFound, interlink: bool, clock: u32)
     requires { ⌜ i < length (now cache) / 2336 ⌝ }
     ensures { λ r. ⌜ now (cache .exit) ≡ changed i (putSettings (settings (found .root) interlink (found .failback) (found .ttl) clock)) (now (cache .entry)) ⌝ }
 {
@@ -128,109 +126,4 @@ fn settle(cache: &mut [u16], i: usize, found: ReferralFound, interlink: bool, cl
         found.ttl,
         clock,
     );
-}
-
-// A new entry into place i.
-fn insert(
-    cache: &mut [u16],
-    i: usize,
-    reply: &[u8],
-    found: ReferralFound,
-    interlink: bool,
-    clock: u32,
-)
-    requires { ⌜ (i < length (now cache) / 2336) × Storable (now reply) found ⌝ }
-    ensures { λ r. ⌜ now (cache .exit) ≡ insertedAt i (now (reply .entry)) found interlink clock (now (cache .entry)) ⌝ }
-{
-    let prefix = found.prefix;
-    let kept = found.kept;
-    let count = found.targets;
-    entries::begin_entry(cache, i, reply, prefix);
-    entries::add_targets(cache, i, reply, kept, count);
-    settle(cache, i, found, interlink, clock);
-}
-
-// The entry at place i refreshed by a reply with an equivalent list: its targets stay.
-fn refresh_held(
-    cache: &mut [u16],
-    i: usize,
-    reply: &[u8],
-    found: ReferralFound,
-    interlink: bool,
-    clock: u32,
-)
-    requires { ⌜ Held i (now cache) × (equivalentAt i (now cache) (now reply) found ≡ true) ⌝ }
-    ensures { λ r. ⌜ now (cache .exit) ≡ refreshedAt i (now (reply .entry)) found interlink clock (now (cache .entry)) ⌝ }
-{
-    let hint = held_place(cache, i);
-    settle(cache, i, found, interlink, clock);
-    put_hint(cache, i, hint, found.failback);
-}
-
-// The same by a reply with another list: it takes the place of the old one.
-fn refresh_given(
-    cache: &mut [u16],
-    i: usize,
-    reply: &[u8],
-    found: ReferralFound,
-    interlink: bool,
-    clock: u32,
-)
-    requires { ⌜ Held i (now cache) × (Storable (now reply) found × (equivalentAt i (now cache) (now reply) found ≡ false)) ⌝ }
-    ensures { λ r. ⌜ now (cache .exit) ≡ refreshedAt i (now (reply .entry)) found interlink clock (now (cache .entry)) ⌝ }
-{
-    let kept = found.kept;
-    let count = found.targets;
-    let hint = given_place(cache, i, reply, kept, count);
-    places::keep_key(cache, i);
-    entries::add_targets(cache, i, reply, kept, count);
-    settle(cache, i, found, interlink, clock);
-    put_hint(cache, i, hint, found.failback);
-}
-
-// The entry at place i refreshed.
-fn refresh(
-    cache: &mut [u16],
-    i: usize,
-    reply: &[u8],
-    found: ReferralFound,
-    interlink: bool,
-    clock: u32,
-)
-    requires { ⌜ Held i (now cache) × Storable (now reply) found ⌝ }
-    ensures entry { λ r. ⌜ now (cache .exit) ≡ refreshedAt i (now (reply .entry)) found interlink clock (now (cache .entry)) ⌝ }
-{
-    let kept = found.kept;
-    let count = found.targets;
-    let version = found.version;
-    if equivalence::equivalent(cache, i, reply, kept, count, version) {
-        refresh_held(cache, i, reply, found, interlink, clock);
-        return;
-    }
-    refresh_given(cache, i, reply, found, interlink, clock);
-}
-
-// The place that a store will write: that of the entry with an equal prefix, else the one that a new entry takes.
-pub fn store_place(cache: &[u16], reply: &[u8], prefix: Span, clock: u32) -> usize
-    requires { ⌜ Inside (now reply) prefix ⌝ }
-    ensures { λ r. ⌜ r ≡ storePlace clock (spanned (now (reply .entry)) prefix) (decode referrals (now (cache .entry))) ⌝ }
-{
-    let Found::At(i) = find_prefix(cache, reply, prefix) else {
-        return lookup::new_place(cache, clock);
-    };
-    i
-}
-
-// A reply into a referral cache in order: the entry with an equal prefix is refreshed, else there is a new one.
-pub fn store(cache: &mut [u16], reply: &[u8], found: ReferralFound, interlink: bool, clock: u32)
-    requires { ⌜ (inOrder referrals (now cache) ≡ true) × Storable (now reply) found ⌝ }
-    ensures { λ r. ⌜ now (cache .exit) ≡ encode referrals (stored (referralShown (now (reply .entry)) found) interlink clock (decode referrals (now (cache .entry)))) ⌝ }
-{
-    let prefix = found.prefix;
-    let Found::At(i) = find_prefix(cache, reply, prefix) else {
-        let place = lookup::new_place(cache, clock);
-        insert(cache, place, reply, found, interlink, clock);
-        return;
-    };
-    refresh(cache, i, reply, found, interlink, clock);
 }

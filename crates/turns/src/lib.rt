@@ -74,7 +74,7 @@ pub fn referral_turn(
     let left = walk.limit as u16 - walk.moves;
     let mut rooms = [0; 512];
     copy_rooms(texts, &mut rooms);
-    let r = events::referral_answer(
+    let r = answered::referral_answer(
         refs,
         doms,
         &mut rooms,

@@ -61,7 +61,7 @@ fn off(state: State) -> State {
 
 fn stop(state: State, number: u32) -> State {
     let mut out = [0u8; 19];
-    let n = printing::put_refused(&mut out, 0, number);
+    let n = outcomes::put_refused(&mut out, 0, number);
     io::write_all(STDOUT_FILENO, &out[..n]);
     off(state)
 }
@@ -76,28 +76,28 @@ fn show_question(refs: &[u16], doms: &[u16], walk: Walk, texts: &[u16]) {
         return;
     };
     let mut numbers = [0u32; 3];
-    let Shown::Units(_) = shown::question_numbers(walk, texts, &mut numbers) else {
+    let Shown::Units(_) = numbers::question_numbers(walk, texts, &mut numbers) else {
         return;
     };
     let mut out = [0u8; 2597];
     let p = p as usize;
     let n = n as usize;
-    let end = printing::put_question(&mut out, 0, numbers[0], &party[..p], &name[..n], numbers[1]);
+    let end = outcomes::put_question(&mut out, 0, numbers[0], &party[..p], &name[..n], numbers[1]);
     io::write_all(STDOUT_FILENO, &out[..end]);
 }
 
 fn show_end(walk: Walk, texts: &[u16]) {
     let mut path = [0u16; 256];
-    let Shown::Units(p) = shown::end_path(walk, texts, &mut path) else {
+    let Shown::Units(p) = numbers::end_path(walk, texts, &mut path) else {
         return;
     };
     let mut numbers = [0u32; 3];
-    let Shown::Units(_) = shown::end_numbers(walk, texts, &mut numbers) else {
+    let Shown::Units(_) = numbers::end_numbers(walk, texts, &mut numbers) else {
         return;
     };
     let mut out = [0u8; 2334];
     let p = p as usize;
-    let end = printing::put_end(&mut out, 0, numbers[0], numbers[1], &path[..p], numbers[2]);
+    let end = outcomes::put_end(&mut out, 0, numbers[0], numbers[1], &path[..p], numbers[2]);
     io::write_all(STDOUT_FILENO, &out[..end]);
 }
 
@@ -217,7 +217,7 @@ fn take(
     reply: &mut [u8],
 ) -> State {
     let mut s = state;
-    let after = script::take_line(s.script, line, s.held, path, boot, reply);
+    let after = sequence::take_line(s.script, line, s.held, path, boot, reply);
     s.script = after;
     s.held = no_line();
     call(s, refs, doms, texts, path, boot, reply)
@@ -234,7 +234,7 @@ fn line_read(
     boot: &mut [u16],
     reply: &mut [u8],
 ) -> State {
-    if !script::ends_answer(state.script, line, state.held) {
+    if !sequence::ends_answer(state.script, line, state.held) {
         return take(state, refs, doms, texts, line, path, boot, reply);
     }
     let s = answer_io(state, refs, doms, texts);
@@ -275,7 +275,7 @@ fn lines_read(
 
 // The input has ended, and no line is held.
 fn close(state: State, refs: &mut [u16], doms: &[u16], texts: &mut [u16]) -> State {
-    let close = script::at_end(state.script);
+    let close = sequence::at_end(state.script);
     match close {
         Close::Answers => off(answer_io(state, refs, doms, texts)),
         Close::Stops => off(state),

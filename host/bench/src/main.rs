@@ -12,9 +12,7 @@ use std::time::Instant;
 /// Machines vary: a bound is so many times the goal.
 const MARGIN: f64 = 1.5;
 const ORDER: f64 = 1.5;
-/// The look-up misses its goal, 1: docs/BENCHMARKS.md says why.
 const LOOK_UP: f64 = 1.0;
-const LOOK_UP_BOUND: f64 = 2.5;
 const SIZE: u32 = 57344;
 
 extern "C" {
@@ -133,7 +131,7 @@ fn caches(goals: &mut Goals) {
         }
         let what = format!("look-up in 32 entries, {name}");
         let (_, ratio) = pair(&what, || { black_box(find(black_box(&cache), black_box(&p))); }, || { black_box(plain::caches::find(black_box(&cache), black_box(&p))); });
-        goals.hold(what, ratio, LOOK_UP, LOOK_UP_BOUND);
+        goals.hold(what, ratio, LOOK_UP, LOOK_UP * MARGIN);
         let others = least(&mut [
             &mut || { black_box(plain::caches::find_folding(black_box(&cache), black_box(&p))); },
             &mut || { black_box(plain::caches::find_in_blocks(black_box(&cache), black_box(&p))); },

@@ -5,7 +5,7 @@ use Rattle.walk.proofs.line_read.Statement.{statement}
 use Rattle.walk.proofs.line_read.Tie as tie
 use Rattle.walk.proofs.line_read.Reads as reads
 use Rattle.walk.proofs.line_read.Lts as lts
-use Rattle.script.proofs.ends_answer.Reads as ends-answer-reads
+use Rattle.sequence.proofs.ends_answer.Reads as ends-answer-reads
 use Rattle.walk.proofs.answer_io.Reads as answer-io-reads
 use Rattle.walk.proofs.take.Reads as take-reads
 

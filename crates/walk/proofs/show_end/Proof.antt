@@ -7,9 +7,9 @@ use Rattle.walk.proofs.show_end.Tie as tie
 use Rattle.walk.proofs.show_end.Reads as reads
 use Rattle.walk.proofs.show_end.Lts as lts
 use Rattle.io.proofs.write_all.Reads as write-all-reads
-use Rattle.printing.proofs.put_end.Reads as put-end-reads
-use Rattle.shown.proofs.end_numbers.Reads as end-numbers-reads
-use Rattle.shown.proofs.end_path.Reads as end-path-reads
+use Rattle.outcomes.proofs.put_end.Reads as put-end-reads
+use Rattle.numbers.proofs.end_numbers.Reads as end-numbers-reads
+use Rattle.numbers.proofs.end_path.Reads as end-path-reads
 
 slice-aggregate-end-path : tie.Need-slice-aggregate-end-path
 slice-aggregate-end-path c = search needs

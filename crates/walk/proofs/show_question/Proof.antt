@@ -7,9 +7,9 @@ use Rattle.walk.proofs.show_question.Tie as tie
 use Rattle.walk.proofs.show_question.Reads as reads
 use Rattle.walk.proofs.show_question.Lts as lts
 use Rattle.io.proofs.write_all.Reads as write-all-reads
-use Rattle.printing.proofs.put_question.Reads as put-question-reads
+use Rattle.outcomes.proofs.put_question.Reads as put-question-reads
 use Rattle.shown.proofs.question_name.Reads as question-name-reads
-use Rattle.shown.proofs.question_numbers.Reads as question-numbers-reads
+use Rattle.numbers.proofs.question_numbers.Reads as question-numbers-reads
 use Rattle.shown.proofs.question_party.Reads as question-party-reads
 
 slice-aggregate-question-party : tie.Need-slice-aggregate-question-party

@@ -10,7 +10,7 @@ use Rattle.walk.proofs.stop.Tie as tie
 use Rattle.walk.proofs.stop.Reads as reads
 use Rattle.walk.proofs.stop.Lts as lts
 use Rattle.io.proofs.write_all.Reads as write-all-reads
-use Rattle.printing.proofs.put_refused.Reads as put-refused-reads
+use Rattle.outcomes.proofs.put_refused.Reads as put-refused-reads
 use Rattle.walk.proofs.off.Reads as off-reads
 
 slice-aggregate-put-refused : tie.Need-slice-aggregate-put-refused

@@ -4,7 +4,7 @@ use Rattle.walk.proofs.take.Statement.{statement}
 use Rattle.walk.proofs.take.Tie as tie
 use Rattle.walk.proofs.take.Reads as reads
 use Rattle.walk.proofs.take.Lts as lts
-use Rattle.script.proofs.take_line.Reads as take-line-reads
+use Rattle.sequence.proofs.take_line.Reads as take-line-reads
 use Rattle.walk.proofs.call.Reads as call-reads
 use Rattle.walk.proofs.no_line.Reads as no-line-reads
 

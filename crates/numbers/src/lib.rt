@@ -1,0 +1,96 @@
+// The numbers of a question, and the numbers and the path of an end.
+ghost use mathlib.Core.Path.{_≡_};
+ghost use mathlib.Core.List.{[], _∷_};
+ghost use Prim.Native.Nat.{_≤_};
+ghost use lib.ListN.{length};
+ghost use Rattle.shown.specs.Shown.{given, shows, endPath};
+ghost use Rattle.shown.specs.Shown.{pathCall, questionCall, endCall};
+use shown::Shown;
+use steps::End;
+use steps::Next;
+use walks::Walk;
+
+const ROOM: usize = 256;
+
+fn put_end(end: End, path: &[u16], tried: &[u16], out: &mut [u16]) -> Shown
+    requires { ⌜ (length (now path) ≤ 256) × (length (now tried) ≤ 256) ⌝ }
+    ensures { λ r. ⌜ given r (now (out .exit)) ≡ shows (endPath end (now (path .entry)) (now (tried .entry))) (now (out .entry)) ⌝ }
+{
+    match end {
+        End::Done => shown::put(tried, out),
+        End::NotDfs => shown::put(path, out),
+        End::NoDc => shown::put(path, out),
+        End::Failed => shown::put(path, out),
+        End::LimitReached => shown::put(path, out),
+        End::Malformed => shown::put(path, out),
+        End::TooLong => shown::put(path, out),
+        End::Gone => shown::put(path, out),
+    }
+}
+
+// The path of an end: of end 20 the path tried.
+pub fn end_path(walk: Walk, texts: &[u16], out: &mut [u16]) -> Shown
+    ensures { λ r. ⌜ given r (now (out .exit)) ≡ pathCall walk (now (texts .entry)) (now (out .entry)) ⌝ }
+{
+    if !walks::in_form(walk, texts) {
+        return Shown::OutOfForm;
+    }
+    let next = walk.next;
+    let Next::Ends(end, _) = next else {
+        return Shown::OutOfForm;
+    };
+    let n = walk.path as usize;
+    let tried = walk.tried as usize;
+    put_end(end, &texts[..n], &texts[ROOM..ROOM + tried], out)
+}
+
+fn put_numbers(a: u32, b: u32, c: u32, out: &mut [u32]) -> Shown
+    ensures { λ r. ⌜ given r (now (out .exit)) ≡ shows (a ∷ b ∷ c ∷ []) (now (out .entry)) ⌝ }
+{
+    if out.len() < 3 {
+        return Shown::ShortBuffer;
+    }
+    out[0] = a;
+    out[1] = b;
+    out[2] = c;
+    Shown::Units(3)
+}
+
+// Of the question that waits: its kind's number, the size asked, and the moves made.
+pub fn question_numbers(walk: Walk, texts: &[u16], out: &mut [u32]) -> Shown
+    ensures { λ r. ⌜ given r (now (out .exit)) ≡ questionCall walk (now (texts .entry)) (now (out .entry)) ⌝ }
+{
+    if !walks::in_form(walk, texts) {
+        return Shown::OutOfForm;
+    }
+    let next = walk.next;
+    let Next::Asks(q) = next else {
+        return Shown::OutOfForm;
+    };
+    let kind = q.kind;
+    put_numbers(
+        packing::kind_number(kind) as u32,
+        q.size,
+        walk.moves as u32,
+        out,
+    )
+}
+
+// Of the end: its number, its status, and the moves made.
+pub fn end_numbers(walk: Walk, texts: &[u16], out: &mut [u32]) -> Shown
+    ensures { λ r. ⌜ given r (now (out .exit)) ≡ endCall walk (now (texts .entry)) (now (out .entry)) ⌝ }
+{
+    if !walks::in_form(walk, texts) {
+        return Shown::OutOfForm;
+    }
+    let next = walk.next;
+    let Next::Ends(end, status) = next else {
+        return Shown::OutOfForm;
+    };
+    put_numbers(
+        packing::end_number(end) as u32,
+        status,
+        walk.moves as u32,
+        out,
+    )
+}

@@ -1,0 +1,30 @@
+use Rattle.printing.proofs.PrintedLaws.{refused-parts}
+use Rattle.listing.proofs.EntryLaws.{put-same}
+use lib.ListN.{length}
+use Prim.Native.Nat.{ℕ}
+use mathlib.Core.List.{List}
+use mathlib.Core.Path.{ap}
+use native.Mathlib.Omega.{arith}
+use borrow.Author.Needs.{needs}
+use Rattle.outcomes.proofs.put_refused.Statement.{statement}
+use Rattle.outcomes.proofs.put_refused.Tie as tie
+use Rattle.outcomes.proofs.put_refused.Reads as reads
+use Rattle.outcomes.proofs.put_refused.Lts as lts
+use Rattle.printing.proofs.put_number_line.Reads as put-number-line-reads
+
+slice-aggregate-put-number-line : tie.Need-slice-aggregate-put-number-line
+slice-aggregate-put-number-line c = search needs
+
+put-number-line-requires : tie.Need-put-number-line-requires
+put-number-line-requires c κs = omega (arith, ap (λ (x : List ℕ). length x) (refused-parts (c .before .before .before .args .number)))
+
+same-length : tie.Need-same-length
+same-length c = search needs
+
+returns : tie.Need-returns
+returns c = put-same (refused-parts (c .before .before .before .before .before .before .args .number)) (c .before .before .put-number-line .ensures)
+
+pub put-refused-spec : {M : Type 1} → statement M
+put-refused-spec =
+    tie.close
+    (tie.spec slice-aggregate-put-number-line put-number-line-requires same-length returns)

@@ -1,0 +1,43 @@
+use Rattle.printing.proofs.PrintedLaws.{size-line, no-size, nothing-put}
+use Rattle.listing.proofs.EntryLaws.{put-same}
+use lib.ListN.{length}
+use Prim.Native.Nat.{ℕ}
+use mathlib.Core.List.{List}
+use mathlib.Core.Path.{ap}
+use denote.Ref.{now}
+use native.Mathlib.Omega.{arith}
+use borrow.Author.Needs.{needs}
+use Rattle.outcomes.proofs.put_size.Statement.{statement}
+use Rattle.outcomes.proofs.put_size.Tie as tie
+use Rattle.outcomes.proofs.put_size.Reads as reads
+use Rattle.outcomes.proofs.put_size.Lts as lts
+use Rattle.printing.proofs.put_number_line.Reads as put-number-line-reads
+
+returns : tie.Need-returns
+returns c = nothing-put _ _ (no-size (c .before .before .args .kind) (c .before .before .args .size) (λ h. omega arith) (λ h. omega arith) (λ h. omega arith) (λ h. omega arith))
+
+returns-2 : tie.Need-returns-2
+returns-2 c = nothing-put _ _ (no-size (c .before .before .before .args .kind) (c .before .before .before .args .size) (λ h. omega arith) (λ h. omega arith) (λ h. omega arith) (λ h. omega arith))
+
+slice-aggregate-put-number-line : tie.Need-slice-aggregate-put-number-line
+slice-aggregate-put-number-line c = search needs
+
+put-number-line-requires : tie.Need-put-number-line-requires
+put-number-line-requires c κs = omega (arith, ap (λ (x : List ℕ). length x) (size-line (c .before .before .before .before .before .args .kind) (c .before .before .before .before .before .args .size) (omega arith) (omega arith)))
+
+same-length : tie.Need-same-length
+same-length c = search needs
+
+returns-3 : tie.Need-returns-3
+returns-3 c = put-same (size-line (c .before .before .before .before .before .before .before .before .args .kind) (c .before .before .before .before .before .before .before .before .args .size) (omega arith) (omega arith)) (c .before .before .put-number-line .ensures)
+
+pub put-size-spec : {M : Type 1} → statement M
+put-size-spec =
+    tie.close
+    (tie.spec
+    returns
+    returns-2
+    slice-aggregate-put-number-line
+    put-number-line-requires
+    same-length
+    returns-3)

@@ -1,0 +1,40 @@
+use Rattle.script.specs.Script.{isWhole}
+use mathlib.Core.Path.{refl, sym, ap, _∙_}
+use borrow.Author.Needs.{needs}
+use Rattle.sequence.proofs.is_whole.Statement.{statement}
+use Rattle.sequence.proofs.is_whole.Tie as tie
+use Rattle.sequence.proofs.is_whole.Reads as reads
+use Rattle.sequence.proofs.is_whole.Lts as lts
+
+enum-told : tie.Need-enum-told
+enum-told c = search needs
+
+enum-told-2 : tie.Need-enum-told-2
+enum-told-2 c = search needs
+
+enum-told-3 : tie.Need-enum-told-3
+enum-told-3 c = search needs
+
+enum-told-4 : tie.Need-enum-told-4
+enum-told-4 c = search needs
+
+returns : tie.Need-returns
+unfolding isWhole
+returns c = ap (isWhole) (sym (c .enum-told .given .1))
+
+returns-2 : tie.Need-returns-2
+unfolding isWhole
+returns-2 c = ap (isWhole) (sym (c .enum-told2 .given .1))
+
+returns-3 : tie.Need-returns-3
+unfolding isWhole
+returns-3 c = ap (isWhole) (sym (c .enum-told3 .given .1))
+
+returns-4 : tie.Need-returns-4
+unfolding isWhole
+returns-4 c = ap (isWhole) (sym (c .enum-told4 .given .1))
+
+pub is-whole-spec : {M : Type 1} → statement M
+is-whole-spec =
+    tie.close
+    (tie.spec enum-told enum-told-2 enum-told-3 enum-told-4 returns returns-2 returns-3 returns-4)

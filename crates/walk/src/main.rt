@@ -1,6 +1,5 @@
 // Walks a path by the answers on standard input, from empty caches: document 01, "Examples to hold it to".
 use closing::Outcome;
-use closing::Verdict;
 use hexes::Held;
 use hexes::Rest;
 use libc::STDIN_FILENO;
@@ -9,8 +8,6 @@ use script::Close;
 use script::Last;
 use script::Script;
 use shown::Shown;
-use steps::End;
-use steps::Next;
 use walks::Walk;
 
 // What is known between two lines: what was read, the line that comes, the walk, and whether to go on.
@@ -21,35 +18,10 @@ struct State {
     on: bool,
 }
 
-fn no_walk() -> Walk {
-    Walk {
-        limit: 0,
-        size: 0,
-        boot: 0,
-        moves: 0,
-        path: 0,
-        tried: 0,
-        hit: false,
-        next: Next::Ends(End::Gone, 0),
-    }
-}
-
 fn no_line() -> Held {
     Held {
         kept: 0,
         rest: Rest::None,
-    }
-}
-
-fn refusal_number(verdict: Verdict) -> u32 {
-    match verdict {
-        Verdict::Taken => 0,
-        Verdict::BadPath => 1,
-        Verdict::LongPath => 2,
-        Verdict::BadSettings => 3,
-        Verdict::NotInOrder => 4,
-        Verdict::OutOfForm => 5,
-        Verdict::ShortBuffer => 10,
     }
 }
 
@@ -104,7 +76,7 @@ fn show_end(walk: Walk, texts: &[u16]) {
 // What a call gave back: its number if it was refused, else the question or the end.
 fn tell(state: State, o: Outcome, refs: &[u16], doms: &[u16], texts: &[u16]) -> State {
     let verdict = o.verdict;
-    let number = refusal_number(verdict);
+    let number = holding::refusal_number(verdict);
     if number != 0 {
         return stop(state, number);
     }
@@ -349,7 +321,7 @@ fn run(
     let mut s = State {
         script: script::begin(),
         held: no_line(),
-        walk: no_walk(),
+        walk: holding::no_walk(),
         on: true,
     };
     let mut turns = u64::MAX;

@@ -9,7 +9,7 @@ use Rattle.walk.proofs.run.Reads as reads
 use Rattle.walk.proofs.run.Lts as lts
 use Rattle.script.proofs.begin.Reads as begin-reads
 use Rattle.walk.proofs.no_line.Reads as no-line-reads
-use Rattle.walk.proofs.no_walk.Reads as no-walk-reads
+use Rattle.holding.proofs.no_walk.Reads as no-walk-reads
 use Rattle.walk.proofs.turn.Reads as turn-reads
 
 abbrev Inv-loop : tie.InvT-loop

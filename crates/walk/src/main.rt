@@ -7,7 +7,6 @@ use libc::STDOUT_FILENO;
 use script::Close;
 use script::Last;
 use script::Script;
-use shown::Shown;
 use walks::Walk;
 
 // What is known between two lines: what was read, the line that comes, the walk, and whether to go on.
@@ -31,58 +30,25 @@ fn off(state: State) -> State {
     s
 }
 
-fn stop(state: State, number: u32) -> State {
+// The input is not of the form: 0.
+fn stop(state: State) -> State {
     let mut out = [0u8; 19];
-    let n = outcomes::put_refused(&mut out, 0, number);
+    let n = outcomes::put_refused(&mut out, 0, 0);
     io::write_all(STDOUT_FILENO, &out[..n]);
     off(state)
 }
 
-fn show_question(refs: &[u16], doms: &[u16], walk: Walk, texts: &[u16]) {
-    let mut party = [0u16; 256];
-    let Shown::Units(p) = shown::question_party(refs, doms, walk, texts, &mut party) else {
-        return;
-    };
-    let mut name = [0u16; 256];
-    let Shown::Units(n) = shown::question_name(walk, texts, &mut name) else {
-        return;
-    };
-    let mut numbers = [0u32; 3];
-    let Shown::Units(_) = numbers::question_numbers(walk, texts, &mut numbers) else {
-        return;
-    };
-    let mut out = [0u8; 2597];
-    let p = p as usize;
-    let n = n as usize;
-    let end = outcomes::put_question(&mut out, 0, numbers[0], &party[..p], &name[..n], numbers[1]);
-    io::write_all(STDOUT_FILENO, &out[..end]);
-}
-
-fn show_end(walk: Walk, texts: &[u16]) {
-    let mut path = [0u16; 256];
-    let Shown::Units(p) = numbers::end_path(walk, texts, &mut path) else {
-        return;
-    };
-    let mut numbers = [0u32; 3];
-    let Shown::Units(_) = numbers::end_numbers(walk, texts, &mut numbers) else {
-        return;
-    };
-    let mut out = [0u8; 2334];
-    let p = p as usize;
-    let end = outcomes::put_end(&mut out, 0, numbers[0], numbers[1], &path[..p], numbers[2]);
-    io::write_all(STDOUT_FILENO, &out[..end]);
-}
-
-// What a call gave back: its number if it was refused, else the question or the end.
+// Prints what a call gave back, and stops if it was refused.
 fn tell(state: State, o: Outcome, refs: &[u16], doms: &[u16], texts: &[u16]) -> State {
     let verdict = o.verdict;
     let number = holding::refusal_number(verdict);
-    if number != 0 {
-        return stop(state, number);
-    }
     let walk = o.walk;
-    show_question(refs, doms, walk, texts);
-    show_end(walk, texts);
+    let mut out = [0u8; 4931];
+    let n = telling::put_outcome(number, refs, doms, walk, texts, &mut out);
+    io::write_all(STDOUT_FILENO, &out[..n]);
+    if number != 0 {
+        return off(state);
+    }
     let mut s = state;
     s.walk = walk;
     s
@@ -172,7 +138,7 @@ fn call(
         return answer_referral(state, refs, doms, texts, reply);
     }
     if let Last::Other = last {
-        return stop(state, 0);
+        return stop(state);
     }
     state
 }
@@ -251,7 +217,7 @@ fn close(state: State, refs: &mut [u16], doms: &[u16], texts: &mut [u16]) -> Sta
     match close {
         Close::Answers => off(answer_io(state, refs, doms, texts)),
         Close::Stops => off(state),
-        Close::Refused => stop(state, 0),
+        Close::Refused => stop(state),
     }
 }
 

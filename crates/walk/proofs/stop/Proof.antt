@@ -17,13 +17,13 @@ slice-aggregate-put-refused : tie.Need-slice-aggregate-put-refused
 slice-aggregate-put-refused c = search needs
 
 put-refused-requires : tie.Need-put-refused-requires
-put-refused-requires c κs = omega (arith, refused-bytes (c .before .args .number))
+put-refused-requires c κs = omega (arith, refused-bytes 0)
 
 array-share-prefix-out : tie.Need-array-share-prefix-out
-array-share-prefix-out c = put-within (c .before .put-refused .ensures) (omega (arith, refused-bytes (c .before .before .before .args .number)))
+array-share-prefix-out c = put-within (c .before .put-refused .ensures) (omega (arith, refused-bytes 0))
 
 slice-aggregate-write-all : tie.Need-slice-aggregate-write-all
-slice-aggregate-write-all c = put-taken (c .before .before .put-refused .ensures) (omega (arith, refused-bytes (c .before .before .before .before .args .number)))
+slice-aggregate-write-all c = put-taken (c .before .before .put-refused .ensures) (omega (arith, refused-bytes 0))
 
 write-all-requires : tie.Need-write-all-requires
 write-all-requires c κs = search needs

@@ -1,4 +1,4 @@
-use Rattle.walk.proofs.WalkLaws.{taken-whole}
+use Rattle.telling.proofs.TellingLaws.{taken-whole}
 use lib.ListN.{length-take}
 use native.Mathlib.Omega.{arith}
 use borrow.Author.Needs.{needs}

@@ -1,0 +1,2 @@
+-- Laws of what is printed after a call.
+pub mod TellingLaws

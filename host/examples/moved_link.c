@@ -1,23 +1,12 @@
 /* The moved link. "train" is exchanged from two old servers to two new ones while its entry stands in the cache; two walks over that cache, the
  * clock past the link's TTL between them. Two targets are as many as two others, and are not the same: the second walk reads from a new server. */
-#include "dfsc.h"
-#include <stdio.h>
+#include "example.h"
 #include <string.h>
-
-#define LEN(a) (sizeof(a) / sizeof *(a))
 
 enum { ROOT = 1, LINK = 0 };
 
 static uint16_t refs[4 * DFSC_PLACE_UNITS], doms[4 * DFSC_PLACE_UNITS], walk[DFSC_WALK_UNITS];
 static uint8_t request[DFSC_REQUEST_BYTES], reply[1024];
-static const char *const kinds[] = {"", "dc", "root", "link", "sysvol", "io"};
-
-static size_t units(const char *s, uint16_t *out) {
-    size_t n = 0;
-    for (; s[n]; n++)
-        out[n] = (uint8_t)s[n];
-    return n;
-}
 
 static size_t put(size_t at, uint32_t value, size_t bytes) {
     for (size_t i = 0; i < bytes; i++, value >>= 8)
@@ -45,13 +34,6 @@ static size_t referral(int kind, uint32_t ttl, const char *prefix, const char *c
     return text;
 }
 
-static void print(const char *key, const uint16_t *text, uint32_t n) {
-    printf("  %s=", key);
-    for (uint32_t i = 0; i < n && n <= 256; i++)
-        putchar(text[i] < 127 ? text[i] : '?');
-    putchar('\n');
-}
-
 /* One walk to \\files\rec\train\feb.wav. The servers as they stand: the namespace's root at files, and the targets of "train". */
 static uint32_t resolve(uint32_t clock, const char *const *train, size_t count) {
     static const char *const root[] = {"\\files\\rec"};
@@ -64,7 +46,7 @@ static uint32_t resolve(uint32_t clock, const char *const *train, size_t count) 
     while (!refused && dfsc_question(walk, LEN(walk), q, 3) == 3) {
         uint32_t to = dfsc_question_party(refs, LEN(refs), doms, LEN(doms), walk, LEN(walk), text, LEN(text));
         printf("  ask=%s\n", kinds[q[0]]);
-        print("to", text, to);
+        print("  to", text, to);
         if (q[0] == DFSC_ASK_IO) {
             int at_root = to == 10 && text[1] == 'f'; /* the root's server does not hold the link */
             refused = dfsc_answer_io(refs, LEN(refs), doms, LEN(doms), walk, LEN(walk), at_root ? 0xC0000257 : 0, clock, request, LEN(request));
@@ -76,7 +58,7 @@ static uint32_t resolve(uint32_t clock, const char *const *train, size_t count) 
     if (refused || dfsc_end(walk, LEN(walk), end, 3) != 3)
         return refused;
     printf("  end=%u\n", (unsigned)end[0]);
-    print("path", text, dfsc_end_path(walk, LEN(walk), text, LEN(text)));
+    print("  path", text, dfsc_end_path(walk, LEN(walk), text, LEN(text)));
     return end[0];
 }
 

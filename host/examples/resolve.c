@@ -1,8 +1,5 @@
 /* Resolves \\PEERHOST\dfs\link2\docs\a.txt against answers recorded here, and prints the questions and the end. A host would send them to servers. */
-#include "dfsc.h"
-#include <stdio.h>
-
-#define LEN(a) (sizeof(a) / sizeof *(a))
+#include "example.h"
 
 /* Replies of a Samba 4.17 server: vectors/captures/samba-root-host-l4.json and samba-dfstree-link2.json. */
 static const char root_reply[] =
@@ -20,31 +17,15 @@ static const struct { uint32_t status; const char *reply; } answers[] = {
     {0, root_reply}, {0xC0000257, ""}, {0, link_reply}, {0xC00000CC, ""}, {0, ""},
 };
 
-static const char *const kinds[] = {"", "dc", "root", "link", "sysvol", "io"};
-
 /* Caches of 4 places each, a walk, and the buffer for its requests. */
 static uint16_t refs[4 * DFSC_PLACE_UNITS], doms[4 * DFSC_PLACE_UNITS], walk[DFSC_WALK_UNITS];
 static uint8_t request[DFSC_REQUEST_BYTES];
-
-static size_t units(const char *s, uint16_t *out) {
-    size_t n = 0;
-    for (; s[n]; n++)
-        out[n] = (uint8_t)s[n];
-    return n;
-}
 
 static size_t bytes(const char *hex, uint8_t *out) {
     size_t n = 0;
     for (unsigned b; sscanf(hex + 2 * n, "%2x", &b) == 1; n++)
         out[n] = (uint8_t)b;
     return n;
-}
-
-static void print(const char *key, const uint16_t *text, uint32_t n) {
-    printf("%s=", key);
-    for (uint32_t i = 0; i < n && n <= 256; i++)
-        putchar(text[i] < 127 ? text[i] : '?');
-    putchar('\n');
 }
 
 int main(void) {

@@ -22,7 +22,9 @@ use Rattle.lines.proofs.LineLaws.{spelled-good, key-fits}
 use Rattle.hexes.specs.Hexes.{isHex, hexNumber, bytesOf}
 use Rattle.hexes.specs.declared.Rest.{Rest}
 use Rattle.script.specs.Script.{replyKey, statusKey, after, isText, textSaid, TextRead, textRead, textTaken, Taken, taken, textOrOther, orOther}
-use Rattle.script.specs.Script.{statusSaid, isStatus, isReply, wholeBytes, takesReply, withReply, read, WholeRead, wholeRead, takesAfter, isWhole, takes, endsAnswer}
+use Rattle.script.specs.Script.{statusSaid, isStatus, isReply, wholeBytes, takesReply, withReply, read, WholeRead, wholeRead, takesAfter, isWhole, takes, lineDue}
+use Rattle.script.specs.declared.Due.{Due}
+use Rattle.script.specs.declared.Due.the-variants as due
 use Rattle.script.specs.declared.Last.{Last}
 use Rattle.script.specs.declared.Last.the-variants.{Status, Reply, Other}
 use Rattle.script.specs.declared.Script.{Script}
@@ -136,13 +138,18 @@ module _ (s : Script) (line : List ℕ) {b : Bool} (e : b ≡ isStatus (s .last)
   unfolding isReply
   some-reply h f = f ∙ sym (and-yes-left _ (sym e ∙ h))
 
-  pub ends-none : b ≡ false → false ≡ endsAnswer s line
-  unfolding endsAnswer
-  ends-none h = sym (and-no-left _ (sym e ∙ h))
+  pub no-status-due : b ≡ false → due.None ≡ lineDue s line
+  unfolding lineDue
+  no-status-due h = sym (choose-no _ _ (and-no-left _ (sym e ∙ h)))
 
-  pub ends-some : b ≡ true → {d : Bool} → d ≡ hasKey replyKey line → not d ≡ endsAnswer s line
-  unfolding endsAnswer
-  ends-some h f = ap not f ∙ sym (and-yes-left _ (sym e ∙ h))
+  module _ (h : b ≡ true) {d : Bool} (f : d ≡ hasKey replyKey line) where
+    pub reply-due : d ≡ true → due.None ≡ lineDue s line
+    unfolding lineDue
+    reply-due g = sym (choose-no _ _ (and-yes-left _ (sym e ∙ h) ∙ ap not (sym f ∙ g)))
+
+    pub io-due : d ≡ false → due.Io ≡ lineDue s line
+    unfolding lineDue
+    io-due g = sym (choose-yes _ _ (and-yes-left _ (sym e ∙ h) ∙ ap not (sym f ∙ g)))
 
 pub reply-key : (s : Script) (line : List ℕ) {b : Bool} → b ≡ isReply s line → b ≡ true → hasKey replyKey line ≡ true
 unfolding isReply

@@ -18,10 +18,12 @@ use Rattle.hexes.specs.declared.Held.{Held}
 use Rattle.hexes.specs.declared.Rest.{Rest}
 use Rattle.hexes.specs.declared.Rest.the-variants as rest
 use Rattle.script.specs.declared.Last.{Last}
-use Rattle.script.specs.declared.Last.the-variants.{Nothing, Path, Limit, Size, Now, Boot, Clock, Status, Reply, Other}
+use Rattle.script.specs.declared.Last.the-variants.{Nothing, Path, Limit, Size, Now, Boot, Clock, Status, Reply, Other, Stopped}
 use Rattle.script.specs.declared.Script.{Script}
-use Rattle.script.specs.declared.Close.{Close}
-use Rattle.script.specs.declared.Close.the-variants.{Answers, Stops, Refused}
+use Rattle.script.specs.declared.Input.{Input}
+use Rattle.script.specs.declared.Input.the-variants.{Part, Line, End}
+use Rattle.script.specs.declared.Due.{Due}
+use Rattle.script.specs.declared.Due.the-variants as due
 
 -- path=
 abbrev pub pathKey : List ℕ
@@ -168,6 +170,7 @@ isStatus Clock = false
 isStatus Status = true
 isStatus Reply = false
 isStatus Other = false
+isStatus Stopped = false
 
 unfoldable pub isReply : Script → List ℕ → Bool
 isReply s line = isStatus (s .last) && hasKey replyKey line
@@ -217,6 +220,7 @@ takesAfter Clock s line path boot = wholeRead (takesStatus s line) path boot
 takesAfter Status s line path boot = wholeRead (takesAnswer s line) path boot
 takesAfter Reply s line path boot = wholeRead (takesAnswer s line) path boot
 takesAfter Other s line path boot = wholeRead s path boot
+takesAfter Stopped s line path boot = wholeRead s path boot
 
 unfoldable pub isWhole : Rest → Bool
 isWhole rest.None = true
@@ -245,19 +249,66 @@ lineTaken most s line path boot reply =
 unfoldable pub keptOf : List ℕ → Held → List ℕ
 keptOf line h = take (h .kept) line
 
--- "with reply= it is a referral's answer, without an I/O answer": the line that follows a status is no reply
-unfoldable pub endsAnswer : Script → List ℕ → Bool
-endsAnswer s line = isStatus (s .last) && not (hasKey replyKey line)
+-- what comes of the input: a part of a line, which waits for the rest; a line; or the end, which stops the program
+unfoldable pub comes : Input → Script → List ℕ → Rest → List ℕ → List ℕ → List ℕ → Read
+comes Part s line r path boot reply = read s path boot reply
+comes Line s line r path boot reply = takes s line r path boot reply
+comes End s line r path boot reply = read (after Stopped s) path boot reply
 
--- the input ends: after a status, which is then an I/O answer, or after settings or an answer; else it is not of the form
-unfoldable pub atEnd : Last → Close
-atEnd Nothing = Refused
-atEnd Path = Refused
-atEnd Limit = Refused
-atEnd Size = Refused
-atEnd Now = Refused
-atEnd Boot = Stops
-atEnd Clock = Refused
-atEnd Status = Answers
-atEnd Reply = Stops
-atEnd Other = Refused
+-- Which call is due before what has come is read. "With reply= it is a referral's answer, without an I/O answer": a status that the line does not go on
+-- with a reply was an answer to an I/O try.
+unfoldable pub lineDue : Script → List ℕ → Due
+lineDue s line = choose (isStatus (s .last) && not (hasKey replyKey line)) due.Io due.None
+
+-- So was the last status of the input. The input may end there, after the settings or after a reply; else it is not of the form.
+unfoldable pub endDue : Last → Due
+endDue Nothing = due.Refusal
+endDue Path = due.Refusal
+endDue Limit = due.Refusal
+endDue Size = due.Refusal
+endDue Now = due.Refusal
+endDue Boot = due.None
+endDue Clock = due.Refusal
+endDue Status = due.Io
+endDue Reply = due.None
+endDue Other = due.Refusal
+endDue Stopped = due.None
+
+unfoldable pub dueBefore : Input → Script → List ℕ → Due
+dueBefore Part s line = due.None
+dueBefore Line s line = lineDue s line
+dueBefore End s line = endDue (s .last)
+
+-- Which call is due when a line has been read: after the settings a start, after a reply the answer to a referral request. A line that is not of the form
+-- is refused.
+unfoldable pub readDue : Last → Due
+readDue Nothing = due.None
+readDue Path = due.None
+readDue Limit = due.None
+readDue Size = due.None
+readDue Now = due.None
+readDue Boot = due.Start
+readDue Clock = due.None
+readDue Status = due.None
+readDue Reply = due.Referral
+readDue Other = due.Refusal
+readDue Stopped = due.None
+
+unfoldable pub dueAfter : Input → Script → Due
+dueAfter Part s = due.None
+dueAfter Line s = readDue (s .last)
+dueAfter End s = due.None
+
+-- the program goes on until it has stopped
+unfoldable pub goesOn : Last → Bool
+goesOn Nothing = true
+goesOn Path = true
+goesOn Limit = true
+goesOn Size = true
+goesOn Now = true
+goesOn Boot = true
+goesOn Clock = true
+goesOn Status = true
+goesOn Reply = true
+goesOn Other = true
+goesOn Stopped = false

@@ -34,6 +34,8 @@ pub enum Last {
     Reply,
     // not of the form
     Other,
+    // a call was refused, or the input has ended
+    Stopped,
 }
 
 // What was read: the settings, and the answer that comes. The units of path and bootstrap DC and the bytes of the reply are lent.
@@ -48,13 +50,26 @@ pub struct Script {
     pub reply: usize,
 }
 
-// What the end of the input means.
-pub enum Close {
-    // the status that was read last is an answer to an I/O try
-    Answers,
-    Stops,
-    // not of the form
-    Refused,
+// What has come of the input.
+pub enum Input {
+    // a part of a line
+    Part,
+    // a line, whole
+    Line,
+    // the end
+    End,
+}
+
+// The call that is due.
+pub enum Due {
+    None,
+    Start,
+    // the answer to an I/O try
+    Io,
+    // the answer to a referral request
+    Referral,
+    // the input is not of the form
+    Refusal,
 }
 
 pub fn begin() -> Script

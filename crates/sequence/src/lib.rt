@@ -1,10 +1,11 @@
 // The lines of the input of `walk` in their order: which may follow which, and where the input may end.
 ghost use mathlib.Core.Path.{_≡_};
 ghost use Rattle.script.specs.Script.{takesAnswer, isStatus, isReply, read, takesAfter, isWhole, takes, keptOf};
-ghost use Rattle.script.specs.Script.{wholeRead, endsAnswer, atEnd};
+ghost use Rattle.script.specs.Script.{wholeRead, comes, lineDue, endDue, dueBefore, readDue, dueAfter, goesOn};
 use hexes::Held;
 use hexes::Rest;
-use script::Close;
+use script::Due;
+use script::Input;
 use script::Last;
 use script::Script;
 
@@ -37,6 +38,7 @@ fn is_status(last: Last) -> bool
         Last::Status => true,
         Last::Reply => false,
         Last::Other => false,
+        Last::Stopped => false,
     }
 }
 
@@ -79,11 +81,12 @@ fn take_whole(s: Script, line: &[u16], path: &mut [u16], boot: &mut [u16]) -> Sc
         Last::Status => take_answer(s, line),
         Last::Reply => take_answer(s, line),
         Last::Other => s,
+        Last::Stopped => s,
     }
 }
 
 // The line that is held, read by what was read last.
-pub fn take_line(
+fn take_line(
     s: Script,
     line: &[u16],
     held: Held,
@@ -104,33 +107,116 @@ pub fn take_line(
     take_whole(s, &line[..n], path, boot)
 }
 
-// Whether the status that was read last is an answer to an I/O try: the line that is held is no reply.
-pub fn ends_answer(s: Script, line: &[u16], held: Held) -> bool
-    ensures { λ r. ⌜ r ≡ endsAnswer s (keptOf (now (line .entry)) held) ⌝ }
+// Reads what has come of the input.
+pub fn take(
+    input: Input,
+    s: Script,
+    line: &[u16],
+    held: Held,
+    path: &mut [u16],
+    boot: &mut [u16],
+    reply: &mut [u8],
+) -> Script
+    ensures { λ r. ⌜ read r (now (path .exit)) (now (boot .exit)) (now (reply .exit)) ≡ comes input s (keptOf (now (line .entry)) held) (held .rest) (now (path .entry)) (now (boot .entry)) (now (reply .entry)) ⌝ }
+{
+    match input {
+        Input::Part => s,
+        Input::Line => take_line(s, line, held, path, boot, reply),
+        Input::End => script::with_last(s, Last::Stopped),
+    }
+}
+
+// The status that was read last is an answer to an I/O try where the line that is held is no reply.
+fn line_due(s: Script, line: &[u16], held: Held) -> Due
+    ensures { λ r. ⌜ r ≡ lineDue s (keptOf (now (line .entry)) held) ⌝ }
 {
     let last = s.last;
     if !is_status(last) {
-        return false;
+        return Due::None;
     }
     let n = hexes::least(held.kept, line.len());
     let key = REPLY;
-    !lines::has_key(&key, &line[..n])
+    if lines::has_key(&key, &line[..n]) {
+        return Due::None;
+    }
+    Due::Io
 }
 
-pub fn at_end(s: Script) -> Close
-    ensures { λ r. ⌜ r ≡ atEnd (s .last) ⌝ }
+fn end_due(last: Last) -> Due
+    ensures { λ r. ⌜ r ≡ endDue last ⌝ }
+{
+    match last {
+        Last::Nothing => Due::Refusal,
+        Last::Path => Due::Refusal,
+        Last::Limit => Due::Refusal,
+        Last::Size => Due::Refusal,
+        Last::Now => Due::Refusal,
+        Last::Boot => Due::None,
+        Last::Clock => Due::Refusal,
+        Last::Status => Due::Io,
+        Last::Reply => Due::None,
+        Last::Other => Due::Refusal,
+        Last::Stopped => Due::None,
+    }
+}
+
+// The call that is due before what has come is read.
+pub fn due_before(input: Input, s: Script, line: &[u16], held: Held) -> Due
+    ensures { λ r. ⌜ r ≡ dueBefore input s (keptOf (now (line .entry)) held) ⌝ }
+{
+    let last = s.last;
+    match input {
+        Input::Part => Due::None,
+        Input::Line => line_due(s, line, held),
+        Input::End => end_due(last),
+    }
+}
+
+fn read_due(last: Last) -> Due
+    ensures { λ r. ⌜ r ≡ readDue last ⌝ }
+{
+    match last {
+        Last::Nothing => Due::None,
+        Last::Path => Due::None,
+        Last::Limit => Due::None,
+        Last::Size => Due::None,
+        Last::Now => Due::None,
+        Last::Boot => Due::Start,
+        Last::Clock => Due::None,
+        Last::Status => Due::None,
+        Last::Reply => Due::Referral,
+        Last::Other => Due::Refusal,
+        Last::Stopped => Due::None,
+    }
+}
+
+// The call that is due when what has come was read.
+pub fn due_after(input: Input, s: Script) -> Due
+    ensures { λ r. ⌜ r ≡ dueAfter input s ⌝ }
+{
+    let last = s.last;
+    match input {
+        Input::Part => Due::None,
+        Input::Line => read_due(last),
+        Input::End => Due::None,
+    }
+}
+
+pub fn goes_on(s: Script) -> bool
+    ensures { λ r. ⌜ r ≡ goesOn (s .last) ⌝ }
 {
     let last = s.last;
     match last {
-        Last::Nothing => Close::Refused,
-        Last::Path => Close::Refused,
-        Last::Limit => Close::Refused,
-        Last::Size => Close::Refused,
-        Last::Now => Close::Refused,
-        Last::Boot => Close::Stops,
-        Last::Clock => Close::Refused,
-        Last::Status => Close::Answers,
-        Last::Reply => Close::Stops,
-        Last::Other => Close::Refused,
+        Last::Nothing => true,
+        Last::Path => true,
+        Last::Limit => true,
+        Last::Size => true,
+        Last::Now => true,
+        Last::Boot => true,
+        Last::Clock => true,
+        Last::Status => true,
+        Last::Reply => true,
+        Last::Other => true,
+        Last::Stopped => false,
     }
 }

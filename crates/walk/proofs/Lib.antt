@@ -1,3 +1,2 @@
--- Laws that the bounds of the program need, and that reading and printing are inverse.
-mod WalkLaws
+-- Reading and printing are inverse.
 pub mod Inverse

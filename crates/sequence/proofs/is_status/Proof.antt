@@ -36,6 +36,9 @@ enum-told-9 c = search needs
 enum-told-10 : tie.Need-enum-told-10
 enum-told-10 c = search needs
 
+enum-told-11 : tie.Need-enum-told-11
+enum-told-11 c = search needs
+
 returns : tie.Need-returns
 unfolding isStatus
 returns c = ap (isStatus) (sym (c .enum-told .given .1))
@@ -76,6 +79,10 @@ returns-10 : tie.Need-returns-10
 unfolding isStatus
 returns-10 c = ap (isStatus) (sym (c .enum-told10 .given .1))
 
+returns-11 : tie.Need-returns-11
+unfolding isStatus
+returns-11 c = ap (isStatus) (sym (c .enum-told11 .given .1))
+
 pub is-status-spec : {M : Type 1} → statement M
 is-status-spec =
     tie.close
@@ -90,6 +97,7 @@ is-status-spec =
     enum-told-8
     enum-told-9
     enum-told-10
+    enum-told-11
     returns
     returns-2
     returns-3
@@ -99,4 +107,5 @@ is-status-spec =
     returns-7
     returns-8
     returns-9
-    returns-10)
+    returns-10
+    returns-11)

@@ -73,6 +73,9 @@ take-answer-requires-3 c κs = search needs
 enum-told-10 : tie.Need-enum-told-10
 enum-told-10 c = search needs
 
+enum-told-11 : tie.Need-enum-told-11
+enum-told-11 c = search needs
+
 same-length : tie.Need-same-length
 same-length c = search needs
 
@@ -119,6 +122,10 @@ returns-10 : tie.Need-returns-10
 unfolding takesAfter
 returns-10 c = by-last (c .before .before .before .before .before .args .s) (now (c .before .before .before .before .before .args .line)) (now (c .before .before .before .before .before .args .path)) (now (c .before .before .before .before .before .args .boot)) (c .enum-told10 .given .1) refl
 
+returns-11 : tie.Need-returns-11
+unfolding takesAfter
+returns-11 c = by-last (c .before .before .before .before .before .args .s) (now (c .before .before .before .before .before .args .line)) (now (c .before .before .before .before .before .args .path)) (now (c .before .before .before .before .before .args .boot)) (c .enum-told11 .given .1) refl
+
 pub take-whole-spec : {M : Type 1} → statement M
 take-whole-spec =
     tie.close
@@ -142,6 +149,7 @@ take-whole-spec =
     enum-told-9
     take-answer-requires-3
     enum-told-10
+    enum-told-11
     same-length
     returns
     returns-2
@@ -153,4 +161,5 @@ take-whole-spec =
     returns-7
     returns-8
     returns-9
-    returns-10)
+    returns-10
+    returns-11)

@@ -1,0 +1,2 @@
+-- Laws of the calls of the program `walk`.
+pub mod CallingLaws

@@ -1,0 +1,91 @@
+-- The call that is due, made: what it leaves, and what is printed after it. Document 01, "Examples to hold it to".
+use Prim.Native.Nat.{ℕ}
+use mathlib.Core.Path.{_≡_}
+use mathlib.Core.List.{List, []}
+use lib.ListN.{take, replicate}
+use lib.Dec.{eqb}
+use Rattle.laws.specs.Choice.{choose}
+use Rattle.walks.specs.declared.Walk.{Walk}
+use Rattle.closing.specs.Closing.{Left}
+use Rattle.resolve.specs.Calls.{Answered, refusalNumber, startCall, ioCall, referralCall}
+use Rattle.spelling.specs.Spelling.{Put}
+use Rattle.printing.specs.Printed.{refusedLine}
+use Rattle.telling.specs.Telling.{outcomeLines}
+use Rattle.script.specs.Script.{after}
+use Rattle.script.specs.declared.Script.{Script}
+use Rattle.script.specs.declared.Last.the-variants.{Stopped}
+use Rattle.script.specs.declared.Due.{Due}
+use Rattle.script.specs.declared.Due.the-variants as due
+use Rattle.calling.specs.declared.Done.{Done}
+
+-- the walk that the program holds, and all memory that it lends
+pub record Lent : Type 0 where
+  pub walk : Walk
+  pub refs : List ℕ
+  pub doms : List ℕ
+  pub texts : List ℕ
+  pub path : List ℕ
+  pub boot : List ℕ
+  pub reply : List ℕ
+
+abbrev pub lent : Walk → List ℕ → List ℕ → List ℕ → List ℕ → List ℕ → List ℕ → Lent
+lent walk refs doms texts path boot reply =
+    record { walk = walk; refs = refs; doms = doms; texts = texts; path = path; boot = boot; reply = reply }
+
+-- what a call leaves: what was read, the walk, both caches and the walk's texts; and what is printed
+pub record Called : Type 0 where
+  pub script : Script
+  pub walk : Walk
+  pub refs : List ℕ
+  pub doms : List ℕ
+  pub texts : List ℕ
+  pub printed : List ℕ
+
+abbrev pub called : Script → Walk → List ℕ → List ℕ → List ℕ → List ℕ → Called
+called script walk refs doms texts printed = record { script = script; walk = walk; refs = refs; doms = doms; texts = texts; printed = printed }
+
+-- "A refusal prints refused= and its number .., then stops."
+unfoldable pub told : Script → Answered → Called
+told s a =
+    called (choose (eqb (refusalNumber (a .left .verdict)) 0) s (after Stopped s)) (a .left .walk) (a .refs) (a .doms) (a .left .texts)
+    (outcomeLines (refusalNumber (a .left .verdict)) (a .refs) (a .doms) (a .left .walk) (a .left .texts))
+
+-- the buffer for a request holds every one
+unfoldable pub request : List ℕ
+request = replicate 516 0
+
+unfoldable pub startMade : Script → Lent → Called
+startMade s h = told s (record {
+  left = startCall (h .refs) (h .doms) (h .texts) (h .walk) (take (s .path) (h .path)) (take (s .boot) (h .boot)) (s .limit) (s .size) (s .clock) request;
+  refs = h .refs;
+  doms = h .doms;
+})
+
+unfoldable pub ioMade : Script → Lent → Called
+ioMade s h = told s (ioCall (h .refs) (h .doms) (h .texts) (h .walk) (s .status) (s .clock) request)
+
+unfoldable pub referralMade : Script → Lent → Called
+referralMade s h = told s (referralCall (h .refs) (h .doms) (h .texts) (h .walk) (s .status) (take (s .reply) (h .reply)) (s .clock) request)
+
+-- nothing is called
+abbrev pub uncalled : Script → List ℕ → Lent → Called
+uncalled s printed h = called s (h .walk) (h .refs) (h .doms) (h .texts) printed
+
+-- the call that is due; "0: input not of this form"
+unfoldable pub made : Due → Script → Lent → Called
+made due.None s h = uncalled s [] h
+made due.Start s h = startMade s h
+made due.Io s h = ioMade s h
+made due.Referral s h = referralMade s h
+made due.Refusal s h = uncalled (after Stopped s) (refusedLine 0) h
+
+-- a call's answer and the memory after it: what is printed stands at the beginning of d
+pub record Made (x : Called) (r : Done) (refs doms texts d o : List ℕ) : Type 0 where
+  pub left : called (r .script) (r .walk) refs doms texts (x .printed) ≡ x
+  pub printed : Put d 0 (x .printed) o (r .bytes)
+
+-- the input is refused: the same, of what does not touch the caches
+pub record Refused (s : Script) (w : Walk) (r : Done) (d o : List ℕ) : Type 0 where
+  pub script : r .script ≡ after Stopped s
+  pub walk : r .walk ≡ w
+  pub printed : Put d 0 (refusedLine 0) o (r .bytes)

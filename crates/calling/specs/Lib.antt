@@ -1,0 +1,2 @@
+-- The calls of the program `walk`.
+pub mod Calling

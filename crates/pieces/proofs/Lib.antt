@@ -1,0 +1,2 @@
+-- Laws of a line that comes in pieces.
+pub mod PieceLaws

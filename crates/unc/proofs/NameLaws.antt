@@ -123,16 +123,6 @@ module _ (s t : List ℕ) (i : ℕ) (u : i < length s) (v : i < length t) where
   unfolding sameName sameUnit
   same-miss e f h = rw (drop-cons s i 0 u, drop-cons t i 0 v, ne-eqb _ _ (λ k. h (e ∙ (k ∙ sym f))))
 
-  -- the same, where the units themselves are compared
-  pub units-hit : {x y : ℕ} {r : Bool} → x ≡ getD s i 0 → y ≡ getD t i 0 → r ≡ sameUnit x y → r ≡ true
-      → sameName (drop i s) (drop i t) ≡ sameName (drop (i + 1) s) (drop (i + 1) t)
-  unfolding sameName
-  units-hit e f g h = rw (add-one, drop-cons s i 0 u, drop-cons t i 0 v, ← e, ← f, ← g, h)
-
-  pub units-miss : {x y : ℕ} {r : Bool} → x ≡ getD s i 0 → y ≡ getD t i 0 → r ≡ sameUnit x y → r ≡ false → sameName (drop i s) (drop i t) ≡ false
-  unfolding sameName
-  units-miss e f g h = rw (drop-cons s i 0 u, drop-cons t i 0 v, ← e, ← f, ← g, h)
-
 pub same-end : (s t : List ℕ) (i : ℕ) → length s ≤ i → length t ≤ i → sameName (drop i s) (drop i t) ≡ true
 unfolding sameName
 same-end s t i u v = rw (drop-of-length-le s u, drop-of-length-le t v)

@@ -1,8 +1,9 @@
 // Units and names on lent units: document 01, "Paths".
 ghost use mathlib.Core.Path.{_≡_};
-ghost use Prim.Native.Nat.{_+_};
-ghost use lib.ListN.{drop};
-ghost use Rattle.unc.specs.Names.{folded, sameUnit, sameName, plain, nothingOrDots, goodComponent, goodName};
+ghost use mathlib.Core.Bool.{true};
+ghost use Prim.Native.Nat.{_+_, _≤_};
+ghost use lib.ListN.{length, drop};
+ghost use Rattle.unc.specs.Names.{folded, sameUnit, sameName, SameWithin, plain, nothingOrDots, goodComponent, goodName};
 ghost use Rattle.unc.specs.Paths.{plainLength};
 
 const BACKSLASH: u16 = 92;
@@ -10,6 +11,9 @@ const BACKSLASH: u16 = 92;
 const SLASH: u16 = 47;
 
 const DOT: u16 = 46;
+
+// Units compared at a time.
+const BLOCK: usize = 16;
 
 // The most units of a name.
 const NAME_UNITS: usize = 255;
@@ -48,27 +52,74 @@ pub fn same_unit(a: u16, b: u16) -> bool
     fold(a) == fold(b)
 }
 
+// Whether the 16 units from `at` on are the same, unfolded. The loop has no exit, so that it runs over many units at a time.
+fn equal_block(a: &[u16], b: &[u16], at: usize) -> bool
+    requires { ⌜ (at + 16 ≤ length (now a)) × (at + 16 ≤ length (now b)) ⌝ }
+    ensures { λ r. ⌜ (r ≡ true → SameWithin (now (a .entry)) (now (b .entry)) at (at + 16)) ⌝ }
+{
+    let mut differ: u16 = 0;
+    let mut k = 0;
+    while k < BLOCK {
+        differ = differ | (a[at + k] ^ b[at + k]);
+        k += 1;
+    }
+    differ == 0
+}
+
+// Whether two names of one length, of 16 units or more, are the same, unfolded: the last 16 units first, since paths of one namespace begin alike.
+fn equal_units(a: &[u16], b: &[u16]) -> bool
+    requires { ⌜ length (now a) ≡ length (now b) ⌝ }
+    ensures { λ r. ⌜ (r ≡ true → sameName (now (a .entry)) (now (b .entry)) ≡ true) ⌝ }
+{
+    if a.len() < BLOCK {
+        return false;
+    }
+    let last = a.len() - BLOCK;
+    let mut at = last;
+    let mut next = 0;
+    loop {
+        if !equal_block(a, b, at) {
+            return false;
+        }
+        if last <= next {
+            return true;
+        }
+        at = next;
+        next += BLOCK;
+    }
+}
+
+// Whether two names of one length are equal, unit by unit from the last on.
+fn same_units(a: &[u16], b: &[u16]) -> bool
+    requires { ⌜ length (now a) ≡ length (now b) ⌝ }
+    ensures { λ r. ⌜ r ≡ sameName (now (a .entry)) (now (b .entry)) ⌝ }
+{
+    let mut i = a.len();
+    while 0 < i {
+        i -= 1;
+        let x = a[i];
+        let y = b[i];
+        // most units are the same, and need no folding
+        if x == y {
+            continue;
+        }
+        if !same_unit(x, y) {
+            return false;
+        }
+    }
+    true
+}
+
 pub fn same_name(a: &[u16], b: &[u16]) -> bool
     ensures { λ r. ⌜ r ≡ sameName (now (a .entry)) (now (b .entry)) ⌝ }
 {
     if a.len() != b.len() {
         return false;
     }
-    let mut i = 0;
-    while i < a.len() {
-        let x = a[i];
-        let y = b[i];
-        // most units are the same, and need no folding
-        if x == y {
-            i += 1;
-            continue;
-        }
-        if !same_unit(x, y) {
-            return false;
-        }
-        i += 1;
+    if equal_units(a, b) {
+        return true;
     }
-    true
+    same_units(a, b)
 }
 
 // Whether a unit may stand in a component.

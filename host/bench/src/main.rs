@@ -61,7 +61,11 @@ fn least(calls: &mut [&mut dyn FnMut()]) -> Vec<f64> {
 }
 
 fn shown(ns: f64) -> String {
-    if ns < 10_000.0 { format!("{ns:.0} ns") } else { format!("{:.1} us", ns / 1e3) }
+    match ns {
+        ..100.0 => format!("{ns:.1} ns"),
+        ..10_000.0 => format!("{ns:.0} ns"),
+        _ => format!("{:.1} us", ns / 1e3),
+    }
 }
 
 /// What is missed is printed; what is over its bound fails.
@@ -129,15 +133,22 @@ fn caches(goals: &mut Goals) {
         if shape.units < 250 {
             p.extend("\\docs\\a.txt".encode_utf16());
         }
-        let what = format!("look-up in 32 entries, {name}");
-        let (_, ratio) = pair(&what, || { black_box(find(black_box(&cache), black_box(&p))); }, || { black_box(plain::caches::find(black_box(&cache), black_box(&p))); });
-        goals.hold(what, ratio, LOOK_UP, LOOK_UP * MARGIN);
-        let others = least(&mut [
-            &mut || { black_box(plain::caches::find_folding(black_box(&cache), black_box(&p))); },
-            &mut || { black_box(plain::caches::find_in_blocks(black_box(&cache), black_box(&p))); },
-        ]);
-        println!("  plain with every unit folded before it is compared {}, with 16 units compared at a time {}", shown(others[0]), shown(others[1]));
+        look_up(goals, name, &cache, &p);
     }
+}
+
+// The plain side is the fastest of its ways.
+fn look_up(goals: &mut Goals, name: &str, cache: &[u16], p: &[u16]) {
+    let [proved, called, blocks, folding] = least(&mut [
+        &mut || { black_box(find(black_box(cache), black_box(p))); },
+        &mut || { black_box(plain::caches::find(black_box(cache), black_box(p))); },
+        &mut || { black_box(plain::caches::find_in_blocks(black_box(cache), black_box(p))); },
+        &mut || { black_box(plain::caches::find_folding(black_box(cache), black_box(p))); },
+    ])[..] else { unreachable!() };
+    let (what, plain) = (format!("look-up in 32 entries, {name}"), called.min(blocks));
+    println!("{what}: proved {}, plain {}, ratio {:.2}", shown(proved), shown(plain), proved / plain);
+    println!("  plain by the C library's comparison {}, by 16 units at a time {}, by every unit folded {}", shown(called), shown(blocks), shown(folding));
+    goals.hold(what, proved / plain, LOOK_UP, LOOK_UP * MARGIN);
 }
 
 struct Start<'a> {

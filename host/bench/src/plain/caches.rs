@@ -1,5 +1,5 @@
 //! The order test and the look-ups.
-use super::names::{good_name, path_components, same, BACKSLASH};
+use super::names::{good_name, path_components, same, same_called, unlike_last, BACKSLASH};
 use dfsc::PLACE_UNITS as PLACE;
 
 pub const HEAD: usize = 32;
@@ -73,14 +73,29 @@ pub fn domains_in_order(cache: &[u16]) -> bool {
     in_order(cache, good_domain)
 }
 
+#[inline]
+fn alike(a: &[u16], b: &[u16], same: impl Fn(&[u16], &[u16]) -> bool) -> bool {
+    !unlike_last(a, b) && same(a, b)
+}
+
+// A prefix that matches. Paths of one namespace begin alike, so that their last units tell most of them apart.
+#[inline]
+fn matches(prefix: &[u16], path: &[u16], same: impl Fn(&[u16], &[u16]) -> bool) -> bool {
+    let n = prefix.len();
+    if n == path.len() {
+        return alike(prefix, path, same);
+    }
+    n < path.len() && path[n] == BACKSLASH && alike(prefix, &path[..n], same)
+}
+
 /// The place whose prefix is the longest that matches the path.
 #[inline]
-fn find_with(cache: &[u16], path: &[u16], same: impl Fn(&[u16], &[u16]) -> bool) -> Option<usize> {
+fn find_with(cache: &[u16], path: &[u16], same: impl Copy + Fn(&[u16], &[u16]) -> bool) -> Option<usize> {
     let mut best = None;
     let mut units = 0;
     for (i, p) in cache.chunks_exact(PLACE).enumerate() {
         let n = p[0] as usize;
-        if n > units && n <= path.len() && (n == path.len() || path[n] == BACKSLASH) && same(&p[HEAD..HEAD + n], &path[..n]) {
+        if n > units && matches(&p[HEAD..HEAD + n], path, same) {
             best = Some(i);
             units = n;
         }
@@ -89,7 +104,7 @@ fn find_with(cache: &[u16], path: &[u16], same: impl Fn(&[u16], &[u16]) -> bool)
 }
 
 pub fn find(cache: &[u16], path: &[u16]) -> Option<usize> {
-    find_with(cache, path, same)
+    find_with(cache, path, same_called)
 }
 
 pub fn find_in_blocks(cache: &[u16], path: &[u16]) -> Option<usize> {

@@ -9,33 +9,40 @@ fn folded(u: u16) -> u16 {
     if u.wrapping_sub(65) < 26 { u + 32 } else { u }
 }
 
-/// Equal names, up to the first unit that differs.
+/// Equal names of one length, unit by unit from the last on.
+#[inline]
+fn same_units(a: &[u16], b: &[u16]) -> bool {
+    a.iter().rev().zip(b.iter().rev()).all(|(x, y)| x == y || folded(*x) == folded(*y))
+}
+
+/// Equal names: the last 16 units first, then all of them by the C library's comparison, then unit by unit.
 #[inline]
 pub fn same(a: &[u16], b: &[u16]) -> bool {
-    a.len() == b.len() && a.iter().zip(b).all(|(x, y)| x == y || folded(*x) == folded(*y))
+    a.len() == b.len() && (a.last_chunk::<16>() == b.last_chunk::<16>() && a == b || same_units(a, b))
+}
+
+/// The same by a call: the look-up then keeps its registers for what it does at every place.
+#[inline(never)]
+pub fn same_called(a: &[u16], b: &[u16]) -> bool {
+    same(a, b)
+}
+
+/// Equal names: the last 16 units first, then 16 at a time, then unit by unit.
+#[inline(never)]
+pub fn same_in_blocks(a: &[u16], b: &[u16]) -> bool {
+    let blocks = || a.chunks_exact(16).zip(b.chunks_exact(16)).all(|(x, y)| x == y);
+    a.len() == b.len() && (a.len() >= 16 && a.last_chunk::<16>() == b.last_chunk::<16>() && blocks() || same_units(a, b))
+}
+
+/// Whether the last units of two names cannot be equal: the five low bits of equal units are the same.
+#[inline]
+pub fn unlike_last(a: &[u16], b: &[u16]) -> bool {
+    matches!((a.last(), b.last()), (Some(x), Some(y)) if (x ^ y) % 32 != 0)
 }
 
 /// Equal names, each unit folded before it is compared.
 pub fn same_folding(a: &[u16], b: &[u16]) -> bool {
     a.len() == b.len() && a.iter().zip(b).all(|(x, y)| folded(*x) == folded(*y))
-}
-
-/// Equal names, 16 units at a time: the compiler makes vector instructions of it.
-pub fn same_in_blocks(a: &[u16], b: &[u16]) -> bool {
-    if a.len() != b.len() {
-        return false;
-    }
-    let (mut p, mut q) = (a.chunks_exact(16), b.chunks_exact(16));
-    for (x, y) in p.by_ref().zip(q.by_ref()) {
-        let mut differ = 0;
-        for k in 0..16 {
-            differ |= folded(x[k]) ^ folded(y[k]);
-        }
-        if differ != 0 {
-            return false;
-        }
-    }
-    same(p.remainder(), q.remainder())
 }
 
 /// Whether the component that ends before `to` and begins at `from` is none, "." or "..".

@@ -285,8 +285,7 @@ impl Host {
             self.doms.resize(r.one_of(&[0, self.doms.len() - 1, self.doms.len() + 1, 33 * PLACE]), 0);
         }
         let (reply, size) = (scenes::domain_reply(r), scenes::size(r));
-        let places = if self.doms.len() % PLACE == 0 { self.doms.len() / PLACE } else { 0 };
-        let model = domains_after(&reply, size, places);
+        let model = domains_after(&reply, size, lent::place_count(&self.doms));
         let lent = self.doms.clone();
         let number = calls::read_domains(&reply, size, &mut self.doms);
         same("the number of a domain reply", &[number], &[*model.as_ref().err().unwrap_or(&0)])?;

@@ -1,4 +1,5 @@
-//! Random walks, given both to libdfsc.a and to the model of the rules: each call's number, all lent memory after it, and what the walk then shows.
+//! Random walks, and listings made and read between their calls, given both to libdfsc.a and to the model of the rules: each call's number, all lent memory
+//! after it, and what the walk then shows.
 //! `--calls N` (200,000), `--seed S` (1); `--scene K` runs that scene of the seed alone.
 //!
 //! Each slice is lent in a heap block of exactly its length. With `--guard end` it ends at an unreadable page, with `--guard start` it begins after one;
@@ -7,11 +8,13 @@
 mod calls;
 mod control;
 mod lent;
+mod listings;
 mod random;
 mod rules;
 mod scenes;
 #[allow(unsafe_code)]
 mod slots;
+mod texts;
 
 use lent::{PLACE, WALK};
 use random::Random;
@@ -320,6 +323,9 @@ impl Host {
             self.answer(r, now, counts)?;
         }
         self.compare(r)?;
+        if r.in_hundred(if self.caches.is_none() { 40 } else { 6 }) {
+            self.list(r, counts)?;
+        }
         if self.caches.is_none() || self.units.len() != WALK || (self.walk.is_none() && before.walk.is_some()) {
             *self = before;
         }
@@ -344,6 +350,9 @@ fn scene(r: &mut Random, counts: &mut Counts) -> Outcome {
             if r.in_hundred(5) {
                 counts.calls += 1;
                 host.read_domains(r, counts)?;
+            }
+            if r.in_hundred(12) {
+                host.read_listing(r, now, counts)?;
             }
             if r.in_hundred(changes) {
                 host.change_walks();
@@ -386,7 +395,7 @@ fn wanted() -> Vec<String> {
     let domains = [0, 3, 4, 6, 7].map(|n| format!("domains {n:2}"));
     let kinds = [Kind::Dc, Kind::Root, Kind::Link, Kind::Sysvol, Kind::Io].map(|k| format!("question {k:?}"));
     let damage = DAMAGE.map(|d| format!("damage to {d}"));
-    ends.chain(refusals).chain(domains).chain(kinds).chain(damage).collect()
+    ends.chain(refusals).chain(domains).chain(kinds).chain(damage).chain(listings::wanted()).collect()
 }
 
 fn main() {

@@ -3,7 +3,7 @@
 //! `--calls N` (200,000), `--seed S` (1); `--scene K` runs that scene of the seed alone.
 //!
 //! Each slice is lent in a heap block of exactly its length. With `--guard end` it ends at an unreadable page, with `--guard start` it begins after one;
-//! then controls are run first, which must be caught (`--control SLOT`; of the slot `none` nothing is missing, and its calls are taken).
+//! then controls are run first, which must be caught (`--control SLOT`; of the slot `none` nothing is missing, and its calls are taken). `--slots` names them.
 #![deny(unsafe_code)]
 mod calls;
 mod control;
@@ -405,6 +405,10 @@ fn main() {
         "start" => Side::Start,
         _ => panic!("--guard takes end or start"),
     });
+    if args.iter().any(|a| a == "--slots") {
+        println!("{}", control::SLOTS.join(" "));
+        return;
+    }
     if let Some(slot) = value(&args, "--control") {
         assert!(slot == control::NONE || control::SLOTS.contains(&slot), "no slot {slot}");
         std::process::exit(!control::survives(side, slot) as i32);

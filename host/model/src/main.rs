@@ -267,18 +267,20 @@ impl Host {
         self.close(before, number, &out, model, counts)
     }
 
-    fn domain_request(r: &mut Random) -> Outcome {
+    fn domain_request(r: &mut Random, counts: &mut Counts) -> Outcome {
         let mut out = vec![FILL as u8; r.below(8)];
         let request = request(&[]);
         let fits = request.len() <= out.len();
         let mut left = if fits { request } else { vec![] };
         left.resize(out.len(), FILL as u8);
-        same("the number of a domain request", &[calls::domain_request(&mut out)], &[if fits { 0 } else { 10 }])?;
+        let number = calls::domain_request(&mut out);
+        same("the number of a domain request", &[number], &[if fits { 0 } else { 10 }])?;
+        counts.see(format!("domain request {number:2}"));
         same("the domain request", &out, &left)
     }
 
     fn read_domains(&mut self, r: &mut Random, counts: &mut Counts) -> Outcome {
-        Host::domain_request(r)?;
+        Host::domain_request(r, counts)?;
         let before = self.clone();
         if r.in_hundred(20) {
             // what the cache holds is not looked at, its length is
@@ -392,10 +394,11 @@ const LONG: u64 = 100_000;
 fn wanted() -> Vec<String> {
     let ends = (20..=27).map(|n| format!("end     {n}"));
     let refusals = [1, 2, 3, 4, 5, 10].map(|n| format!("refusal {n:2}"));
+    let requests = [0, 10].map(|n| format!("domain request {n:2}"));
     let domains = [0, 3, 4, 6, 7].map(|n| format!("domains {n:2}"));
     let kinds = [Kind::Dc, Kind::Root, Kind::Link, Kind::Sysvol, Kind::Io].map(|k| format!("question {k:?}"));
     let damage = DAMAGE.map(|d| format!("damage to {d}"));
-    ends.chain(refusals).chain(domains).chain(kinds).chain(damage).chain(listings::wanted()).collect()
+    ends.chain(refusals).chain(requests).chain(domains).chain(kinds).chain(damage).chain(listings::wanted()).collect()
 }
 
 fn main() {

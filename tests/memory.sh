@@ -1,6 +1,6 @@
 #!/usr/bin/env bash
-# The memory that the library is lent: random walks (host/model) with every slice at an unreadable page, and under valgrind with every slice a heap block
-# of its length. In the controls elements of one slice are missing, which must be caught each time.
+# The memory that the library is lent: random walks and listings (host/model) with every slice at an unreadable page, and under valgrind with every slice a
+# heap block of its length. In the controls elements of one slice are missing, which must be caught each time.
 set -eu
 cd "$(dirname "$0")/.."
 command -v valgrind >/dev/null || { echo "memory: there is no valgrind on this machine"; exit 1; }
@@ -20,7 +20,7 @@ check --calls 3000 --seed 3 || { cat "$log"; exit 1; }
 grep -E '^seed|ERROR SUMMARY' "$log"
 check --control none || { cat "$log"; exit 1; }
 caught=0
-for slot in refs doms walk path boot reply request text numbers; do
+for slot in $("$model" --slots); do
     status=0
     check --control "$slot" || status=$?
     if [ "$status" -ne 9 ] || ! grep -qE 'Invalid (read|write)' "$log"; then

@@ -15,6 +15,7 @@ pub struct Lender {
     pub request: Slot<u8>,
     pub text: Slot<u16>,
     pub numbers: Slot<u32>,
+    pub listing: Slot<u16>,
 }
 
 impl Lender {
@@ -30,6 +31,7 @@ impl Lender {
             request: Slot::new(side),
             text: Slot::new(side),
             numbers: Slot::new(side),
+            listing: Slot::new(side),
         }
     }
 }
@@ -43,7 +45,7 @@ pub fn lend_at(side: Side) {
     LENDER.with(|l| *l.borrow_mut() = Lender::new(Some(side)));
 }
 
-fn lending(call: impl FnOnce(&mut Lender) -> u32) -> u32 {
+fn lending<N>(call: impl FnOnce(&mut Lender) -> N) -> N {
     LENDER.with(|l| call(&mut l.borrow_mut()))
 }
 
@@ -134,6 +136,24 @@ pub fn read_domains(reply: &[u8], size: u32, doms: &mut [u16]) -> u32 {
         let number = calls::read_domains(l.reply.lend(reply), size, l.doms.lend(doms));
         l.reply.is_as_lent(reply);
         l.doms.take_back(doms);
+        number
+    })
+}
+
+pub fn list(refs: &[u16], out: &mut [u16]) -> u64 {
+    lending(|l| {
+        let number = calls::list(l.refs.lend(refs), l.listing.lend(out));
+        l.refs.is_as_lent(refs);
+        l.listing.take_back(out);
+        number
+    })
+}
+
+pub fn read(text: &[u16], refs: &mut [u16]) -> u32 {
+    lending(|l| {
+        let number = calls::read(l.listing.lend(text), l.refs.lend(refs));
+        l.listing.is_as_lent(text);
+        l.refs.take_back(refs);
         number
     })
 }

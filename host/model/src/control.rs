@@ -1,5 +1,6 @@
 //! The control of the lending: for each slot a call that uses the whole of its slice, with elements of its memory missing, must not survive at an
-//! unreadable page, and is reported by valgrind on the heap. With nothing missing the same call is taken.
+//! unreadable page, and is reported by valgrind on the heap. With nothing missing the same call is taken. The listing's slot has two: it is written by
+//! one call and read by another.
 use crate::calls::Lender;
 use crate::rules::names::ascii;
 use crate::slots::Side;
@@ -7,7 +8,7 @@ use dfsc::{calls, PLACE_UNITS, WALK_UNITS};
 use std::os::unix::process::ExitStatusExt;
 use std::process::Command;
 
-pub const SLOTS: [&str; 9] = ["refs", "doms", "walk", "path", "boot", "reply", "request", "text", "numbers"];
+pub const SLOTS: [&str; 11] = ["refs", "doms", "walk", "path", "boot", "reply", "request", "text", "numbers", "listing", "listing-read"];
 /// The control of which nothing is missing.
 pub const NONE: &str = "none";
 const SEGMENTATION_FAULT: i32 = 11;
@@ -18,7 +19,9 @@ fn reply() -> Vec<u8> {
     [fields, vec![0; 16], string("\\files\\s1"), string("\\nas1\\s1")].concat()
 }
 
-/// A start and what follows, with elements of one slot missing, or of none: whether each call was taken.
+const LISTING: &str = "prefix=\\a\\b\nkind=root\ninterlink=0\nfailback=0\nttl=0\ntaken=0\nhint=0\ntarget=\\c\\d\n";
+
+/// A start and what follows, and a listing read and listed again, with elements of one slot missing, or of none: whether each call was taken.
 pub fn survives(side: Option<Side>, slot: &str) -> bool {
     // the first two bytes of a reply, PathConsumed, are not used
     let missed = |name: &str| (name == slot) as usize * if name == "reply" && side == Some(Side::Start) { 3 } else { 1 };
@@ -35,7 +38,11 @@ pub fn survives(side: Option<Side>, slot: &str) -> bool {
     let asked = calls::question(l.walk.lend(&walk), l.numbers.lend_short(&[0; 3], missed("numbers")));
     let answered = calls::answer_referral(l.refs.lend(&cache), l.doms.lend(&cache), l.walk.lend(&walk), 0, l.reply.lend_short(&reply(), missed("reply")), 100,
         l.request.lend(&[]));
-    (started, named, asked, answered) == (0, 9, 3, 0)
+    let (text, mut refs) = (ascii(LISTING), cache);
+    let read = calls::read(l.listing.lend_short(&text, missed("listing-read")), l.refs.lend(&refs));
+    l.refs.take_back(&mut refs);
+    let listed = calls::list(l.refs.lend(&refs), l.listing.lend_short(&vec![0; text.len()], missed("listing")));
+    (started, named, asked, answered, read, listed) == (0, 9, 3, 0, 0, text.len() as u64)
 }
 
 /// Runs each control in a process of its own: whether all came out as they must.

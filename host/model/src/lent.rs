@@ -1,5 +1,5 @@
 //! Lent memory and the model's values: caches as crates/places/specs/Layout.antt lays them out, a walk as crates/packing and crates/walks do.
-use crate::rules::caches::{Caches, Domain, Referral, Serves, Target};
+use crate::rules::caches::{domains_in_order, referrals_in_order, Caches, Domain, Referral, Serves, Target};
 use crate::rules::names::{components, good_path, matches, Text};
 use crate::rules::walk::{good_settings, good_size, End, Kind, Party, Question, Rest, Walk};
 
@@ -97,19 +97,29 @@ fn domain(place: &[u16]) -> Option<Domain> {
     Some(Domain { name: text(place, 0)?, dcs, hint })
 }
 
+/// The places of lent memory; none where its length is not that of places.
+pub fn place_count(units: &[u16]) -> usize {
+    if units.len() % PLACE == 0 { units.len() / PLACE } else { 0 }
+}
+
 // The entries of the places, free ones among them; None where one cannot be read.
 fn entries<T>(units: &[u16], read: impl Fn(&[u16]) -> Option<T>) -> Option<Vec<Option<T>>> {
-    if units.len() % PLACE != 0 {
-        return None;
-    }
-    units.chunks(PLACE).map(|p| if p[0] == 0 { Some(None) } else { read(p).map(Some) }).collect()
+    units.chunks(PLACE).take(place_count(units)).map(|p| if p[0] == 0 { Some(None) } else { read(p).map(Some) }).collect()
+}
+
+/// A referral cache; None where it is not in order.
+pub fn referrals(refs: &[u16]) -> Option<Vec<Option<Referral>>> {
+    // unused room is zero: the memory is what the entries read from it write
+    entries(refs, referral).filter(|places| referrals_in_order(places) && referral_units(places) == refs)
+}
+
+fn domains(doms: &[u16]) -> Option<Vec<Option<Domain>>> {
+    entries(doms, domain).filter(|places| domains_in_order(places) && domain_units(places) == doms)
 }
 
 /// The caches; None where one of them is not in order.
 pub fn caches(refs: &[u16], doms: &[u16]) -> Option<Caches> {
-    let caches = Caches { referrals: entries(refs, referral)?, domains: entries(doms, domain)? };
-    // unused room is zero: the memory is what the entries read from it write
-    (caches.in_order() && referral_units(&caches.referrals) == refs && domain_units(&caches.domains) == doms).then_some(caches)
+    Some(Caches { referrals: referrals(refs)?, domains: domains(doms)? })
 }
 
 fn put_question(units: &mut [u16], q: &Question) {

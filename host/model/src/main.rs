@@ -1,17 +1,20 @@
-//! Random walks, given both to libdfsc.a and to the model of the rules: each call's number, all lent memory after it, and what the walk then shows.
+//! Random walks, and listings made and read between their calls, given both to libdfsc.a and to the model of the rules: each call's number, all lent memory
+//! after it, and what the walk then shows.
 //! `--calls N` (200,000), `--seed S` (1); `--scene K` runs that scene of the seed alone.
 //!
 //! Each slice is lent in a heap block of exactly its length. With `--guard end` it ends at an unreadable page, with `--guard start` it begins after one;
-//! then controls are run first, which must be caught (`--control SLOT`; of the slot `none` nothing is missing, and its calls are taken).
+//! then controls are run first, which must be caught (`--control SLOT`; of the slot `none` nothing is missing, and its calls are taken). `--slots` names them.
 #![deny(unsafe_code)]
 mod calls;
 mod control;
 mod lent;
+mod listings;
 mod random;
 mod rules;
 mod scenes;
 #[allow(unsafe_code)]
 mod slots;
+mod texts;
 
 use lent::{PLACE, WALK};
 use random::Random;
@@ -264,18 +267,20 @@ impl Host {
         self.close(before, number, &out, model, counts)
     }
 
-    fn domain_request(r: &mut Random) -> Outcome {
+    fn domain_request(r: &mut Random, counts: &mut Counts) -> Outcome {
         let mut out = vec![FILL as u8; r.below(8)];
         let request = request(&[]);
         let fits = request.len() <= out.len();
         let mut left = if fits { request } else { vec![] };
         left.resize(out.len(), FILL as u8);
-        same("the number of a domain request", &[calls::domain_request(&mut out)], &[if fits { 0 } else { 10 }])?;
+        let number = calls::domain_request(&mut out);
+        same("the number of a domain request", &[number], &[if fits { 0 } else { 10 }])?;
+        counts.see(format!("domain request {number:2}"));
         same("the domain request", &out, &left)
     }
 
     fn read_domains(&mut self, r: &mut Random, counts: &mut Counts) -> Outcome {
-        Host::domain_request(r)?;
+        Host::domain_request(r, counts)?;
         let before = self.clone();
         if r.in_hundred(20) {
             // what the cache holds is not looked at, its length is
@@ -285,8 +290,7 @@ impl Host {
             self.doms.resize(r.one_of(&[0, self.doms.len() - 1, self.doms.len() + 1, 33 * PLACE]), 0);
         }
         let (reply, size) = (scenes::domain_reply(r), scenes::size(r));
-        let places = if self.doms.len() % PLACE == 0 { self.doms.len() / PLACE } else { 0 };
-        let model = domains_after(&reply, size, places);
+        let model = domains_after(&reply, size, lent::place_count(&self.doms));
         let lent = self.doms.clone();
         let number = calls::read_domains(&reply, size, &mut self.doms);
         same("the number of a domain reply", &[number], &[*model.as_ref().err().unwrap_or(&0)])?;
@@ -321,6 +325,9 @@ impl Host {
             self.answer(r, now, counts)?;
         }
         self.compare(r)?;
+        if r.in_hundred(if self.caches.is_none() { 40 } else { 6 }) {
+            self.list(r, counts)?;
+        }
         if self.caches.is_none() || self.units.len() != WALK || (self.walk.is_none() && before.walk.is_some()) {
             *self = before;
         }
@@ -345,6 +352,9 @@ fn scene(r: &mut Random, counts: &mut Counts) -> Outcome {
             if r.in_hundred(5) {
                 counts.calls += 1;
                 host.read_domains(r, counts)?;
+            }
+            if r.in_hundred(12) {
+                host.read_listing(r, now, counts)?;
             }
             if r.in_hundred(changes) {
                 host.change_walks();
@@ -384,10 +394,11 @@ const LONG: u64 = 100_000;
 fn wanted() -> Vec<String> {
     let ends = (20..=27).map(|n| format!("end     {n}"));
     let refusals = [1, 2, 3, 4, 5, 10].map(|n| format!("refusal {n:2}"));
+    let requests = [0, 10].map(|n| format!("domain request {n:2}"));
     let domains = [0, 3, 4, 6, 7].map(|n| format!("domains {n:2}"));
     let kinds = [Kind::Dc, Kind::Root, Kind::Link, Kind::Sysvol, Kind::Io].map(|k| format!("question {k:?}"));
     let damage = DAMAGE.map(|d| format!("damage to {d}"));
-    ends.chain(refusals).chain(domains).chain(kinds).chain(damage).collect()
+    ends.chain(refusals).chain(requests).chain(domains).chain(kinds).chain(damage).chain(listings::wanted()).collect()
 }
 
 fn main() {
@@ -397,6 +408,10 @@ fn main() {
         "start" => Side::Start,
         _ => panic!("--guard takes end or start"),
     });
+    if args.iter().any(|a| a == "--slots") {
+        println!("{}", control::SLOTS.join(" "));
+        return;
+    }
     if let Some(slot) = value(&args, "--control") {
         assert!(slot == control::NONE || control::SLOTS.contains(&slot), "no slot {slot}");
         std::process::exit(!control::survives(side, slot) as i32);

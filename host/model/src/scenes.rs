@@ -6,7 +6,7 @@ use crate::rules::walk::{Kind, Party, Question, Rest, Walk, BUFFER_OVERFLOW, NEX
 
 const FIRST: [&str; 8] = ["corp", "a", "files", "nas1", "Dfs", "A", "k[", "k@"];
 const SECOND: [&str; 8] = ["s1", "s10", "dfs", "SYSVOL", "NetLogon", "leak", "b", "b"];
-const THIRD: [&str; 6] = ["d", "E", "s1", "s10", "\u{c9}z", "..."];
+const THIRD: [&str; 7] = ["d", "E", "s1", "s10", "\u{c9}z", "...", "~}\u{7f} !"];
 const DCS: [&str; 5] = ["dc1", "dc2", "DC3", "dc4.corp.example", "\u{ffff}"];
 const STATUSES: [u32; 10] = [0, 1, 0x4000_0000, 0x7FFF_FFFF, 0x8000_0006, 0x8000_0000, 0xC000_0001, 0xC000_003A, 0xC000_0225, 0xFFFF_FFFF];
 
@@ -81,7 +81,7 @@ fn ttl(r: &mut Random) -> u32 {
     r.one_of(&[0, 1, 10, 300, 300, 300, 1800, u32::MAX, any])
 }
 
-fn referral(r: &mut Random, now: u32) -> Referral {
+pub fn referral(r: &mut Random, now: u32) -> Referral {
     let ttl = ttl(r);
     let any = r.next() as u32;
     let age = r.one_of(&[0, 0, 1, 5, ttl.wrapping_sub(1), ttl, ttl.wrapping_add(1), any]);

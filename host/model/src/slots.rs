@@ -14,7 +14,7 @@ const PROT_READ_AND_WRITE: i32 = 1 | 2;
 const MAP_PRIVATE_AND_ANONYMOUS: i32 = 2 | 0x20;
 
 /// The bytes of a slot: more than the longest slice that is lent.
-const ROOM: usize = 50 * PAGE;
+const ROOM: usize = 250 * PAGE;
 /// So many bytes on the readable side of the slice are painted, and looked at after the call.
 const MARGIN: usize = 64;
 const PAINT: u8 = 0xC5;

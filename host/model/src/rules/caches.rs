@@ -76,18 +76,26 @@ fn no_two_equal(keys: &[&Text]) -> bool {
     keys.iter().enumerate().all(|(i, a)| keys[..i].iter().all(|b| !equal(a, b)))
 }
 
-impl Caches {
-    pub fn in_order(&self) -> bool {
-        let prefixes: Vec<&Text> = self.referrals.iter().flatten().map(|e| &e.prefix).collect();
-        let names: Vec<&Text> = self.domains.iter().flatten().map(|d| &d.name).collect();
-        (1..=32).contains(&self.referrals.len())
-            && (1..=32).contains(&self.domains.len())
-            && self.referrals.iter().flatten().all(Referral::good)
-            && self.domains.iter().flatten().all(Domain::good)
-            && no_two_equal(&prefixes)
-            && no_two_equal(&names)
-    }
+/// Places that a cache may have.
+pub fn good_count(places: usize) -> bool {
+    (1..=32).contains(&places)
+}
 
+/// Entries of a referral cache: each is good, and no two prefixes are equal.
+pub fn good_referrals<'a>(entries: impl Iterator<Item = &'a Referral> + Clone) -> bool {
+    entries.clone().all(Referral::good) && no_two_equal(&entries.map(|e| &e.prefix).collect::<Vec<_>>())
+}
+
+pub fn referrals_in_order(places: &[Option<Referral>]) -> bool {
+    good_count(places.len()) && good_referrals(places.iter().flatten())
+}
+
+pub fn domains_in_order(places: &[Option<Domain>]) -> bool {
+    let entries = places.iter().flatten();
+    good_count(places.len()) && entries.clone().all(Domain::good) && no_two_equal(&entries.map(|d| &d.name).collect::<Vec<_>>())
+}
+
+impl Caches {
     /// The longest match.
     pub fn find(&self, path: &[u16]) -> Option<&Referral> {
         self.referrals.iter().flatten().filter(|e| matches(&e.prefix, path)).max_by_key(|e| e.prefix.len())

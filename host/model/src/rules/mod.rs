@@ -1,6 +1,7 @@
-//! The rules of a walk in plain Rust, written from document 01 and the sources that it names, not from the proved definitions.
+//! The rules of a walk and of the listing in plain Rust, written from document 01 and the sources that it names, not from the proved definitions.
 //! Text is a list of UTF-16 units, a cache is a list of places, a step is a function.
 pub mod caches;
+pub mod listing;
 pub mod names;
 pub mod replies;
 pub mod storing;

@@ -1,5 +1,5 @@
 //! What a reply leaves in the caches.
-use super::caches::{Caches, Domain, Referral, Target};
+use super::caches::{good_count, Caches, Domain, Referral, Target};
 use super::names::{equal, Text};
 use super::replies::{read_domains, Read, Reply};
 
@@ -93,7 +93,7 @@ pub fn store_dcs(domain: &mut Domain, dcs: Vec<Text>) {
 
 /// A domain reply into a domain cache of so many places: its content then, or a refusal.
 pub fn domains_after(reply: &[u8], size: u32, places: usize) -> Result<Vec<Option<Domain>>, u32> {
-    if !(1..=32).contains(&places) {
+    if !good_count(places) {
         return Err(4);
     }
     if !(1024..=57344).contains(&size) {

@@ -30,4 +30,5 @@ for slot in $("$model" --slots); do
     fi
     caught=$((caught + 1))
 done
+[ "$caught" -gt 0 ] || { echo "memory: no slot was tried"; exit 1; }
 echo "valgrind: $caught controls caught"

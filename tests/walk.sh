@@ -36,6 +36,17 @@ for n in 131067 131068; do
     if [ "$n" -eq 131067 ]; then printf 'refused=1\n' >"$folder/out"; else printf 'refused=0\n' >"$folder/out"; fi
     compare "a path of $n bytes" "$folder/in" "$folder/out"
 done
+# a refusal is the last line: an I/O answer where a referral's is waited for stops the program before the line that ended it is read
+for n in 1 131073; do
+    { printf '%b' "${settings//\\\\/\\\\\\\\}status=00000000\n"; digits "$n"; printf '\n'; } >"$folder/in"
+    after "a refused answer before a line of $n bytes" 'refused=5\n'
+done
+# where pieces of the input end makes no difference, nor does the end of the last line
+{ answer; digits 400000; } >"$folder/in"
+after "a last line of many pieces without its end" "$ended"
+mkfifo "$folder/slow"
+while IFS= read -r line; do printf '%s' "${line%?}"; sleep 0.05; printf '%s\n' "${line: -1}"; done <crates/walk/stdin >"$folder/slow" &
+compare "lines in two pieces" "$folder/slow" crates/walk/stdout
 # nothing, and bytes of every value
 : >"$folder/in"
 printf 'refused=0\n' >"$folder/out"

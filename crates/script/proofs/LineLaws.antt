@@ -22,7 +22,7 @@ use Rattle.lines.proofs.LineLaws.{spelled-good, key-fits}
 use Rattle.hexes.specs.Hexes.{isHex, hexNumber, bytesOf}
 use Rattle.hexes.specs.declared.Rest.{Rest}
 use Rattle.script.specs.Script.{replyKey, statusKey, after, isText, textSaid, TextRead, textRead, textTaken, Taken, taken, textOrOther, orOther}
-use Rattle.script.specs.Script.{statusSaid, isStatus, isReply, wholeBytes, takesReply, withReply, read, WholeRead, wholeRead, takesAfter, isWhole, takes, lineDue}
+use Rattle.script.specs.Script.{statusSaid, isStatus, isReply, wholeBytes, takesReply, withReply, Read, read, WholeRead, wholeRead, takesAfter, isWhole, takes, goesOn, takesOn, lineDue}
 use Rattle.script.specs.declared.Due.{Due}
 use Rattle.script.specs.declared.Due.the-variants as due
 use Rattle.script.specs.declared.Last.{Last}
@@ -150,6 +150,16 @@ module _ (s : Script) (line : List ℕ) {b : Bool} (e : b ≡ isStatus (s .last)
     pub io-due : d ≡ false → due.Io ≡ lineDue s line
     unfolding lineDue
     io-due g = sym (choose-yes _ _ (and-yes-left _ (sym e ∙ h) ∙ ap not (sym f ∙ g)))
+
+-- a line is read, unless the program has stopped
+module _ (s : Script) (line : List ℕ) (r : Rest) (path boot reply : List ℕ) {g : Bool} (e : g ≡ goesOn (s .last)) where
+  pub line-on : g ≡ true → {x : Read} → x ≡ takes s line r path boot reply → x ≡ takesOn s line r path boot reply
+  unfolding takesOn
+  line-on h x = x ∙ sym (choose-yes _ _ (sym e ∙ h))
+
+  pub line-off : g ≡ false → read s path boot reply ≡ takesOn s line r path boot reply
+  unfolding takesOn
+  line-off h = sym (choose-no _ _ (sym e ∙ h))
 
 pub reply-key : (s : Script) (line : List ℕ) {b : Bool} → b ≡ isReply s line → b ≡ true → hasKey replyKey line ≡ true
 unfolding isReply

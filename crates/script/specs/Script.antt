@@ -249,10 +249,28 @@ lineTaken most s line path boot reply =
 unfoldable pub keptOf : List ℕ → Held → List ℕ
 keptOf line h = take (h .kept) line
 
+-- the program goes on until it has stopped
+unfoldable pub goesOn : Last → Bool
+goesOn Nothing = true
+goesOn Path = true
+goesOn Limit = true
+goesOn Size = true
+goesOn Now = true
+goesOn Boot = true
+goesOn Clock = true
+goesOn Status = true
+goesOn Reply = true
+goesOn Other = true
+goesOn Stopped = false
+
+-- no line is read once it has stopped
+unfoldable pub takesOn : Script → List ℕ → Rest → List ℕ → List ℕ → List ℕ → Read
+takesOn s line r path boot reply = choose (goesOn (s .last)) (takes s line r path boot reply) (read s path boot reply)
+
 -- what comes of the input: a part of a line, which waits for the rest; a line; or the end, which stops the program
 unfoldable pub comes : Input → Script → List ℕ → Rest → List ℕ → List ℕ → List ℕ → Read
 comes Part s line r path boot reply = read s path boot reply
-comes Line s line r path boot reply = takes s line r path boot reply
+comes Line s line r path boot reply = takesOn s line r path boot reply
 comes End s line r path boot reply = read (after Stopped s) path boot reply
 
 -- Which call is due before what has come is read. "With reply= it is a referral's answer, without an I/O answer": a status that the line does not go on
@@ -298,17 +316,3 @@ unfoldable pub dueAfter : Input → Script → Due
 dueAfter Part s = due.None
 dueAfter Line s = readDue (s .last)
 dueAfter End s = due.None
-
--- the program goes on until it has stopped
-unfoldable pub goesOn : Last → Bool
-goesOn Nothing = true
-goesOn Path = true
-goesOn Limit = true
-goesOn Size = true
-goesOn Now = true
-goesOn Boot = true
-goesOn Clock = true
-goesOn Status = true
-goesOn Reply = true
-goesOn Other = true
-goesOn Stopped = false

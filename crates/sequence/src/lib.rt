@@ -1,7 +1,7 @@
 // The lines of the input of `walk` in their order: which may follow which, and where the input may end.
 ghost use mathlib.Core.Path.{_≡_};
 ghost use Rattle.script.specs.Script.{takesAnswer, isStatus, isReply, read, takesAfter, isWhole, takes, keptOf};
-ghost use Rattle.script.specs.Script.{wholeRead, comes, lineDue, endDue, dueBefore, readDue, dueAfter, goesOn};
+ghost use Rattle.script.specs.Script.{wholeRead, takesOn, comes, lineDue, endDue, dueBefore, readDue, dueAfter, goesOn};
 use hexes::Held;
 use hexes::Rest;
 use script::Due;
@@ -107,6 +107,42 @@ fn take_line(
     take_whole(s, &line[..n], path, boot)
 }
 
+pub fn goes_on(s: Script) -> bool
+    ensures { λ r. ⌜ r ≡ goesOn (s .last) ⌝ }
+{
+    let last = s.last;
+    match last {
+        Last::Nothing => true,
+        Last::Path => true,
+        Last::Limit => true,
+        Last::Size => true,
+        Last::Now => true,
+        Last::Boot => true,
+        Last::Clock => true,
+        Last::Status => true,
+        Last::Reply => true,
+        Last::Other => true,
+        Last::Stopped => false,
+    }
+}
+
+// The line that is held, unless the program has stopped.
+fn take_on(
+    s: Script,
+    line: &[u16],
+    held: Held,
+    path: &mut [u16],
+    boot: &mut [u16],
+    reply: &mut [u8],
+) -> Script
+    ensures { λ r. ⌜ read r (now (path .exit)) (now (boot .exit)) (now (reply .exit)) ≡ takesOn s (keptOf (now (line .entry)) held) (held .rest) (now (path .entry)) (now (boot .entry)) (now (reply .entry)) ⌝ }
+{
+    if !goes_on(s) {
+        return s;
+    }
+    take_line(s, line, held, path, boot, reply)
+}
+
 // Reads what has come of the input.
 pub fn take(
     input: Input,
@@ -121,7 +157,7 @@ pub fn take(
 {
     match input {
         Input::Part => s,
-        Input::Line => take_line(s, line, held, path, boot, reply),
+        Input::Line => take_on(s, line, held, path, boot, reply),
         Input::End => script::with_last(s, Last::Stopped),
     }
 }
@@ -199,24 +235,5 @@ pub fn due_after(input: Input, s: Script) -> Due
         Input::Part => Due::None,
         Input::Line => read_due(last),
         Input::End => Due::None,
-    }
-}
-
-pub fn goes_on(s: Script) -> bool
-    ensures { λ r. ⌜ r ≡ goesOn (s .last) ⌝ }
-{
-    let last = s.last;
-    match last {
-        Last::Nothing => true,
-        Last::Path => true,
-        Last::Limit => true,
-        Last::Size => true,
-        Last::Now => true,
-        Last::Boot => true,
-        Last::Clock => true,
-        Last::Status => true,
-        Last::Reply => true,
-        Last::Other => true,
-        Last::Stopped => false,
     }
 }

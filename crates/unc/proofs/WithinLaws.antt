@@ -80,22 +80,12 @@ module _ (s t : List ℕ) where
       go j u v (inl w) z = h (z .0) .at j u w
       go j u v (inr w) z = let i : j ≡ at + k = omega arith in let x : getD s (at + k) 0 ≡ getD t (at + k) 0 = xor-none _ _ (z .1) in rw (i, x) (sameUnit-refl _)
 
-  pub block-end : (at k differ : ℕ) → (differ ≡ 0 → SameWithin s t at (at + k)) → 16 ≤ k → eqb differ 0 ≡ true → SameWithin s t at (at + 16)
-  block-end at k differ h l e = record { at = λ j u v. h (eqb-true differ 0 e) .at j u (omega arith) }
+  pub block-end : (at k n differ : ℕ) → (differ ≡ 0 → SameWithin s t at (at + k)) → n ≤ k → eqb differ 0 ≡ true → SameWithin s t at (at + n)
+  block-end at k n differ h l e = record { at = λ j u v. h (eqb-true differ 0 e) .at j u (omega arith) }
 
--- What a block tells where all blocks before it were the same: the first units up to `next`, and the last block.
-pub record Told (s t : List ℕ) (at next last : ℕ) : Type 0 where
-  pub tells : SameWithin s t at (at + 16) → SameWithin s t 0 next × SameWithin s t last (last + 16)
-
-module _ (s t : List ℕ) where
-  pub told-first : (last : ℕ) → Told s t last 0 last
-  told-first last = record { tells = λ p. (within-none s t 0 0 (omega arith), p) }
-
-  pub told-next : {at next last : ℕ} → Told s t at next last → SameWithin s t at (at + 16) → Told s t next (next + 16) last
-  told-next p q = record { tells = λ r. (within-join s t (p .tells q .0) r (omega arith), p .tells q .1) }
-
-  pub told-all : {at next last : ℕ} → Told s t at next last → SameWithin s t at (at + 16) → last ≤ next → length s ≤ last + 16 → length s ≡ length t → sameName s t ≡ true
-  told-all p q u v e = sameName-by s t e (λ k w. within-join s t (p .tells q .0) (p .tells q .1) u .at k (omega arith) (omega arith))
+  -- the first units up to `next`, and the last ones from `last` on
+  pub all-within : {next last n : ℕ} → SameWithin s t 0 next → SameWithin s t last n → last ≤ next → length s ≤ n → length s ≡ length t → sameName s t ≡ true
+  all-within p q u v e = sameName-by s t e (λ k w. within-join p q u .at k (omega arith) (omega arith))
 
 -- equal units have the same five low bits
 folded-low : (u : ℕ) → folded u % 32 ≡ u % 32

@@ -12,9 +12,6 @@ const SLASH: u16 = 47;
 
 const DOT: u16 = 46;
 
-// Units compared at a time.
-const BLOCK: usize = 16;
-
 // The most units of a name.
 const NAME_UNITS: usize = 255;
 
@@ -52,41 +49,44 @@ pub fn same_unit(a: u16, b: u16) -> bool
     fold(a) == fold(b)
 }
 
-// Whether the 16 units from `at` on are the same, unfolded. The loop has no exit, so that it runs over many units at a time.
-fn equal_block(a: &[u16], b: &[u16], at: usize) -> bool
-    requires { ⌜ (at + 16 ≤ length (now a)) × (at + 16 ≤ length (now b)) ⌝ }
-    ensures { λ r. ⌜ (r ≡ true → SameWithin (now (a .entry)) (now (b .entry)) at (at + 16)) ⌝ }
+// Whether the n units from `at` on are the same, unfolded. The loop has no exit, so that it runs over many units at a time.
+fn equal_block(a: &[u16], b: &[u16], at: usize, n: usize) -> bool
+    requires { ⌜ (at + n ≤ length (now a)) × (at + n ≤ length (now b)) ⌝ }
+    ensures { λ r. ⌜ (r ≡ true → SameWithin (now (a .entry)) (now (b .entry)) at (at + n)) ⌝ }
 {
     let mut differ: u16 = 0;
     let mut k = 0;
-    while k < BLOCK {
+    while k < n {
         differ = differ | (a[at + k] ^ b[at + k]);
         k += 1;
     }
     differ == 0
 }
 
-// Whether two names of one length, of 16 units or more, are the same, unfolded: the last 16 units first, since paths of one namespace begin alike.
+// Whether two names of one length, of 16 units or more, are the same, unfolded: the last 16 units first, since paths of one namespace begin alike; then 32 at a
+// time, and once more 16, some of which may have been compared.
 fn equal_units(a: &[u16], b: &[u16]) -> bool
     requires { ⌜ length (now a) ≡ length (now b) ⌝ }
     ensures { λ r. ⌜ (r ≡ true → sameName (now (a .entry)) (now (b .entry)) ≡ true) ⌝ }
 {
-    if a.len() < BLOCK {
+    if a.len() < 16 {
         return false;
     }
-    let last = a.len() - BLOCK;
-    let mut at = last;
+    let last = a.len() - 16;
+    if !equal_block(a, b, last, 16) {
+        return false;
+    }
     let mut next = 0;
-    loop {
-        if !equal_block(a, b, at) {
+    while next + 32 <= a.len() {
+        if !equal_block(a, b, next, 32) {
             return false;
         }
-        if last <= next {
-            return true;
-        }
-        at = next;
-        next += BLOCK;
+        next += 32;
     }
+    if last <= next {
+        return true;
+    }
+    equal_block(a, b, next, 16)
 }
 
 // Whether two names of one length are equal, unit by unit from the last on.

@@ -9,7 +9,7 @@ use Rattle.sequence.proofs.take.Tie as tie
 use Rattle.sequence.proofs.take.Reads as reads
 use Rattle.sequence.proofs.take.Lts as lts
 use Rattle.script.proofs.with_last.Reads as with-last-reads
-use Rattle.sequence.proofs.take_line.Reads as take-line-reads
+use Rattle.sequence.proofs.take_on.Reads as take-on-reads
 
 -- src/lib.rt:123:24
 enum-told : tie.Need-enum-told
@@ -20,8 +20,8 @@ enum-told-2 : tie.Need-enum-told-2
 enum-told-2 c = search needs
 
 -- src/lib.rt:124:24
-take-line-requires : tie.Need-take-line-requires
-take-line-requires c κs = search needs
+take-on-requires : tie.Need-take-on-requires
+take-on-requires c κs = search needs
 
 -- src/lib.rt:125:44
 enum-told-3 : tie.Need-enum-told-3
@@ -51,7 +51,7 @@ same-length-3 c = search needs
 -- src/lib.rt:111:1
 returns-2 : tie.Need-returns-2
 unfolding comes
-returns-2 c = c .before .before .before .before .before .before .take-line .ensures ∙ ap (λ (x : Input). comes x (c .before .before .before .before .before .before .before .before .before .before .before .before .before .before .before .before .args .s) (keptOf (now (c .before .before .before .before .before .before .before .before .before .before .before .before .before .before .before .before .args .line)) (c .before .before .before .before .before .before .before .before .before .before .before .before .before .before .before .before .args .held)) (c .before .before .before .before .before .before .before .before .before .before .before .before .before .before .before .before .args .held .rest) (now (c .before .before .before .before .before .before .before .before .before .before .before .before .before .before .before .before .args .path)) (now (c .before .before .before .before .before .before .before .before .before .before .before .before .before .before .before .before .args .boot)) (now (c .before .before .before .before .before .before .before .before .before .before .before .before .before .before .before .before .args .reply))) (sym (c .before .before .before .before .before .before .before .before .before .before .enum-told2 .given .1))
+returns-2 c = c .before .before .before .before .before .before .take-on .ensures ∙ ap (λ (x : Input). comes x (c .before .before .before .before .before .before .before .before .before .before .before .before .before .before .before .before .args .s) (keptOf (now (c .before .before .before .before .before .before .before .before .before .before .before .before .before .before .before .before .args .line)) (c .before .before .before .before .before .before .before .before .before .before .before .before .before .before .before .before .args .held)) (c .before .before .before .before .before .before .before .before .before .before .before .before .before .before .before .before .args .held .rest) (now (c .before .before .before .before .before .before .before .before .before .before .before .before .before .before .before .before .args .path)) (now (c .before .before .before .before .before .before .before .before .before .before .before .before .before .before .before .before .args .boot)) (now (c .before .before .before .before .before .before .before .before .before .before .before .before .before .before .before .before .args .reply))) (sym (c .before .before .before .before .before .before .before .before .before .before .enum-told2 .given .1))
 
 -- src/lib.rt:111:1
 returns-3 : tie.Need-returns-3
@@ -64,7 +64,7 @@ take-spec =
     (tie.spec
     enum-told
     enum-told-2
-    take-line-requires
+    take-on-requires
     enum-told-3
     with-last-requires
     returns

@@ -8,10 +8,10 @@ use Rattle.unc.proofs.equal_block.Statement.{statement}
 use Rattle.unc.proofs.equal_block.Tie as tie
 
 abbrev Inv-loop : tie.InvT-loop
-Inv-loop a b at differ₀ k₀ differ k = (k ≤ 16) × (differ ≡ 0 → SameWithin a b at (at + k))
+Inv-loop a b at n differ₀ k₀ differ k = (k ≤ n) × (differ ≡ 0 → SameWithin a b at (at + k))
 
 abbrev μ-loop : tie.MeasureT-loop
-μ-loop a b at differ₀ k₀ differ k = 16 - k
+μ-loop a b at n differ₀ k₀ differ k = n - k
 
 loop-holds : tie.Need-loop-holds Inv-loop μ-loop
 loop-holds c = (search needs, λ e. within-none _ _ _ _ (omega arith))
@@ -44,7 +44,7 @@ loop-again : tie.Need-loop-again Inv-loop μ-loop
 loop-again c = (search needs, block-more _ _ _ _ _ (c .before .before .before .loop .inv .1))
 
 returns : tie.Need-returns Inv-loop μ-loop
-returns c = block-end _ _ _ _ _ (c .before .loop .inv .1) (omega arith)
+returns c = block-end _ _ _ _ _ _ (c .before .loop .inv .1) (omega arith)
 
 pub equal-block-spec : {M : Type 1} → statement M
 equal-block-spec =

@@ -27,10 +27,13 @@ pub fn same_called(a: &[u16], b: &[u16]) -> bool {
     same(a, b)
 }
 
-/// Equal names: the last 16 units first, then 16 at a time, then unit by unit.
+/// Equal names: the last 16 units first, then 32 at a time and once more 16, then unit by unit.
 #[inline(never)]
 pub fn same_in_blocks(a: &[u16], b: &[u16]) -> bool {
-    let blocks = || a.chunks_exact(16).zip(b.chunks_exact(16)).all(|(x, y)| x == y);
+    let blocks = || {
+        let next = a.len() / 32 * 32;
+        a.chunks_exact(32).zip(b.chunks_exact(32)).all(|(x, y)| x == y) && (a.len() <= next + 16 || a[next..next + 16] == b[next..next + 16])
+    };
     a.len() == b.len() && (a.len() >= 16 && a.last_chunk::<16>() == b.last_chunk::<16>() && blocks() || same_units(a, b))
 }
 

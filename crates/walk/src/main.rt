@@ -1,14 +1,7 @@
 // Walks a path by the answers on standard input, from empty caches: document 01, "Examples to hold it to". It reads, calls and writes: `pieces` says what has come,
-// `sequence` what it says and which call is due, `calling` makes the call and puts its lines.
+// `sequence` what it says and which call is due, and `stream` reads, makes the call and writes its lines.
 ghost use mathlib.Core.Path.{_≡_};
-ghost use Prim.Native.Nat.{_≤_};
 ghost use lib.ListN.{length};
-use calling::Done;
-use libc::STDIN_FILENO;
-use libc::STDOUT_FILENO;
-use script::Due;
-use script::Script;
-use walks::Walk;
 
 // The places of a cache, all free.
 fn cache() -> [u16; 18688]
@@ -45,65 +38,6 @@ fn piece_memory() -> [u16; 4096]
     [0; 4096]
 }
 
-// Memory for what a call prints.
-fn out_memory() -> [u8; 4931]
-    ensures { λ r. ⌜ 4931 ≡ length r ⌝ }
-{
-    [0; 4931]
-}
-
-// Reads a piece of the input, and answers how many bytes came.
-fn read(units: &mut [u16]) -> usize
-    ensures { λ r. ⌜ r ≤ length (now (units .exit)) ⌝ }
-{
-    let mut bytes = io::buffer();
-    let got = libc::read(STDIN_FILENO, &mut bytes);
-    let n = io::count(got, &bytes);
-    hexes::widen(&bytes[..n], units)
-}
-
-// A piece of the input: its bytes, and where to go on in it.
-struct Piece {
-    count: usize,
-    at: usize,
-}
-
-// The next piece, where this one has been used up.
-fn next(units: &mut [u16], count: usize, at: usize, ended: bool) -> Piece
-    requires { ⌜ count ≤ length (now units) ⌝ }
-    ensures { λ r. ⌜ r .count ≤ length (now (units .exit)) ⌝ }
-{
-    if at < count {
-        return Piece { count, at };
-    }
-    if ended {
-        return Piece { count, at };
-    }
-    Piece {
-        count: read(units),
-        at: 0,
-    }
-}
-
-// Makes the call that is due, and writes what is printed after it.
-fn call(
-    due: Due,
-    s: Script,
-    walk: Walk,
-    refs: &mut [u16],
-    doms: &mut [u16],
-    texts: &mut [u16],
-    path: &[u16],
-    boot: &[u16],
-    reply: &[u8],
-) -> Done {
-    let mut out = out_memory();
-    let d = calling::make(due, s, walk, refs, doms, texts, path, boot, reply, &mut out);
-    let n = d.bytes;
-    io::write_all(STDOUT_FILENO, &out[..n]);
-    d
-}
-
 fn main() {
     let mut refs = cache();
     let mut doms = cache();
@@ -120,14 +54,14 @@ fn main() {
     // nothing says that the input ends
     let mut turns = u64::MAX;
     while turns > 0 && sequence::goes_on(s) {
-        let p = next(&mut units, count, came.at, came.ended);
+        let p = stream::next(&mut units, count, came.at, came.ended);
         count = p.count;
         came.at = p.at;
         came = pieces::come(&units[..count], &mut line, came);
         let input = came.input;
         let held = came.held;
         let first = sequence::due_before(input, s, &line, held);
-        let d = call(
+        let d = stream::call(
             first,
             s,
             walk,
@@ -142,7 +76,7 @@ fn main() {
         s = sequence::take(input, before, &line, held, &mut path, &mut boot, &mut reply);
         let second = sequence::due_after(input, s);
         walk = d.walk;
-        let e = call(
+        let e = stream::call(
             second,
             s,
             walk,

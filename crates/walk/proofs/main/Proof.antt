@@ -17,9 +17,9 @@ use Rattle.sequence.proofs.due_before.Reads as due-before-reads
 use Rattle.sequence.proofs.goes_on.Reads as goes-on-reads
 use Rattle.sequence.proofs.take.Reads as take-reads
 use Rattle.walk.proofs.cache.Reads as cache-reads
-use Rattle.walk.proofs.call.Reads as call-reads
+use Rattle.stream.proofs.call.Reads as call-reads
 use Rattle.walk.proofs.long_text.Reads as long-text-reads
-use Rattle.walk.proofs.next.Reads as next-reads
+use Rattle.stream.proofs.next.Reads as next-reads
 use Rattle.walk.proofs.piece_memory.Reads as piece-memory-reads
 use Rattle.walk.proofs.reply_memory.Reads as reply-memory-reads
 use Rattle.walk.proofs.walk_texts.Reads as walk-texts-reads
@@ -86,7 +86,7 @@ goes-on-requires c κs = search needs
 
 -- src/main.rt:116:22
 slice-aggregate-next : tie.Need-slice-aggregate-next Inv-loop μ-loop
-slice-aggregate-next c = search needs
+slice-aggregate-next c = c .before .before .before .before .loop .inv .1 .1 .1 .0
 
 -- src/main.rt:116:13
 next-requires : tie.Need-next-requires Inv-loop μ-loop
@@ -102,7 +102,7 @@ slice-aggregate-come c = taken-whole _ _ (c .before .before .next .ensures)
 
 -- src/main.rt:119:46
 slice-aggregate-come-2 : tie.Need-slice-aggregate-come-2 Inv-loop μ-loop
-slice-aggregate-come-2 c = search needs
+slice-aggregate-come-2 c = c .before .before .before .before .before .before .before .before .loop .inv .1 .1 .1 .1 .0
 
 -- src/main.rt:119:9
 come-requires : tie.Need-come-requires Inv-loop μ-loop
@@ -110,7 +110,7 @@ come-requires c κs = search needs
 
 -- src/main.rt:122:52
 slice-aggregate-due-before : tie.Need-slice-aggregate-due-before Inv-loop μ-loop
-slice-aggregate-due-before c = search needs
+slice-aggregate-due-before c = c .before .before .before .before .before .before .before .before .before .before .before .before .loop .inv .1 .1 .1 .1 .0 ∙ sym (c .before .before .before .come .kept .1 .0)
 
 -- src/main.rt:122:13
 due-before-requires : tie.Need-due-before-requires Inv-loop μ-loop
@@ -118,15 +118,15 @@ due-before-requires c κs = search needs
 
 -- src/main.rt:123:38
 slice-aggregate-call : tie.Need-slice-aggregate-call Inv-loop μ-loop
-slice-aggregate-call c = search needs
+slice-aggregate-call c = c .before .before .before .before .before .before .before .before .before .before .before .before .before .before .loop .inv .0
 
 -- src/main.rt:123:49
 slice-aggregate-call-2 : tie.Need-slice-aggregate-call-2 Inv-loop μ-loop
-slice-aggregate-call-2 c = search needs
+slice-aggregate-call-2 c = c .before .before .before .before .before .before .before .before .before .before .before .before .before .before .before .loop .inv .1 .0
 
 -- src/main.rt:123:60
 slice-aggregate-call-3 : tie.Need-slice-aggregate-call-3 Inv-loop μ-loop
-slice-aggregate-call-3 c = search needs
+slice-aggregate-call-3 c = c .before .before .before .before .before .before .before .before .before .before .before .before .before .before .before .before .loop .inv .1 .1 .0
 
 -- src/main.rt:123:72
 slice-aggregate-call-4 : tie.Need-slice-aggregate-call-4 Inv-loop μ-loop
@@ -146,7 +146,7 @@ call-requires c κs = search needs
 
 -- src/main.rt:125:43
 slice-aggregate-take : tie.Need-slice-aggregate-take Inv-loop μ-loop
-slice-aggregate-take c = search needs
+slice-aggregate-take c = c .before .before .before .before .before .before .before .before .before .before .before .before .before .before .before .before .before .before .before .before .before .before .before .before .before .loop .inv .1 .1 .1 .1 .0 ∙ sym (c .before .before .before .before .before .before .before .before .before .before .before .before .before .before .before .before .come .kept .1 .0)
 
 -- src/main.rt:125:56
 slice-aggregate-take-2 : tie.Need-slice-aggregate-take-2 Inv-loop μ-loop
@@ -170,27 +170,27 @@ due-after-requires c κs = search needs
 
 -- src/main.rt:128:39
 slice-aggregate-call-7 : tie.Need-slice-aggregate-call-7 Inv-loop μ-loop
-slice-aggregate-call-7 c = search needs
+slice-aggregate-call-7 c = c .before .before .before .before .before .before .before .before .before .before .before .before .before .before .before .before .before .before .before .before .before .before .before .before .before .before .before .before .before .before .before .before .before .before .before .loop .inv .0 ∙ sym (c .before .before .before .before .before .before .before .before .before .before .before .before .before .before .before .call .kept .1 .1 .1 .0)
 
 -- src/main.rt:128:50
 slice-aggregate-call-8 : tie.Need-slice-aggregate-call-8 Inv-loop μ-loop
-slice-aggregate-call-8 c = search needs
+slice-aggregate-call-8 c = c .before .before .before .before .before .before .before .before .before .before .before .before .before .before .before .before .before .before .before .before .before .before .before .before .before .before .before .before .before .before .before .before .before .before .before .before .loop .inv .1 .0 ∙ sym (c .before .before .before .before .before .before .before .before .before .before .before .before .before .before .before .before .call .kept .1 .1 .1 .1 .0)
 
 -- src/main.rt:128:61
 slice-aggregate-call-9 : tie.Need-slice-aggregate-call-9 Inv-loop μ-loop
-slice-aggregate-call-9 c = search needs
+slice-aggregate-call-9 c = c .before .before .before .before .before .before .before .before .before .before .before .before .before .before .before .before .before .before .before .before .before .before .before .before .before .before .before .before .before .before .before .before .before .before .before .before .before .loop .inv .1 .1 .0 ∙ sym (c .before .before .before .before .before .before .before .before .before .before .before .before .before .before .before .before .before .call .kept .1 .1 .1 .1 .1 .0)
 
 -- src/main.rt:128:73
 slice-aggregate-call-10 : tie.Need-slice-aggregate-call-10 Inv-loop μ-loop
-slice-aggregate-call-10 c = search needs
+slice-aggregate-call-10 c = c .before .before .before .before .before .before .before .before .before .before .before .before .before .before .before .before .before .before .before .before .before .before .before .before .before .before .before .before .before .before .before .before .before .before .before .before .before .before .loop .inv .1 .1 .1 .1 .1 .0 ∙ sym (c .before .before .before .before .before .before .before .before .before .take .kept .1 .1 .1 .1 .0)
 
 -- src/main.rt:128:80
 slice-aggregate-call-11 : tie.Need-slice-aggregate-call-11 Inv-loop μ-loop
-slice-aggregate-call-11 c = search needs
+slice-aggregate-call-11 c = c .before .before .before .before .before .before .before .before .before .before .before .before .before .before .before .before .before .before .before .before .before .before .before .before .before .before .before .before .before .before .before .before .before .before .before .before .before .before .before .loop .inv .1 .1 .1 .1 .1 .1 .0 ∙ sym (c .before .before .before .before .before .before .before .before .before .before .take .kept .1 .1 .1 .1 .1 .0)
 
 -- src/main.rt:128:87
 slice-aggregate-call-12 : tie.Need-slice-aggregate-call-12 Inv-loop μ-loop
-slice-aggregate-call-12 c = search needs
+slice-aggregate-call-12 c = c .before .before .before .before .before .before .before .before .before .before .before .before .before .before .before .before .before .before .before .before .before .before .before .before .before .before .before .before .before .before .before .before .before .before .before .before .before .before .before .before .loop .inv .1 .1 .1 .1 .1 .1 .1 .0 ∙ sym (c .before .before .before .before .before .before .before .before .before .before .before .take .kept .1 .1 .1 .1 .1 .1 .0)
 
 -- src/main.rt:128:13
 call-requires-2 : tie.Need-call-requires-2 Inv-loop μ-loop

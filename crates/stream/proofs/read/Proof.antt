@@ -1,10 +1,10 @@
 use lib.ListN.{length-take}
 use native.Mathlib.Omega.{arith}
 use borrow.Author.Needs.{needs}
-use Rattle.walk.proofs.read.Statement.{statement}
-use Rattle.walk.proofs.read.Tie as tie
-use Rattle.walk.proofs.read.Reads as reads
-use Rattle.walk.proofs.read.Lts as lts
+use Rattle.stream.proofs.read.Statement.{statement}
+use Rattle.stream.proofs.read.Tie as tie
+use Rattle.stream.proofs.read.Reads as reads
+use Rattle.stream.proofs.read.Lts as lts
 use Rattle.hexes.proofs.widen.Reads as widen-reads
 use Rattle.io.proofs.buffer.Reads as buffer-reads
 use Rattle.io.proofs.count.Reads as count-reads

@@ -1,13 +1,13 @@
 use Rattle.calling.proofs.CallingLaws.{made-within, made-taken}
 use native.Mathlib.Omega.{arith}
 use borrow.Author.Needs.{needs}
-use Rattle.walk.proofs.call.Statement.{statement}
-use Rattle.walk.proofs.call.Tie as tie
-use Rattle.walk.proofs.call.Reads as reads
-use Rattle.walk.proofs.call.Lts as lts
+use Rattle.stream.proofs.call.Statement.{statement}
+use Rattle.stream.proofs.call.Tie as tie
+use Rattle.stream.proofs.call.Reads as reads
+use Rattle.stream.proofs.call.Lts as lts
 use Rattle.calling.proofs.make.Reads as make-reads
 use Rattle.io.proofs.write_all.Reads as write-all-reads
-use Rattle.walk.proofs.out_memory.Reads as out-memory-reads
+use Rattle.stream.proofs.out_memory.Reads as out-memory-reads
 
 -- src/main.rt:100:19
 out-memory-requires : tie.Need-out-memory-requires
@@ -47,7 +47,7 @@ same-length-3 c = search needs
 
 -- src/main.rt:89:1
 returns : tie.Need-returns
-returns c = search needs
+returns c = record { left = c .before .before .before .before .before .before .before .before .before .make .ensures .left }
 
 pub call-spec : {M : Type 1} → statement M
 call-spec =

@@ -1,0 +1,73 @@
+// Standard input and output of the program `walk`: a piece of the input read, a call made and its lines written. No contract can say what is read or written.
+ghost use mathlib.Core.Path.{_≡_};
+ghost use Prim.Native.Nat.{_≤_};
+ghost use lib.ListN.{length};
+ghost use Rattle.calling.specs.Calling.{lent, made};
+ghost use Rattle.stream.specs.Stream.{Leaves};
+use calling::Done;
+use libc::STDIN_FILENO;
+use libc::STDOUT_FILENO;
+use script::Due;
+use script::Script;
+use walks::Walk;
+
+// Memory for what a call prints.
+fn out_memory() -> [u8; 4931]
+    ensures { λ r. ⌜ 4931 ≡ length r ⌝ }
+{
+    [0; 4931]
+}
+
+// Reads a piece of the input, and answers how many bytes came.
+fn read(units: &mut [u16]) -> usize
+    ensures { λ r. ⌜ r ≤ length (now (units .exit)) ⌝ }
+{
+    let mut bytes = io::buffer();
+    let got = libc::read(STDIN_FILENO, &mut bytes);
+    let n = io::count(got, &bytes);
+    hexes::widen(&bytes[..n], units)
+}
+
+// A piece of the input: its bytes, and where to go on in it.
+pub struct Piece {
+    pub count: usize,
+    pub at: usize,
+}
+
+// The next piece, where this one has been used up.
+pub fn next(units: &mut [u16], count: usize, at: usize, ended: bool) -> Piece
+    requires { ⌜ count ≤ length (now units) ⌝ }
+    ensures { λ r. ⌜ r .count ≤ length (now (units .exit)) ⌝ }
+{
+    if at < count {
+        return Piece { count, at };
+    }
+    if ended {
+        return Piece { count, at };
+    }
+    Piece {
+        count: read(units),
+        at: 0,
+    }
+}
+
+// Makes the call that is due, and writes what is printed after it.
+pub fn call(
+    due: Due,
+    s: Script,
+    walk: Walk,
+    refs: &mut [u16],
+    doms: &mut [u16],
+    texts: &mut [u16],
+    path: &[u16],
+    boot: &[u16],
+    reply: &[u8],
+) -> Done
+    ensures { λ r. ⌜ Leaves (made due s (lent walk (now (refs .entry)) (now (doms .entry)) (now (texts .entry)) (now (path .entry)) (now (boot .entry)) (now (reply .entry)))) r (now (refs .exit)) (now (doms .exit)) (now (texts .exit)) ⌝ }
+{
+    let mut out = out_memory();
+    let d = calling::make(due, s, walk, refs, doms, texts, path, boot, reply, &mut out);
+    let n = d.bytes;
+    io::write_all(STDOUT_FILENO, &out[..n]);
+    d
+}

@@ -147,7 +147,7 @@ fn look_up(goals: &mut Goals, name: &str, cache: &[u16], p: &[u16]) {
     ])[..] else { unreachable!() };
     let (what, plain) = (format!("look-up in 32 entries, {name}"), called.min(blocks));
     println!("{what}: proved {}, plain {}, ratio {:.2}", shown(proved), shown(plain), proved / plain);
-    println!("  plain by the C library's comparison {}, by 32 units at a time {}, by every unit folded {}", shown(called), shown(blocks), shown(folding));
+    println!("  plain by the C library's comparison {}, ratio {:.2}; by 32 units at a time {}, ratio {:.2}; by every unit folded {}", shown(called), proved / called, shown(blocks), proved / blocks, shown(folding));
     goals.hold(what, proved / plain, LOOK_UP, LOOK_UP * MARGIN);
 }
 

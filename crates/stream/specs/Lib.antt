@@ -1,2 +1,2 @@
--- What a call leaves, where its lines have been written.
+-- When a piece is read, and what a call leaves.
 pub mod Stream

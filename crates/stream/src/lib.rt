@@ -3,7 +3,7 @@ ghost use mathlib.Core.Path.{_≡_};
 ghost use Prim.Native.Nat.{_≤_};
 ghost use lib.ListN.{length};
 ghost use Rattle.calling.specs.Calling.{lent, made};
-ghost use Rattle.stream.specs.Stream.{Leaves};
+ghost use Rattle.stream.specs.Stream.{Leaves, Next};
 use calling::Done;
 use libc::STDIN_FILENO;
 use libc::STDOUT_FILENO;
@@ -37,7 +37,7 @@ pub struct Piece {
 // The next piece, where this one has been used up.
 pub fn next(units: &mut [u16], count: usize, at: usize, ended: bool) -> Piece
     requires { ⌜ count ≤ length (now units) ⌝ }
-    ensures { λ r. ⌜ r .count ≤ length (now (units .exit)) ⌝ }
+    ensures { λ r. ⌜ Next count at ended (now (units .entry)) (now (units .exit)) r ⌝ }
 {
     if at < count {
         return Piece { count, at };

@@ -5,6 +5,14 @@
 set -eu
 cd "$(dirname "$0")/.."
 tests/library wire probe dfsc
-for t in layouts bench listing walks; do
-    cargo run --quiet --release --offline --manifest-path "host/$t/Cargo.toml"
+run() { cargo run --quiet --release --offline --manifest-path "host/$1/Cargo.toml" -- "${@:2}"; }
+run layouts
+# the look-ups in four builds, whose code lies at other places
+times=$(mktemp)
+trap 'rm -f "$times"' EXIT
+for shift in 16 32 48; do
+    BENCH_SHIFT=$shift run bench look-ups >>"$times"
 done
+BENCH_SHIFT=0 run bench --with "$times"
+run listing
+run walks

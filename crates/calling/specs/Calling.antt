@@ -6,7 +6,6 @@ use lib.ListN.{take, replicate}
 use lib.Dec.{eqb}
 use Rattle.laws.specs.Choice.{choose}
 use Rattle.walks.specs.declared.Walk.{Walk}
-use Rattle.closing.specs.Closing.{Left}
 use Rattle.resolve.specs.Calls.{Answered, refusalNumber, startCall, ioCall, referralCall}
 use Rattle.spelling.specs.Spelling.{Put}
 use Rattle.printing.specs.Printed.{refusedLine}

@@ -1,22 +1,26 @@
 -- Laws of the loops that find an entry: what is left to look at, and what is found.
 use mathlib.Core.Path.{_≡_, refl, sym, ap, _∙_}
-use mathlib.Core.Bool.{Bool, true, false, _&&_}
+use mathlib.Core.Bool.{Bool, true, false, _&&_, not, true≢false}
 use mathlib.Core.List.{List, [], _∷_, map}
 use mathlib.Core.Logic.{_⊎_, inl, inr}
-use Prim.Native.Nat.{ℕ, _+_, _/_, _≤_, _<_}
+use Prim.Native.Nat.{ℕ, _+_, _/_, _%_, _≤_, _<_, min}
 use native.Mathlib.Numerals.{add-one}
 use native.Mathlib.Omega.{arith}
-use lib.ListN.{length, drop}
+use lib.ListN.{length, getD, take, drop, length-take}
+use lib.Seq.{getD-take}
 use lib.Dec.{ltb, eqb}
 use borrow.Author.Tests.{eqb-true, eq-eqb, ne-eqb, le-ltb, lt-ltb}
 use Rattle.laws.specs.Choice.{choose}
 use Rattle.laws.specs.Listed.{listed}
-use Rattle.laws.proofs.Choices.{choose-yes, choose-no}
-use Rattle.laws.proofs.Orders.{told}
+use Rattle.laws.proofs.Choices.{choose-yes, choose-no, and-no-right}
+use Rattle.laws.proofs.Orders.{told, lt-or-le}
 use Rattle.laws.proofs.Listed.{drop-listed, drop-listed-end, map-listed}
 use Rattle.unc.specs.Names.{sameName}
 use Rattle.unc.specs.Paths.{matches}
-use Rattle.places.specs.Layout.{placeCount, placeAt, unitAt, textAt}
+use Rattle.unc.proofs.WithinLaws.{sameName-low}
+use Rattle.unc.proofs.MatchLaws.{matches-same, matches-within}
+use Rattle.places.specs.Layout.{placeCount, placeAt, unitAt, roomAt, textAt}
+use Rattle.places.proofs.LayoutLaws.{length-room}
 use Rattle.lookup.specs.declared.Found.{Found}
 use Rattle.lookup.specs.declared.Found.the-variants.{At, Nothing}
 use Rattle.caches.specs.Memory.{Kind, referrals, domains, referralOf, placeOf, decode}
@@ -27,10 +31,10 @@ use Rattle.caches.proofs.KindLaws.{referrals-lawful, domains-lawful}
 use Rattle.caches.proofs.TestLaws.{text-none}
 
 -- lengths first
-pub shorter : (prefix path : List ℕ) (n : ℕ) → length prefix ≤ n → false ≡ (ltb n (length prefix) && matches prefix path)
+shorter : (prefix path : List ℕ) (n : ℕ) → length prefix ≤ n → false ≡ (ltb n (length prefix) && matches prefix path)
 shorter prefix path n h = rw (le-ltb n (length prefix) h)
 
-pub longer : (prefix path : List ℕ) (n : ℕ) {r : Bool} → n < length prefix → r ≡ matches prefix path → r ≡ (ltb n (length prefix) && matches prefix path)
+longer : (prefix path : List ℕ) (n : ℕ) {r : Bool} → n < length prefix → r ≡ matches prefix path → r ≡ (ltb n (length prefix) && matches prefix path)
 longer prefix path n h e = rw (lt-ltb n (length prefix) h) e
 
 -- a place, by its key
@@ -52,6 +56,62 @@ module _ (p : List ℕ) where
       go (inl h) = rw (place-free referrals p (eqb-true (unitAt 0 p) 0 h), text-none referrals referrals-lawful p h)
       go (inr h) = rw (place-used referrals p h)
 
+  -- the test of a place, by its key
+  module _ (path : List ℕ) (n : ℕ) where
+    pub place-shorter : {key : List ℕ} → key ≡ textAt 0 p → length key ≤ n → false ≡ longerMatch path n (placeOf referrals p)
+    place-shorter e h = shorter (textAt 0 p) path n (rw (← e) h) ∙ sym (longer-place path n)
+
+    pub place-longer : {key : List ℕ} {r : Bool} → key ≡ textAt 0 p → n < length key → r ≡ matches key path → r ≡ longerMatch path n (placeOf referrals p)
+    place-longer e h f = longer (textAt 0 p) path n (rw (← e) h) (f ∙ ap (λ (t : List ℕ). matches t path) e) ∙ sym (longer-place path n)
+
+    -- what is no match at all is none that is longer
+    pub place-unlike : longerMatch path 0 (placeOf referrals p) ≡ false → false ≡ longerMatch path n (placeOf referrals p)
+    place-unlike h = go (lt-or-le n (length (textAt 0 p)))
+      where
+        go : (n < length (textAt 0 p)) ⊎ (length (textAt 0 p) ≤ n) → false ≡ longerMatch path n (placeOf referrals p)
+        go (inl l) = longer (textAt 0 p) path n l (sym (longer (textAt 0 p) path 0 (omega arith) refl ∙ (sym (longer-place path 0) ∙ h))) ∙ sym (longer-place path n)
+        go (inr l) = place-shorter refl l
+
+-- a prefix whose last unit is unlike that of the path; k is that unit, or the last of the path where the prefix is none or longer
+module _ (raw path : List ℕ) (i : ℕ) (fits : i < length raw / 2336) where
+  abbrev units : ℕ
+  units = unitAt 0 (placeAt i raw)
+
+  abbrev prefix : List ℕ
+  prefix = textAt 0 (placeAt i raw)
+
+  text-units : length prefix ≡ min units 256
+  unfolding textAt
+  text-units = length-take units (roomAt 0 (placeAt i raw)) ∙ ap (min units) (length-room raw i fits 0 (omega arith))
+
+  module _ (k : ℕ) {u : ℕ} {room : List ℕ} (eu : u ≡ units) (er : room ≡ roomAt 0 (placeAt i raw)) where
+    text-unit : k < units → getD prefix k 0 ≡ getD room k 0
+    unfolding textAt
+    text-unit h = getD-take units (roomAt 0 (placeAt i raw)) k 0 h ∙ ap (λ (t : List ℕ). getD t k 0) (sym er)
+
+    last-low : length path ≤ 256 → (0 < u → u ≤ length path → k + 1 ≡ u) → (length path ≤ u → k + 1 ≡ length path)
+        → not (eqb (getD room k 0 % 32) (getD path k 0 % 32)) ≡ true → 0 < length prefix → matches prefix path ≡ true → ⊥
+    last-low short inner outer differ some matched =
+        let z = text-units in
+        let w : length prefix ≤ length path = matches-within prefix path matched in
+        let l : k + 1 ≡ length prefix = last z w (lt-or-le 256 u) in
+        let a : getD prefix k 0 ≡ getD room k 0 = text-unit (omega arith) in
+        let b : getD (take (length prefix) path) k 0 ≡ getD path k 0 = getD-take (length prefix) path k 0 (omega arith) in
+        true≢false (sym (matches-same prefix path matched) ∙ sameName-low prefix (take (length prefix) path) k (omega arith) (rw (a, b) differ))
+      where
+        last : length prefix ≡ min units 256 → length prefix ≤ length path → (256 < u) ⊎ (u ≤ 256) → k + 1 ≡ length prefix
+        last z w (inl l) = outer (omega arith) ∙ omega arith
+        last z w (inr l) = inner (omega arith) (omega arith) ∙ omega arith
+
+    pub last-unlike : length path ≤ 256 → (0 < u → u ≤ length path → k + 1 ≡ u) → (length path ≤ u → k + 1 ≡ length path)
+        → not (eqb (getD room k 0 % 32) (getD path k 0 % 32)) ≡ true → longerMatch path 0 (placeOf referrals (placeAt i raw)) ≡ false
+    last-unlike short inner outer differ = longer-place (placeAt i raw) path 0 ∙ go (lt-or-le 0 (length prefix)) (told (matches prefix path))
+      where
+        go : (0 < length prefix) ⊎ (length prefix ≤ 0) → (matches prefix path ≡ true) ⊎ (matches prefix path ≡ false) → (ltb 0 (length prefix) && matches prefix path) ≡ false
+        go (inr none) m = sym (shorter prefix path 0 none)
+        go (inl some) (inl matched) = absurd (last-low short inner outer differ some matched)
+        go (inl some) (inr unmatched) = and-no-right (ltb 0 (length prefix)) unmatched
+
 -- the loop that finds the longest match
 module _ (raw path : List ℕ) (i : ℕ) (best : Found) (n : ℕ) where
   -- one place more
@@ -65,25 +125,22 @@ module _ (raw path : List ℕ) (i : ℕ) (best : Found) (n : ℕ) where
       (choose (longerMatch path n (placeOf referrals (placeAt i raw))) (prefixUnits (placeOf referrals (placeAt i raw))) n) (drop k (decode referrals raw)))
       (sym (add-one i))
 
-  tested : {key : List ℕ} {r : Bool} → key ≡ textAt 0 (placeAt i raw) → r ≡ (ltb n (length key) && matches key path) → longerMatch path n (placeOf referrals (placeAt i raw)) ≡ r
-  tested k e = longer-place (placeAt i raw) path n ∙ ((λ j. ltb n (length (sym k j)) && matches (sym k j) path) ∙ sym e)
-
   -- the best and its units after that
-  module _ {best′ : Found} {n′ : ℕ} {key : List ℕ} {r : Bool} (k : key ≡ textAt 0 (placeAt i raw)) (e : r ≡ (ltb n (length key) && matches key path)) where
-    pub find-hit : r ≡ true → best′ ≡ At i → n′ ≡ length key → i < length raw / 2336
+  module _ {best′ : Found} {n′ : ℕ} {r : Bool} (e : r ≡ longerMatch path n (placeOf referrals (placeAt i raw))) where
+    pub find-hit : {key : List ℕ} → r ≡ true → best′ ≡ At i → key ≡ textAt 0 (placeAt i raw) → n′ ≡ length key → i < length raw / 2336
         → longestFrom path i best n (drop i (decode referrals raw)) ≡ longestFrom path (i + 1) best′ n′ (drop (i + 1) (decode referrals raw))
-    find-hit h p q u =
+    find-hit h p k q u =
         let l : prefixUnits (placeOf referrals (placeAt i raw)) ≡ n′ = units-place (placeAt i raw) ∙ (ap length (sym k) ∙ sym q) in
         find-step u
-        ∙ (λ j. longestFrom path (i + 1) ((choose-yes (At i) best (tested k e ∙ h) ∙ sym p) j)
-        ((choose-yes (prefixUnits (placeOf referrals (placeAt i raw))) n (tested k e ∙ h) ∙ l) j) (drop (i + 1) (decode referrals raw)))
+        ∙ (λ j. longestFrom path (i + 1) ((choose-yes (At i) best (sym e ∙ h) ∙ sym p) j)
+        ((choose-yes (prefixUnits (placeOf referrals (placeAt i raw))) n (sym e ∙ h) ∙ l) j) (drop (i + 1) (decode referrals raw)))
 
     pub find-miss : r ≡ false → best′ ≡ best → n′ ≡ n → i < length raw / 2336
         → longestFrom path i best n (drop i (decode referrals raw)) ≡ longestFrom path (i + 1) best′ n′ (drop (i + 1) (decode referrals raw))
     find-miss h p q u =
         find-step u
-        ∙ (λ j. longestFrom path (i + 1) ((choose-no (At i) best (tested k e ∙ h) ∙ sym p) j)
-        ((choose-no (prefixUnits (placeOf referrals (placeAt i raw))) n (tested k e ∙ h) ∙ sym q) j) (drop (i + 1) (decode referrals raw)))
+        ∙ (λ j. longestFrom path (i + 1) ((choose-no (At i) best (sym e ∙ h) ∙ sym p) j)
+        ((choose-no (prefixUnits (placeOf referrals (placeAt i raw))) n (sym e ∙ h) ∙ sym q) j) (drop (i + 1) (decode referrals raw)))
 
   pub find-end : length raw / 2336 ≤ i → longestFrom path i best n (drop i (decode referrals raw)) ≡ best
   unfolding longestFrom

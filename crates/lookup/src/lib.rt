@@ -1,15 +1,14 @@
 // Looking up in the two lent caches: the longest match, an equal key, ages, the place of a new entry, its fields and hints.
 ghost use mathlib.Core.Path.{_≡_};
-ghost use mathlib.Core.Bool.{true, _&&_};
-ghost use Prim.Native.Nat.{_/_, _<_};
+ghost use mathlib.Core.Bool.{true, false};
+ghost use Prim.Native.Nat.{_+_, _/_, _≤_, _<_};
 ghost use lib.ListN.{length};
-ghost use lib.Dec.{ltb};
-ghost use Rattle.unc.specs.Paths.{matches};
 ghost use Rattle.places.specs.Layout.{placeAt};
 ghost use Rattle.caches.specs.Memory.{referrals, domains, placeOf, decode, encode, inOrder};
-ghost use Rattle.lookup.specs.Lookup.{longestMatch, withKey, entryAt, age, expired, firstFreeFrom, placeAge, oldest, newPlace, targetPath, targetOpens, dcName, targetHinted, dcHinted};
+ghost use Rattle.lookup.specs.Lookup.{longerMatch, longestMatch, withKey, entryAt, age, expired, firstFreeFrom, placeAge, oldest, newPlace, targetPath, targetOpens, dcName, targetHinted, dcHinted};
 ghost use Rattle.lookup.specs.Keys.{keyIs, keyPlace};
 use places::PLACE;
+use places::ROOM;
 
 // The place of an entry, if there is one.
 pub enum Found {
@@ -17,10 +16,45 @@ pub enum Found {
     Nothing,
 }
 
-// Whether a prefix has more units than `units` and matches the path. The lengths are compared first.
-fn longer_match(prefix: &[u16], path: &[u16], units: usize) -> bool
-    ensures { λ r. ⌜ r ≡ (ltb units (length (now (prefix .entry))) && matches (now (prefix .entry)) (now (path .entry))) ⌝ }
+// The last unit of a prefix of so many units; that of the path where the prefix is none or longer.
+fn last_unit(units: usize, path: usize) -> usize
+    requires { ⌜ 0 < path ⌝ }
+    ensures { λ r. ⌜ (r < path) × (((0 < units) → (units ≤ path) → r + 1 ≡ units) × (path ≤ units → r + 1 ≡ path)) ⌝ }
 {
+    let k = std::num::wrapping_sub_usize(units, 1);
+    if k < path {
+        return k;
+    }
+    path - 1
+}
+
+// Whether the prefix of place i cannot match by its last unit: the five low bits of equal units are the same. Paths of one namespace begin alike, so that this
+// one test tells most of them apart.
+fn ends_unlike(cache: &[u16], i: usize, path: &[u16]) -> bool
+    requires { ⌜ i < length (now cache) / 2336 ⌝ }
+    ensures { λ r. ⌜ (r ≡ true → longerMatch (now (path .entry)) 0 (placeOf referrals (placeAt i (now (cache .entry)))) ≡ false) ⌝ }
+{
+    let n = path.len();
+    if n == 0 {
+        return false;
+    }
+    if ROOM < n {
+        return false;
+    }
+    let k = last_unit(places::unit(cache, i, 0) as usize, n);
+    let room = places::room(cache, i, 0);
+    room[k] % 32 != path[k] % 32
+}
+
+// Whether the prefix of place i has more units than `units` and matches the path.
+fn longer_match(cache: &[u16], i: usize, path: &[u16], units: usize) -> bool
+    requires { ⌜ i < length (now cache) / 2336 ⌝ }
+    ensures { λ r. ⌜ r ≡ longerMatch (now (path .entry)) units (placeOf referrals (placeAt i (now (cache .entry)))) ⌝ }
+{
+    if ends_unlike(cache, i, path) {
+        return false;
+    }
+    let prefix = places::text(cache, i, 0);
     if prefix.len() <= units {
         return false;
     }
@@ -36,10 +70,9 @@ pub fn find(cache: &[u16], path: &[u16]) -> Found
     let mut units = 0;
     let mut i = 0;
     while i < count {
-        let prefix = places::text(cache, i, 0);
-        if longer_match(prefix, path, units) {
+        if longer_match(cache, i, path, units) {
             best = Found::At(i);
-            units = prefix.len();
+            units = places::text(cache, i, 0).len();
         }
         i += 1;
     }

@@ -47,37 +47,12 @@ pub fn first_end(s: &[u16], k: usize) -> usize
     i
 }
 
-// Whether the last units of two names cannot be equal: the five low bits of equal units are the same.
-fn unlike_last(a: &[u16], b: &[u16]) -> bool
-    requires { ⌜ length (now a) ≡ length (now b) ⌝ }
-    ensures { λ r. ⌜ (r ≡ true → sameName (now (a .entry)) (now (b .entry)) ≡ false) ⌝ }
-{
-    let n = a.len();
-    if n == 0 {
-        return false;
-    }
-    a[n - 1] % 32 != b[n - 1] % 32
-}
-
-// Equal names of one length. Paths of one namespace begin alike, so that their last units tell most of them apart, without a call.
-fn same_length_name(a: &[u16], b: &[u16]) -> bool
-    requires { ⌜ length (now a) ≡ length (now b) ⌝ }
-    ensures { λ r. ⌜ r ≡ sameName (now (a .entry)) (now (b .entry)) ⌝ }
-{
-    if unlike_last(a, b) {
-        return false;
-    }
-    let n = a.len();
-    // parts, so that only a call stores where they lie
-    unc::same_name(&a[..n], &b[..n])
-}
-
 pub fn matches(prefix: &[u16], path: &[u16]) -> bool
     ensures { λ r. ⌜ r ≡ matches (now (prefix .entry)) (now (path .entry)) ⌝ }
 {
     let n = prefix.len();
     if n == path.len() {
-        return same_length_name(prefix, path);
+        return unc::same_name(prefix, path);
     }
     if path.len() < n {
         return false;
@@ -85,7 +60,7 @@ pub fn matches(prefix: &[u16], path: &[u16]) -> bool
     if path[n] != BACKSLASH {
         return false;
     }
-    same_length_name(prefix, &path[..n])
+    unc::same_name(prefix, &path[..n])
 }
 
 // Whether the second component is SYSVOL or NETLOGON.

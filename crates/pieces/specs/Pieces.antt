@@ -2,12 +2,12 @@
 -- input": where no byte more comes, a part of a line that is held is a line, and after it the input ends.
 use Prim.Native.Nat.{ℕ, _+_}
 use mathlib.Core.Bool.{Bool, true, false}
-use mathlib.Core.List.{List, []}
+use mathlib.Core.List.{List}
 use lib.ListN.{length, take, drop}
 use lib.Dec.{eqb, ltb}
 use Rattle.laws.specs.Choice.{choose}
 use Rattle.lines.specs.Lines.{lineLength}
-use Rattle.hexes.specs.Held.{heldOf, heldAfter, lineAfter}
+use Rattle.hexes.specs.Held.{heldAfter, lineAfter}
 use Rattle.hexes.specs.declared.Held.{Held}
 use Rattle.hexes.specs.declared.Rest.the-variants.{None}
 use Rattle.script.specs.declared.Input.{Input}

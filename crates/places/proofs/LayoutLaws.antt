@@ -33,6 +33,20 @@ module _ (raw : List ℕ) (i : ℕ) (fits : i < length raw / 2336) where
       let b : getD raw (i * 2336 + (j + 1)) 0 ≡ unitAt (j + 1) (placeAt i raw) = place-unit (j + 1) h in
       rw (add-assoc (i * 2336) j 1, a, b)
 
+  -- a room, as a slice
+  pub place-room : (j : ℕ) → j < 9
+      → take (i * 2336 + 32 + j * 256 + 256 - (i * 2336 + 32 + j * 256)) (drop (i * 2336 + 32 + j * 256) raw) ≡ roomAt j (placeAt i raw)
+  unfolding roomAt
+  place-room j h = part-slice (i * 2336 + (32 + j * 256)) 256 raw (i * 2336 + 32 + j * 256) (i * 2336 + 32 + j * 256 + 256) (omega arith) refl ∙ sym (place-part (32 + j * 256) 256 (omega arith))
+
+  pub length-room : (j : ℕ) → j < 9 → length (roomAt j (placeAt i raw)) ≡ 256
+  unfolding roomAt
+  length-room j h = let z : length (placeAt i raw) ≡ 2336 = length-place in length-part (32 + j * 256) 256 (placeAt i raw) (omega arith)
+
+  pub place-room-units : (j : ℕ) → j < 9
+      → length (take (i * 2336 + 32 + j * 256 + 256 - (i * 2336 + 32 + j * 256)) (drop (i * 2336 + 32 + j * 256) raw)) ≡ 256
+  place-room-units j h = ap length (place-room j h) ∙ length-room j h
+
   -- a text, as the slice of n units from s on
   slice-text : (j s n : ℕ) → j < 9 → s ≡ i * 2336 + (32 + j * 256) → n ≡ min 256 (getD raw (i * 2336 + j) 0)
       → take (s + n - s) (drop s raw) ≡ textAt j (placeAt i raw)

@@ -4,13 +4,14 @@ ghost use mathlib.Core.List.{_∷_, _++_};
 ghost use Prim.Native.Nat.{_+_, _-_, _/_, _≤_, _<_};
 ghost use lib.ListN.{length};
 ghost use Rattle.laws.specs.Lists.{part};
-ghost use Rattle.places.specs.Layout.{placeAt, changed, unitAt, wideAt, textAt, listCount, blank, zeros, tidyRoom, tidyRooms, tidy, putUnit, putWide, putText, putSettings, keyOnly, wideUnits};
+ghost use Rattle.places.specs.Layout.{placeAt, changed, unitAt, wideAt, roomAt, textAt, listCount, blank, zeros, tidyRoom, tidyRooms, tidy, putUnit, putWide, putText, putSettings, keyOnly, wideUnits};
 
 pub const PLACE: usize = 2336;
 
 const HEAD: usize = 32;
 
-const ROOM: usize = 256;
+// The units of the room of a text.
+pub const ROOM: usize = 256;
 
 const TEXTS: usize = 9;
 
@@ -43,6 +44,16 @@ pub fn text(cache: &[u16], i: usize, j: usize) -> &[u16]
         let end = start + units;
         return &cache[start..end];
     }
+    let end = start + ROOM;
+    &cache[start..end]
+}
+
+// The room of text j of place i.
+pub fn room(cache: &[u16], i: usize, j: usize) -> &[u16]
+    requires { ⌜ (i < length (now cache) / 2336) × (j < 9) ⌝ }
+    ensures { λ r. ⌜ (now r ≡ roomAt j (placeAt i (now (cache .entry)))) × (length (now r) ≡ 256) ⌝ }
+{
+    let start = i * PLACE + HEAD + j * ROOM;
     let end = start + ROOM;
     &cache[start..end]
 }

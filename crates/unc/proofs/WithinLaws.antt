@@ -8,8 +8,7 @@ use native.Mathlib.Nat.{le-of-suc-le-suc}
 use native.Mathlib.Omega.{arith}
 use lib.Bits.{bitOr, bitXor, or-add-and, xor-add-and, and-le-l, and-le-r}
 use lib.Dec.{eqb}
-use lib.ListN.{length, getD, take}
-use lib.Seq.{take-all}
+use lib.ListN.{length, getD}
 use borrow.Author.Tests.{eqb-true, eq-eqb}
 use Rattle.laws.proofs.Choices.{and-left, and-right, and-both}
 use Rattle.laws.proofs.Orders.{told, lt-or-le}
@@ -106,6 +105,3 @@ sameName-low s t i u h = unlike-at s t i refl (go (told _)) u
     go : (sameUnit (getD s i 0) (getD t i 0) ≡ true) ⊎ (sameUnit (getD s i 0) (getD t i 0) ≡ false) → sameUnit (getD s i 0) (getD t i 0) ≡ false
     go (inl e) = absurd (true≢false (sym h ∙ ap not (eq-eqb _ _ (sameUnit-low _ _ e))))
     go (inr e) = e
-
-pub sameName-taken : (s t : List ℕ) (n : ℕ) {r : Bool} → r ≡ sameName (take n s) (take n t) → length s ≤ n → length t ≤ n → r ≡ sameName s t
-sameName-taken s t n e u v = e ∙ rw (take-all n s u, take-all n t v)

@@ -1,7 +1,7 @@
 // Units and names on lent units: document 01, "Paths".
 ghost use mathlib.Core.Path.{_≡_};
 ghost use mathlib.Core.Bool.{true};
-ghost use Prim.Native.Nat.{_+_, _≤_};
+ghost use Prim.Native.Nat.{_+_, _≤_, _<_};
 ghost use lib.ListN.{length, drop};
 ghost use Rattle.unc.specs.Names.{folded, sameUnit, sameName, SameWithin, plain, nothingOrDots, goodComponent, goodName};
 ghost use Rattle.unc.specs.Paths.{plainLength};
@@ -63,30 +63,38 @@ fn equal_block(a: &[u16], b: &[u16], at: usize, n: usize) -> bool
     differ == 0
 }
 
-// Whether two names of one length, of 16 units or more, are the same, unfolded: the last 16 units first, since paths of one namespace begin alike; then 32 at a
-// time, and once more 16, some of which may have been compared.
+// Whether two names of one length, of n units or more, are the same, unfolded: the last n units first, since paths of one namespace begin alike; then n at a
+// time, where the last of these may have been compared.
+fn equal_blocks(a: &[u16], b: &[u16], n: usize) -> bool
+    requires { ⌜ (length (now a) ≡ length (now b)) × ((0 < n) × (n ≤ length (now a))) ⌝ }
+    ensures { λ r. ⌜ (r ≡ true → sameName (now (a .entry)) (now (b .entry)) ≡ true) ⌝ }
+{
+    let last = a.len() - n;
+    if !equal_block(a, b, last, n) {
+        return false;
+    }
+    let mut next = 0;
+    while next < last {
+        if !equal_block(a, b, next, n) {
+            return false;
+        }
+        next += n;
+    }
+    true
+}
+
+// Whether two names of one length, of 16 units or more, are the same, unfolded.
 fn equal_units(a: &[u16], b: &[u16]) -> bool
     requires { ⌜ length (now a) ≡ length (now b) ⌝ }
     ensures { λ r. ⌜ (r ≡ true → sameName (now (a .entry)) (now (b .entry)) ≡ true) ⌝ }
 {
-    if a.len() < 16 {
-        return false;
+    if 32 <= a.len() {
+        return equal_blocks(a, b, 32);
     }
-    let last = a.len() - 16;
-    if !equal_block(a, b, last, 16) {
-        return false;
+    if 16 <= a.len() {
+        return equal_blocks(a, b, 16);
     }
-    let mut next = 0;
-    while next + 32 <= a.len() {
-        if !equal_block(a, b, next, 32) {
-            return false;
-        }
-        next += 32;
-    }
-    if last <= next {
-        return true;
-    }
-    equal_block(a, b, next, 16)
+    false
 }
 
 // Whether two names of one length are equal, unit by unit from the last on.

@@ -1,5 +1,8 @@
 //! Times the proved functions and the plain ones of `plain` in one process, after their answers have been compared, and prints the ratios.
 //! Exits with 1 where a goal is missed by so much that it is over its bound.
+//!
+//! Where its loop falls in memory makes a tenth of difference to a look-up and more. So they are timed in four builds that differ in BENCH_SHIFT alone:
+//! `bench look-ups` prints the times of one build, `bench --with FILE` takes those in FILE with its own, and the least time of each function counts.
 mod data;
 mod plain;
 
@@ -15,7 +18,11 @@ const ORDER: f64 = 1.5;
 const LOOK_UP: f64 = 1.0;
 const SIZE: u32 = 57344;
 
+// The code that follows is moved by so many bytes.
+std::arch::global_asm!(concat!(".section .text.shift,\"ax\",@progbits\n.p2align 6\n.globl shift\nshift:\n.zero ", env!("BENCH_SHIFT"), "\nret\n.text"));
+
 extern "C" {
+    fn shift();
     fn probe_in_order(cache: *const u16, units: usize) -> bool;
     fn probe_find(cache: *const u16, units: usize, path: *const u16, length: usize) -> usize;
     fn wire_referral(reply: *const u8, len: usize, size: u32, asked: *const u16, units: usize, k: usize) -> u64;
@@ -94,9 +101,20 @@ fn pair(what: &str, mut proved: impl FnMut(), mut plain: impl FnMut()) -> (f64, 
 const LONG: Shape = Shape { units: 256, targets: 8 };
 const USUAL: Shape = Shape { units: 30, targets: 4 };
 
-fn caches(goals: &mut Goals) {
+// The last prefix: each of the others is compared up to its last two units.
+fn looked_up(shape: Shape) -> Vec<u16> {
+    let mut p = path(shape.units, 31);
+    if shape.units < 250 {
+        p.extend("\\docs\\a.txt".encode_utf16());
+    }
+    p
+}
+
+const SHAPES: [(&str, Shape); 2] = [("8 targets, texts of 256 units", LONG), ("4 targets, texts of 30 units", USUAL)];
+
+fn compare_caches() {
     let mut compared = 0;
-    for shape in [LONG, USUAL] {
+    for (_, shape) in SHAPES {
         let cache = referrals(32, shape);
         assert!(in_order(&cache) && plain::caches::referrals_in_order(&cache));
         for at in (0..cache.len()).step_by(97) {
@@ -123,32 +141,52 @@ fn caches(goals: &mut Goals) {
         }
     }
     println!("order tests and look-ups compared: {compared}");
-    for (name, shape) in [("8 targets, texts of 256 units", LONG), ("4 targets, texts of 30 units", USUAL)] {
+}
+
+fn order_tests(goals: &mut Goals) {
+    for (name, shape) in SHAPES {
         let cache = referrals(32, shape);
         let what = format!("order test of 32 entries, {name}");
         let (_, ratio) = pair(&what, || { black_box(in_order(black_box(&cache))); }, || { black_box(plain::caches::referrals_in_order(black_box(&cache))); });
         goals.hold(what, ratio, ORDER, ORDER * MARGIN);
-        // the last prefix: each of the others is compared up to its last two units
-        let mut p = path(shape.units, 31);
-        if shape.units < 250 {
-            p.extend("\\docs\\a.txt".encode_utf16());
-        }
-        look_up(goals, name, &cache, &p);
     }
 }
 
-// The plain side is the fastest of its ways.
-fn look_up(goals: &mut Goals, name: &str, cache: &[u16], p: &[u16]) {
-    let [proved, called, blocks, folding] = least(&mut [
-        &mut || { black_box(find(black_box(cache), black_box(p))); },
-        &mut || { black_box(plain::caches::find(black_box(cache), black_box(p))); },
-        &mut || { black_box(plain::caches::find_in_blocks(black_box(cache), black_box(p))); },
-        &mut || { black_box(plain::caches::find_folding(black_box(cache), black_box(p))); },
-    ])[..] else { unreachable!() };
-    let (what, plain) = (format!("look-up in 32 entries, {name}"), called.min(blocks));
-    println!("{what}: proved {}, plain {}, ratio {:.2}", shown(proved), shown(plain), proved / plain);
-    println!("  plain by the C library's comparison {}, ratio {:.2}; by 32 units at a time {}, ratio {:.2}; by every unit folded {}", shown(called), proved / called, shown(blocks), proved / blocks, shown(folding));
-    goals.hold(what, proved / plain, LOOK_UP, LOOK_UP * MARGIN);
+/// Nanoseconds of a look-up: the proved one; the plain ones by the C library's comparison, by blocks of units, and by every unit folded.
+type Times = [f64; 4];
+
+// In each shape.
+fn look_ups() -> [Times; 2] {
+    SHAPES.map(|(_, shape)| {
+        let (cache, p) = (&referrals(32, shape)[..], &looked_up(shape)[..]);
+        let times = least(&mut [
+            &mut || { black_box(find(black_box(cache), black_box(p))); },
+            &mut || { black_box(plain::caches::find(black_box(cache), black_box(p))); },
+            &mut || { black_box(plain::caches::find_in_blocks(black_box(cache), black_box(p))); },
+            &mut || { black_box(plain::caches::find_folding(black_box(cache), black_box(p))); },
+        ]);
+        times.try_into().unwrap()
+    })
+}
+
+// Of the plain ways the faster one counts.
+fn hold_look_ups(goals: &mut Goals, builds: &[[Times; 2]]) {
+    for (k, (name, _)) in SHAPES.iter().enumerate() {
+        let [proved, called, blocks, folding] = [0, 1, 2, 3].map(|way| builds.iter().map(|b| b[k][way]).fold(f64::MAX, f64::min));
+        let (what, plain) = (format!("look-up in 32 entries, {name}"), called.min(blocks));
+        println!("{what}, least of {} builds: proved {}, plain {}, ratio {:.2}", builds.len(), shown(proved), shown(plain), proved / plain);
+        println!("  plain by the C library's comparison {}, ratio {:.2}; by blocks of units {}, ratio {:.2}; by every unit folded {}", shown(called), proved / called, shown(blocks), proved / blocks, shown(folding));
+        let each: Vec<String> = builds.iter().map(|b| format!("{:.2}", b[k][0] / b[k][1].min(b[k][2]))).collect();
+        println!("  ratio in each build: {}", each.join(", "));
+        goals.hold(what, proved / plain, LOOK_UP, LOOK_UP * MARGIN);
+    }
+}
+
+// The times of other builds, as `bench look-ups` printed them.
+fn other_builds(file: &str) -> Vec<[Times; 2]> {
+    let text = std::fs::read_to_string(file).unwrap();
+    let ns: Vec<f64> = text.lines().filter_map(|l| l.strip_prefix("ns ")).flat_map(|l| l.split(' ').map(|n| n.parse().unwrap())).collect();
+    ns.chunks_exact(8).map(|b| [b[..4].try_into().unwrap(), b[4..].try_into().unwrap()]).collect()
 }
 
 struct Start<'a> {
@@ -272,8 +310,24 @@ fn replies(goals: &mut Goals) {
 }
 
 fn main() {
+    black_box(shift as usize);
+    let args: Vec<String> = std::env::args().skip(1).collect();
+    let args: Vec<&str> = args.iter().map(String::as_str).collect();
+    compare_caches();
+    let mut builds = vec![look_ups()];
+    match args[..] {
+        [] => {}
+        ["look-ups"] => {
+            let ns: Vec<String> = builds[0].iter().flatten().map(f64::to_string).collect();
+            println!("ns {}", ns.join(" "));
+            return;
+        }
+        ["--with", file] => builds.extend(other_builds(file)),
+        _ => panic!("usage: bench [look-ups | --with FILE]"),
+    }
     let mut goals = Goals::default();
-    caches(&mut goals);
+    order_tests(&mut goals);
+    hold_look_ups(&mut goals, &builds);
     starts();
     replies(&mut goals);
     for m in &goals.missed {

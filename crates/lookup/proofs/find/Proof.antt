@@ -4,10 +4,10 @@ use lib.ListN.{length, drop}
 use mathlib.Core.Logic.{⊎-elim}
 use mathlib.Core.Path.{_≡_, sym, _∙_}
 use native.Mathlib.Omega.{arith}
-use borrow.Author.Needs.{needs}
 use Rattle.caches.specs.Memory.{referrals, decode}
 use Rattle.lookup.specs.Lookup.{longestMatch, longestFrom}
 use Rattle.lookup.proofs.FindLaws.{find-start, find-hit, find-miss, find-end}
+use borrow.Author.Needs.{needs}
 use Rattle.lookup.proofs.find.Statement.{statement}
 use Rattle.lookup.proofs.find.Tie as tie
 
@@ -22,11 +22,11 @@ abbrev μ-loop : tie.MeasureT-loop
 loop-holds : tie.Need-loop-holds Inv-loop μ-loop
 loop-holds c = (search needs, find-start _ _)
 
-text-requires : tie.Need-text-requires Inv-loop μ-loop
-text-requires c κs = search needs
-
 longer-match-requires : tie.Need-longer-match-requires Inv-loop μ-loop
 longer-match-requires c κs = search needs
+
+text-requires : tie.Need-text-requires Inv-loop μ-loop
+text-requires c κs = search needs
 
 add-i : tie.Need-add-i Inv-loop μ-loop
 add-i c = search needs
@@ -37,10 +37,10 @@ loop-less c = search needs
 loop-again : tie.Need-loop-again Inv-loop μ-loop
 loop-again c = (
   search needs,
-  c .before .before .before .before .loop .inv .1
+  c .before .before .before .loop .inv .1
       ∙ ⊎-elim
-      (λ w. find-hit _ _ _ _ _ (c .before .before .text .ensures) (c .before .longer-match .ensures) (w .0 .taken) (w .1) (w .2) (omega arith))
-      (λ w. find-miss _ _ _ _ _ (c .before .before .text .ensures) (c .before .longer-match .ensures) (w .0 .left) (w .1) (w .2) (omega arith))
+      (λ w. find-hit _ _ _ _ _ (c .before .longer-match .ensures) (w .0 .taken) (w .2) (w .1 .ensures) (w .3) (omega arith))
+      (λ w. find-miss _ _ _ _ _ (c .before .longer-match .ensures) (w .0 .left) (w .1) (w .2) (omega arith))
       (c .if1 .came),
 )
 
@@ -54,8 +54,8 @@ find-spec =
     Inv-loop
     μ-loop
     loop-holds
-    text-requires
     longer-match-requires
+    text-requires
     add-i
     loop-less
     loop-again

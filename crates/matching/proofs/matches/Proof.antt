@@ -8,11 +8,11 @@ use borrow.Author.Needs.{needs}
 use Rattle.matching.proofs.matches.Statement.{statement}
 use Rattle.matching.proofs.matches.Tie as tie
 
-same-length-name-requires : tie.Need-same-length-name-requires
-same-length-name-requires c κs = search needs
+same-name-requires : tie.Need-same-name-requires
+same-name-requires c κs = search needs
 
 returns : tie.Need-returns
-returns c = matches-whole _ _ (c .before .if1 .taken) (c .same-length-name .ensures)
+returns c = matches-whole _ _ (c .before .if1 .taken) (c .same-name .ensures)
 
 returns-2 : tie.Need-returns-2
 returns-2 c = sym (matches-longer _ _ (c .if2 .taken))
@@ -28,31 +28,29 @@ returns-3 c =
     let a = c .before .before .before .before .before .before .args in
     sym (matches-beside (now (a .prefix)) (now (a .path)) (omega arith) (c .if3 .taken))
 
-slice-aggregate-same-length-name : tie.Need-slice-aggregate-same-length-name
-slice-aggregate-same-length-name c =
+slice-aggregate-same-name : tie.Need-slice-aggregate-same-name
+slice-aggregate-same-name c =
     let a = c .before .before .before .before .before .before .before .args in
     sym (length-take-le (length (now (a .prefix))) (now (a .path)) (omega arith))
 
-same-length-name-requires-2 : tie.Need-same-length-name-requires-2
-same-length-name-requires-2 c κs =
-    let a = c .before .before .before .before .before .before .before .args in
-    sym (length-take-le (length (now (a .prefix))) (now (a .path)) (omega arith))
+same-name-requires-2 : tie.Need-same-name-requires-2
+same-name-requires-2 c κs = search needs
 
 returns-4 : tie.Need-returns-4
 returns-4 c =
     let a = c .before .before .before .before .before .before .before .before .args in
-    matches-part (now (a .prefix)) (now (a .path)) (omega arith) (c .before .before .if3 .left) (c .same-length-name2 .ensures)
+    matches-part (now (a .prefix)) (now (a .path)) (omega arith) (c .before .before .if3 .left) (c .same-name2 .ensures)
 
 pub matches-spec : {M : Type 1} → statement M
 matches-spec =
     tie.close
     (tie.spec
-    same-length-name-requires
+    same-name-requires
     returns
     returns-2
     mul-if3
     shared-slice-read-if3
     returns-3
-    slice-aggregate-same-length-name
-    same-length-name-requires-2
+    slice-aggregate-same-name
+    same-name-requires-2
     returns-4)

@@ -1,5 +1,5 @@
 //! The order test and the look-ups.
-use super::names::{good_name, path_components, same, same_called, unlike_last, BACKSLASH};
+use super::names::{good_name, path_components, same, same_called, BACKSLASH};
 use dfsc::PLACE_UNITS as PLACE;
 
 pub const HEAD: usize = 32;
@@ -73,34 +73,36 @@ pub fn domains_in_order(cache: &[u16]) -> bool {
     in_order(cache, good_domain)
 }
 
+/// The place whose prefix is the longest that matches the path, of those that are not told apart by `unlike`.
 #[inline]
-fn alike(a: &[u16], b: &[u16], same: impl Fn(&[u16], &[u16]) -> bool) -> bool {
-    !unlike_last(a, b) && same(a, b)
-}
-
-// A prefix that matches. Paths of one namespace begin alike, so that their last units tell most of them apart.
-#[inline]
-fn matches(prefix: &[u16], path: &[u16], same: impl Fn(&[u16], &[u16]) -> bool) -> bool {
-    let n = prefix.len();
-    if n == path.len() {
-        return alike(prefix, path, same);
-    }
-    n < path.len() && path[n] == BACKSLASH && alike(prefix, &path[..n], same)
-}
-
-/// The place whose prefix is the longest that matches the path.
-#[inline]
-fn find_with(cache: &[u16], path: &[u16], same: impl Copy + Fn(&[u16], &[u16]) -> bool) -> Option<usize> {
+fn find_by(cache: &[u16], path: &[u16], unlike: impl Fn(&[u16], usize) -> bool, same: impl Fn(&[u16], &[u16]) -> bool) -> Option<usize> {
     let mut best = None;
     let mut units = 0;
     for (i, p) in cache.chunks_exact(PLACE).enumerate() {
         let n = p[0] as usize;
-        if n > units && matches(&p[HEAD..HEAD + n], path, same) {
+        if unlike(p, n) {
+            continue;
+        }
+        if n > units && n <= path.len() && (n == path.len() || path[n] == BACKSLASH) && same(&p[HEAD..HEAD + n], &path[..n]) {
             best = Some(i);
             units = n;
         }
     }
     best
+}
+
+// Paths of one namespace begin alike, so that the five low bits of their last units, which equal units have in common, tell most of them apart.
+#[inline]
+fn find_with(cache: &[u16], path: &[u16], same: impl Fn(&[u16], &[u16]) -> bool) -> Option<usize> {
+    if path.is_empty() || path.len() > ROOM {
+        return find_by(cache, path, |_, _| false, same);
+    }
+    let end = path.len() - 1;
+    let unlike = |p: &[u16], n: usize| {
+        let k = n.wrapping_sub(1).min(end);
+        (p[HEAD + k] ^ path[k]) % 32 != 0
+    };
+    find_by(cache, path, unlike, same)
 }
 
 pub fn find(cache: &[u16], path: &[u16]) -> Option<usize> {

@@ -33,22 +33,22 @@ fn equal_block(a: &[u16], b: &[u16]) -> bool {
     a.iter().zip(b).fold(0, |differ, (x, y)| differ | (x ^ y)) == 0
 }
 
-/// Equal names: the last 16 units first, then 32 at a time and once more 16, then unit by unit.
-#[inline(never)]
-pub fn same_in_blocks(a: &[u16], b: &[u16]) -> bool {
-    let equal = || {
-        let (last, next) = (a.len() - 16, a.len() / 32 * 32);
-        equal_block(&a[last..], &b[last..])
-            && a.chunks_exact(32).zip(b.chunks_exact(32)).all(|(x, y)| equal_block(x, y))
-            && (last <= next || equal_block(&a[next..next + 16], &b[next..next + 16]))
-    };
-    a.len() == b.len() && (a.len() >= 16 && equal() || same_units(a, b))
+// Names of one length, of N units or more: the last N units first, then N at a time.
+#[inline]
+fn equal_blocks<const N: usize>(a: &[u16], b: &[u16]) -> bool {
+    let last = a.len() - N;
+    equal_block(&a[last..], &b[last..]) && (0..last).step_by(N).all(|next| equal_block(&a[next..next + N], &b[next..next + N]))
 }
 
-/// Whether the last units of two names cannot be equal: the five low bits of equal units are the same.
-#[inline]
-pub fn unlike_last(a: &[u16], b: &[u16]) -> bool {
-    matches!((a.last(), b.last()), (Some(x), Some(y)) if (x ^ y) % 32 != 0)
+/// Equal names: 32 or 16 units at a time, then unit by unit.
+#[inline(never)]
+pub fn same_in_blocks(a: &[u16], b: &[u16]) -> bool {
+    let equal = || match a.len() {
+        32.. => equal_blocks::<32>(a, b),
+        16.. => equal_blocks::<16>(a, b),
+        _ => false,
+    };
+    a.len() == b.len() && (equal() || same_units(a, b))
 }
 
 /// Equal names, each unit folded before it is compared.

@@ -1,4 +1,4 @@
--- Reading a line and printing a value are inverse: what is printed of a path, a number and a status is read as that value.
+-- Laws of values that are printed and read.
 use mathlib.Core.Path.{_≡_, refl, sym, ap, _∙_}
 use mathlib.Core.Bool.{Bool, true, false, _&&_}
 use mathlib.Core.List.{List, [], _∷_, _++_}
@@ -29,6 +29,7 @@ use Rattle.hexes.specs.Hexes.{upper, isHex, hexValue, hexFrom, hexNumber}
 use Rattle.hexes.proofs.HexLaws.{upper-low}
 use Rattle.script.specs.Script.{statusKey, isText, textSaid, textRead, textTaken, statusSaid}
 use Rattle.printing.specs.Printed.{statusLine}
+use Rattle.inverse.specs.Inverse.{Inverse}
 
 -- a key and a value
 key-there : (key w : List ℕ) → hasKey key (key ++ w) ≡ true
@@ -44,7 +45,7 @@ spelled-form : (s : List ℕ) → every unit s ≡ true → isSpelled (spelled s
 unfolding isSpelled
 spelled-form s h = same-sameList _ _ (ap spelled (unspelled-spelled s h))
 
-pub path-back : (key s room : List ℕ) → every unit s ≡ true → length s ≤ length room → textTaken key (pathLine key s) room ≡ textRead (Units (length s)) (pasted room 0 s)
+path-back : (key s room : List ℕ) → every unit s ≡ true → length s ≤ length room → textTaken key (pathLine key s) room ≡ textRead (Units (length s)) (pasted room 0 s)
 unfolding textTaken isText textSaid pathLine
 path-back key s room h l =
     let v : valueOf key (key ++ spelled s) ≡ spelled s = value-there key (spelled s) in
@@ -53,7 +54,7 @@ path-back key s room h l =
     ∙ ap (λ (x : List ℕ). textRead (Units (length x)) (pasted room 0 x)) u
 
 -- a number
-pub number-back : (key : List ℕ) (n : ℕ) → n < 4294967296 → numberSaid key (numberLine key n) ≡ Value n
+number-back : (key : List ℕ) (n : ℕ) → n < 4294967296 → numberSaid key (numberLine key n) ≡ Value n
 unfolding numberSaid numberLine
 number-back key n h =
     let v : decimalOf (valueOf key (key ++ decimal n)) ≡ n = ap decimalOf (value-there key (decimal n)) ∙ decimal-says n h in
@@ -114,7 +115,7 @@ digits-length : (u v : ℕ) → length (hexUnits u ++ hexUnits v) ≡ 8
 unfolding hexUnits
 digits-length u v = refl
 
-pub status-back : (n : ℕ) → n < 4294967296 → statusSaid (statusLine n) ≡ Value n
+status-back : (n : ℕ) → n < 4294967296 → statusSaid (statusLine n) ≡ Value n
 unfolding statusSaid statusLine
 status-back n h =
     let w : List ℕ = hexUnits (n / 65536) ++ hexUnits (n % 65536) in
@@ -122,3 +123,6 @@ status-back n h =
     let m : hexNumber w ≡ n = digits-number (n / 65536) (n % 65536) (omega arith) (omega arith) ∙ (let z : 65536 * (n / 65536) + n % 65536 ≡ n = omega arith in z) in
     choose-yes _ _ (and-both (key-there statusKey w) (and-both (ap (λ (x : List ℕ). eqb (length x) 8) v ∙ eq-eqb (length w) 8 (digits-length (n / 65536) (n % 65536))) (ap (every isHex) v ∙ digits-hex (n / 65536) (n % 65536))))
     ∙ ap Value (ap hexNumber v ∙ m)
+
+pub inverse : Inverse
+inverse = record { path = path-back; number = number-back; status = status-back }

@@ -1,2 +1,2 @@
 -- Reading and printing are inverse.
-pub mod Inverse
+pub mod InverseLaws

@@ -1,0 +1,1 @@
+// Reading a line and printing a value are inverse. It has no function.

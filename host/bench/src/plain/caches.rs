@@ -113,6 +113,33 @@ pub fn find_in_blocks(cache: &[u16], path: &[u16]) -> Option<usize> {
     find_with(cache, path, super::names::same_in_blocks)
 }
 
+/// The same with the test for an equal length first: fast where the path is itself a prefix, and slow where it lies below one.
+pub fn find_equal_first(cache: &[u16], path: &[u16]) -> Option<usize> {
+    if path.len() > ROOM {
+        return find_by(cache, path, |_, _| false, same_called);
+    }
+    let unlike = |a: &[u16], b: &[u16]| matches!((a.last(), b.last()), (Some(x), Some(y)) if (x ^ y) % 32 != 0);
+    let mut best = None;
+    let mut units = 0;
+    for (i, p) in cache.chunks_exact(PLACE).enumerate() {
+        let n = p[0] as usize;
+        if n == path.len() {
+            let prefix = &p[HEAD..HEAD + n];
+            if !unlike(prefix, path) && n > units && same_called(prefix, path) {
+                best = Some(i);
+                units = n;
+            }
+        } else if n > units && n < path.len() && path[n] == BACKSLASH {
+            let prefix = &p[HEAD..HEAD + n];
+            if !unlike(prefix, &path[..n]) && same_called(prefix, &path[..n]) {
+                best = Some(i);
+                units = n;
+            }
+        }
+    }
+    best
+}
+
 pub fn find_folding(cache: &[u16], path: &[u16]) -> Option<usize> {
     find_with(cache, path, super::names::same_folding)
 }

@@ -47,6 +47,18 @@ after "a last line of many pieces without its end" "$ended"
 mkfifo "$folder/slow"
 while IFS= read -r line; do printf '%s' "${line%?}"; sleep 0.05; printf '%s\n' "${line: -1}"; done <crates/walk/stdin >"$folder/slow" &
 compare "lines in two pieces" "$folder/slow" crates/walk/stdout
+# a question and an end are printed before more of the input comes
+coproc driven { "$walk"; }
+asked() { # NAME EXPECTED: so many lines, within five seconds each
+    local line got=
+    while [ "${#got}" -lt "${#2}" ] && IFS= read -r -t 5 line <&"${driven[0]}"; do got+=$line$'\n'; done
+    if [ "$got" = "$2" ]; then good=$((good + 1)); else bad=$((bad + 1)); echo "differs: $1"; fi
+}
+printf '%b' "${settings//\\\\/\\\\\\\\}" >&"${driven[1]}"
+asked "a question before its answer comes" "$(printf "$question")"$'\n'
+printf 'status=C0000001\nreply=\n' >&"${driven[1]}"
+asked "an end before the input ends" $'end=21\nstatus=00000000\npath=\\files\\s1\nmoves=1\n'
+kill "$driven_PID"
 # nothing, and bytes of every value
 : >"$folder/in"
 printf 'refused=0\n' >"$folder/out"

@@ -2,6 +2,7 @@
 // `sequence` what it says and which call is due, and `stream` reads, makes the call and writes its lines.
 ghost use mathlib.Core.Path.{_≡_};
 ghost use lib.ListN.{length};
+use script::Due;
 
 // The places of a cache, all free.
 fn cache() -> [u16; 18688]
@@ -51,18 +52,28 @@ fn main() {
     let mut came = pieces::nothing();
     let mut s = script::begin();
     let mut walk = holding::no_walk();
+    // a turn takes up what comes next, or reads what has come; a call may be due after each
+    let mut unread = false;
     // nothing says that the input ends
     let mut turns = u64::MAX;
     while turns > 0 && sequence::goes_on(s) {
-        let p = stream::next(&mut units, count, came.at, came.ended);
-        count = p.count;
-        came.at = p.at;
-        came = pieces::come(&units[..count], &mut line, came);
-        let input = came.input;
-        let held = came.held;
-        let first = sequence::due_before(input, s, &line, held);
+        let mut due = Due::None;
+        if unread {
+            let input = came.input;
+            let held = came.held;
+            s = sequence::take(input, s, &line, held, &mut path, &mut boot, &mut reply);
+            due = sequence::due_after(input, s);
+        } else {
+            let p = stream::next(&mut units, count, came.at, came.ended);
+            count = p.count;
+            came.at = p.at;
+            came = pieces::come(&units[..count], &mut line, came);
+            let input = came.input;
+            let held = came.held;
+            due = sequence::due_before(input, s, &line, held);
+        }
         let d = stream::call(
-            first,
+            due,
             s,
             walk,
             &mut refs,
@@ -72,23 +83,9 @@ fn main() {
             &boot,
             &reply,
         );
-        let before = d.script;
-        s = sequence::take(input, before, &line, held, &mut path, &mut boot, &mut reply);
-        let second = sequence::due_after(input, s);
+        s = d.script;
         walk = d.walk;
-        let e = stream::call(
-            second,
-            s,
-            walk,
-            &mut refs,
-            &mut doms,
-            &mut texts,
-            &path,
-            &boot,
-            &reply,
-        );
-        s = e.script;
-        walk = e.walk;
+        unread = !unread;
         turns -= 1;
     }
 }

@@ -2,41 +2,28 @@ use Rattle.calling.proofs.CallingLaws.{io-made}
 use borrow.Author.Needs.{needs}
 use Rattle.calling.proofs.answer_io.Statement.{statement}
 use Rattle.calling.proofs.answer_io.Tie as tie
-use Rattle.calling.proofs.answer_io.Reads as reads
-use Rattle.calling.proofs.answer_io.Lts as lts
-use Rattle.calling.proofs.no_request.Reads as no-request-reads
-use Rattle.calling.proofs.tell.Reads as tell-reads
-use Rattle.resolve.proofs.answer_io.Reads as answer-io-reads
 
--- src/lib.rt:109:23
 no-request-requires : tie.Need-no-request-requires
 no-request-requires c κs = search needs
 
--- src/lib.rt:110:76
 slice-aggregate-answer-io : tie.Need-slice-aggregate-answer-io
 slice-aggregate-answer-io c = search needs
 
--- src/lib.rt:110:9
 answer-io-requires : tie.Need-answer-io-requires
 answer-io-requires c κs = search needs
 
--- src/lib.rt:111:5
 tell-requires : tie.Need-tell-requires
 tell-requires c κs = search needs
 
--- src/lib.rt:98:1
 same-length : tie.Need-same-length
 same-length c = search needs
 
--- src/lib.rt:98:1
 same-length-2 : tie.Need-same-length-2
 same-length-2 c = search needs
 
--- src/lib.rt:98:1
 same-length-3 : tie.Need-same-length-3
 same-length-3 c = search needs
 
--- src/lib.rt:98:1
 returns : tie.Need-returns
 returns c = io-made (c .before .before .before .before .before .before .before .before .before .before .before .before .before .before .before .before .before .before .before .before .args .s) (c .before .before .before .before .before .before .before .before .before .before .before .before .before .before .before .no-request .ensures .0) _ _ _ (c .before .before .before .before .before .before .before .before .before .before .before .answer-io .ensures) (c .before .before .tell .ensures)
 

@@ -6,54 +6,37 @@ use denote.Ref.{now}
 use borrow.Author.Needs.{needs}
 use Rattle.calling.proofs.answer_referral.Statement.{statement}
 use Rattle.calling.proofs.answer_referral.Tie as tie
-use Rattle.calling.proofs.answer_referral.Reads as reads
-use Rattle.calling.proofs.answer_referral.Lts as lts
-use Rattle.calling.proofs.no_request.Reads as no-request-reads
-use Rattle.calling.proofs.tell.Reads as tell-reads
-use Rattle.hexes.proofs.least.Reads as least-reads
-use Rattle.resolve.proofs.answer_referral.Reads as answer-referral-reads
 
--- src/lib.rt:126:9
 least-requires : tie.Need-least-requires
 least-requires c κs = search needs
 
--- src/lib.rt:127:23
 no-request-requires : tie.Need-no-request-requires
 no-request-requires c κs = search needs
 
--- src/lib.rt:134:9
 slice-aggregate-answer-referral : tie.Need-slice-aggregate-answer-referral
 slice-aggregate-answer-referral c = sym (length-take-le (c .before .before .before .before .before .least .result) (now (c .before .before .before .before .before .before .before .before .before .before .before .args .reply)) (omega (arith, c .before .before .before .before .before .least .ensures)))
 
--- src/lib.rt:136:9
 slice-aggregate-answer-referral-2 : tie.Need-slice-aggregate-answer-referral-2
 slice-aggregate-answer-referral-2 c = search needs
 
--- src/lib.rt:128:9
 answer-referral-requires : tie.Need-answer-referral-requires
 answer-referral-requires c κs = search needs
 
--- src/lib.rt:138:5
 tell-requires : tie.Need-tell-requires
 tell-requires c κs = search needs
 
--- src/lib.rt:114:1
 same-length : tie.Need-same-length
 same-length c = search needs
 
--- src/lib.rt:114:1
 same-length-2 : tie.Need-same-length-2
 same-length-2 c = search needs
 
--- src/lib.rt:114:1
 same-length-3 : tie.Need-same-length-3
 same-length-3 c = search needs
 
--- src/lib.rt:114:1
 same-length-4 : tie.Need-same-length-4
 same-length-4 c = search needs
 
--- src/lib.rt:114:1
 returns : tie.Need-returns
 returns c = referral-made (c .before .before .before .before .before .before .before .before .before .before .before .before .before .before .before .before .before .before .before .before .before .before .before .before .before .before .before .args .s) (c .before .before .before .before .before .before .before .before .before .before .before .before .before .before .before .before .before .before .before .before .no-request .ensures .0) _ _ _ _ _ (c .before .before .before .before .before .before .before .before .before .before .before .before .before .before .before .before .before .before .before .before .before .least .ensures) (c .before .before .before .before .before .before .before .before .before .before .before .before .before .before .answer-referral .ensures) (c .before .before .tell .ensures)
 

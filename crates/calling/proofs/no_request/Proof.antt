@@ -2,10 +2,7 @@ use mathlib.Core.Path.{refl}
 use Rattle.calling.specs.Calling.{request}
 use Rattle.calling.proofs.no_request.Statement.{statement}
 use Rattle.calling.proofs.no_request.Tie as tie
-use Rattle.calling.proofs.no_request.Reads as reads
-use Rattle.calling.proofs.no_request.Lts as lts
 
--- src/lib.rt:22:1
 returns : tie.Need-returns
 unfolding request
 returns c = (refl, refl)

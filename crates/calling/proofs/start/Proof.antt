@@ -6,54 +6,37 @@ use denote.Ref.{now}
 use borrow.Author.Needs.{needs}
 use Rattle.calling.proofs.start.Statement.{statement}
 use Rattle.calling.proofs.start.Tie as tie
-use Rattle.calling.proofs.start.Reads as reads
-use Rattle.calling.proofs.start.Lts as lts
-use Rattle.calling.proofs.no_request.Reads as no-request-reads
-use Rattle.calling.proofs.tell.Reads as tell-reads
-use Rattle.hexes.proofs.least.Reads as least-reads
-use Rattle.resolve.proofs.start.Reads as start-reads
 
--- src/lib.rt:80:9
 least-requires : tie.Need-least-requires
 least-requires c κs = search needs
 
--- src/lib.rt:81:9
 least-requires-2 : tie.Need-least-requires-2
 least-requires-2 c κs = search needs
 
--- src/lib.rt:82:23
 no-request-requires : tie.Need-no-request-requires
 no-request-requires c κs = search needs
 
--- src/lib.rt:88:9
 slice-aggregate-start : tie.Need-slice-aggregate-start
 slice-aggregate-start c = sym (length-take-le (c .before .before .before .before .least .result) (now (c .before .before .before .before .before .before .before .before .before .before .before .args .path)) (omega (arith, c .before .before .before .before .least .ensures)))
 
--- src/lib.rt:89:9
 slice-aggregate-start-2 : tie.Need-slice-aggregate-start-2
 slice-aggregate-start-2 c = sym (length-take-le (c .before .before .before .before .least2 .result) (now (c .before .before .before .before .before .before .before .before .before .before .before .before .args .boot)) (omega (arith, c .before .before .before .before .least2 .ensures)))
 
--- src/lib.rt:93:9
 slice-aggregate-start-3 : tie.Need-slice-aggregate-start-3
 slice-aggregate-start-3 c = search needs
 
--- src/lib.rt:83:9
 start-requires : tie.Need-start-requires
 start-requires c κs = search needs
 
--- src/lib.rt:95:5
 tell-requires : tie.Need-tell-requires
 tell-requires c κs = search needs
 
--- src/lib.rt:67:1
 same-length : tie.Need-same-length
 same-length c = search needs
 
--- src/lib.rt:67:1
 same-length-2 : tie.Need-same-length-2
 same-length-2 c = search needs
 
--- src/lib.rt:67:1
 returns : tie.Need-returns
 returns c = start-made (c .before .before .before .before .before .before .before .before .before .before .before .before .before .before .before .before .before .before .before .before .before .before .args .s) (c .before .before .before .before .before .before .before .before .before .before .before .before .before .no-request .ensures .0) _ _ _ _ (c .before .before .before .before .before .before .before .before .before .before .before .before .before .before .before .least .ensures) (c .before .before .before .before .before .before .before .before .before .before .before .before .before .before .least2 .ensures) (c .before .before .before .before .before .before .before .before .start .ensures) (c .before .before .tell .ensures)
 

@@ -3,37 +3,25 @@ use native.Mathlib.Omega.{arith}
 use borrow.Author.Needs.{needs}
 use Rattle.calling.proofs.tell.Statement.{statement}
 use Rattle.calling.proofs.tell.Tie as tie
-use Rattle.calling.proofs.tell.Reads as reads
-use Rattle.calling.proofs.tell.Lts as lts
-use Rattle.holding.proofs.refusal_number.Reads as refusal-number-reads
-use Rattle.script.proofs.with_last.Reads as with-last-reads
-use Rattle.telling.proofs.put_outcome.Reads as put-outcome-reads
 
--- src/lib.rt:35:9
 refusal-number-requires : tie.Need-refusal-number-requires
 refusal-number-requires c κs = search needs
 
--- src/lib.rt:37:9
 put-outcome-requires : tie.Need-put-outcome-requires
 put-outcome-requires c κs = search needs
 
--- src/lib.rt:39:13
 with-last-requires : tie.Need-with-last-requires
 with-last-requires c κs = search needs
 
--- src/lib.rt:40:9
 same-length : tie.Need-same-length
 same-length c = search needs
 
--- src/lib.rt:40:9
 returns : tie.Need-returns
 returns c = told-refused (c .before .before .before .before .before .before .before .before .before .before .before .before .args .s) (c .before .before .before .before .before .before .before .before .before .before .before .before .args .o) _ _ _ _ _ (c .before .before .before .before .before .before .before .refusal-number .ensures) (c .before .before .before .before .put-outcome .ensures) (c .before .if1 .taken) (c .with-last .ensures)
 
--- src/lib.rt:30:1
 same-length-2 : tie.Need-same-length-2
 same-length-2 c = search needs
 
--- src/lib.rt:30:1
 returns-2 : tie.Need-returns-2
 returns-2 c = told-taken (c .before .before .before .before .before .before .before .before .before .before .before .args .s) (c .before .before .before .before .before .before .before .before .before .before .before .args .o) _ _ _ _ _ (c .before .before .before .before .before .before .refusal-number .ensures) (c .before .before .before .put-outcome .ensures) (omega (arith, c .if1 .left))
 

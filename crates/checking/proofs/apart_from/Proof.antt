@@ -9,10 +9,6 @@ use Rattle.checking.proofs.TextLaws.{end-fits, apart-other, apart-same,
 use borrow.Author.Needs.{needs}
 use Rattle.checking.proofs.apart_from.Statement.{statement}
 use Rattle.checking.proofs.apart_from.Tie as tie
-use Rattle.checking.proofs.apart_from.Reads as reads
-use Rattle.checking.proofs.apart_from.Lts as lts
-use Rattle.lines.proofs.line_end.Reads as line-end-reads
-use Rattle.unc.proofs.same_name.Reads as same-name-reads
 
 abbrev Inv-loop : tie.InvT-loop
 Inv-loop text from line at₀ at = apartFrom line (linesOf (drop from text)) ≡ apartFrom line (linesOf (drop at text))

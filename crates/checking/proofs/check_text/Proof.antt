@@ -3,11 +3,6 @@ use Rattle.checking.proofs.ListingLaws.{check-unended, check-bad, check
 use borrow.Author.Needs.{needs}
 use Rattle.checking.proofs.check_text.Statement.{statement}
 use Rattle.checking.proofs.check_text.Tie as tie
-use Rattle.checking.proofs.check_text.Reads as reads
-use Rattle.checking.proofs.check_text.Lts as lts
-use Rattle.checking.proofs.count_entries.Reads as count-entries-reads
-use Rattle.checking.proofs.is_ended.Reads as is-ended-reads
-use Rattle.checking.proofs.prefixes_apart.Reads as prefixes-apart-reads
 
 is-ended-requires : tie.Need-is-ended-requires
 is-ended-requires c κs = search needs

@@ -10,11 +10,6 @@ use Rattle.checking.proofs.TextLaws.{end-fits, rested, rested-start, co
 use borrow.Author.Needs.{needs}
 use Rattle.checking.proofs.count_entries.Statement.{statement}
 use Rattle.checking.proofs.count_entries.Tie as tie
-use Rattle.checking.proofs.count_entries.Reads as reads
-use Rattle.checking.proofs.count_entries.Lts as lts
-use Rattle.checking.proofs.line_step.Reads as line-step-reads
-use Rattle.checking.proofs.opens_at.Reads as opens-at-reads
-use Rattle.lines.proofs.line_end.Reads as line-end-reads
 
 abbrev Inv-loop : tie.InvT-loop
 Inv-loop text count₀ j₀ least₀ at₀ count j least at = (j ≤ at) × ((count ≤ at) × (counted (linesOf text) ≡ rested j least count (groups (linesOf (drop at text)))))

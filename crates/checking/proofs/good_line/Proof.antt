@@ -2,12 +2,6 @@ use Rattle.checking.proofs.StepLaws.{good-prefix, good-kind, good-inter
 use borrow.Author.Needs.{needs}
 use Rattle.checking.proofs.good_line.Statement.{statement}
 use Rattle.checking.proofs.good_line.Tie as tie
-use Rattle.checking.proofs.good_line.Reads as reads
-use Rattle.checking.proofs.good_line.Lts as lts
-use Rattle.checking.proofs.kind_line.Reads as kind-line-reads
-use Rattle.checking.proofs.later_line.Reads as later-line-reads
-use Rattle.checking.proofs.number_within.Reads as number-within-reads
-use Rattle.lines.proofs.path_line.Reads as path-line-reads
 
 slice-aggregate-path-line : tie.Need-slice-aggregate-path-line
 slice-aggregate-path-line c = search needs

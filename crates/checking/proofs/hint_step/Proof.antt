@@ -2,9 +2,6 @@ use Rattle.checking.proofs.StepLaws.{hint-none, hint-some}
 use borrow.Author.Needs.{needs}
 use Rattle.checking.proofs.hint_step.Statement.{statement}
 use Rattle.checking.proofs.hint_step.Tie as tie
-use Rattle.checking.proofs.hint_step.Reads as reads
-use Rattle.checking.proofs.hint_step.Lts as lts
-use Rattle.lines.proofs.number_line.Reads as number-line-reads
 
 slice-aggregate-number-line : tie.Need-slice-aggregate-number-line
 slice-aggregate-number-line c = search needs

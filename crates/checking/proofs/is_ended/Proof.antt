@@ -2,8 +2,6 @@ use Rattle.checking.proofs.TextLaws.{ended-none, ended-some}
 use borrow.Author.Needs.{needs}
 use Rattle.checking.proofs.is_ended.Statement.{statement}
 use Rattle.checking.proofs.is_ended.Tie as tie
-use Rattle.checking.proofs.is_ended.Reads as reads
-use Rattle.checking.proofs.is_ended.Lts as lts
 
 returns : tie.Need-returns
 returns c = ended-none _ (c .if1 .taken)

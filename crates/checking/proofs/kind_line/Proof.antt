@@ -2,9 +2,6 @@ use Rattle.checking.proofs.StepLaws.{kind-root, kind-link}
 use borrow.Author.Needs.{needs}
 use Rattle.checking.proofs.kind_line.Statement.{statement}
 use Rattle.checking.proofs.kind_line.Tie as tie
-use Rattle.checking.proofs.kind_line.Reads as reads
-use Rattle.checking.proofs.kind_line.Lts as lts
-use Rattle.lines.proofs.same_units.Reads as same-units-reads
 
 slice-aggregate-same-units : tie.Need-slice-aggregate-same-units
 slice-aggregate-same-units c = search needs

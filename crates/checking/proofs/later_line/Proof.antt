@@ -2,10 +2,6 @@ use Rattle.checking.proofs.StepLaws.{later-ttl, later-taken, later-past
 use borrow.Author.Needs.{needs}
 use Rattle.checking.proofs.later_line.Statement.{statement}
 use Rattle.checking.proofs.later_line.Tie as tie
-use Rattle.checking.proofs.later_line.Reads as reads
-use Rattle.checking.proofs.later_line.Lts as lts
-use Rattle.checking.proofs.number_within.Reads as number-within-reads
-use Rattle.lines.proofs.path_line.Reads as path-line-reads
 
 slice-aggregate-number-within : tie.Need-slice-aggregate-number-within
 slice-aggregate-number-within c = search needs

@@ -3,10 +3,6 @@ use Rattle.checking.proofs.StepLaws.{step-hint, step-wrong, step-right}
 use borrow.Author.Needs.{needs}
 use Rattle.checking.proofs.line_step.Statement.{statement}
 use Rattle.checking.proofs.line_step.Tie as tie
-use Rattle.checking.proofs.line_step.Reads as reads
-use Rattle.checking.proofs.line_step.Lts as lts
-use Rattle.checking.proofs.good_line.Reads as good-line-reads
-use Rattle.checking.proofs.hint_step.Reads as hint-step-reads
 
 hint-step-requires : tie.Need-hint-step-requires
 hint-step-requires c κs = search needs

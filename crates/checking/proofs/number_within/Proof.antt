@@ -2,9 +2,6 @@ use Rattle.checking.proofs.StepLaws.{within-none, within-some}
 use borrow.Author.Needs.{needs}
 use Rattle.checking.proofs.number_within.Statement.{statement}
 use Rattle.checking.proofs.number_within.Tie as tie
-use Rattle.checking.proofs.number_within.Reads as reads
-use Rattle.checking.proofs.number_within.Lts as lts
-use Rattle.lines.proofs.number_line.Reads as number-line-reads
 
 number-line-requires : tie.Need-number-line-requires
 number-line-requires c κs = search needs

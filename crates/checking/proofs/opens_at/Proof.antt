@@ -2,8 +2,6 @@ use Rattle.checking.proofs.TextLaws.{opens-end, opens-there}
 use borrow.Author.Needs.{needs}
 use Rattle.checking.proofs.opens_at.Statement.{statement}
 use Rattle.checking.proofs.opens_at.Tie as tie
-use Rattle.checking.proofs.opens_at.Reads as reads
-use Rattle.checking.proofs.opens_at.Lts as lts
 
 returns : tie.Need-returns
 returns c = opens-end _ _ (c .if1 .taken)

@@ -11,10 +11,6 @@ use Rattle.checking.proofs.TextLaws.{end-fits, distinct-other, distinct
 use borrow.Author.Needs.{needs}
 use Rattle.checking.proofs.prefixes_apart.Statement.{statement}
 use Rattle.checking.proofs.prefixes_apart.Tie as tie
-use Rattle.checking.proofs.prefixes_apart.Reads as reads
-use Rattle.checking.proofs.prefixes_apart.Lts as lts
-use Rattle.checking.proofs.apart_from.Reads as apart-from-reads
-use Rattle.lines.proofs.line_end.Reads as line-end-reads
 
 abbrev Inv-loop : tie.InvT-loop
 Inv-loop text at₀ at = distinct (prefixLines (linesOf text)) ≡ distinct (prefixLines (linesOf (drop at text)))

@@ -7,7 +7,6 @@ use Rattle.entries.proofs.WritingLaws.{text-added}
 use borrow.Author.Needs.{needs}
 use Rattle.entries.proofs.add_text.Statement.{statement}
 use Rattle.entries.proofs.add_text.Tie as tie
-use Rattle.places.proofs.put_unit.Reads as put-unit-reads
 
 mul-at : tie.Need-mul-at
 mul-at c = search needs

@@ -10,9 +10,6 @@ use denote.Ref.{now}
 use borrow.Author.Needs.{needs}
 use Rattle.hexes.proofs.all_hex.Statement.{statement}
 use Rattle.hexes.proofs.all_hex.Tie as tie
-use Rattle.hexes.proofs.all_hex.Reads as reads
-use Rattle.hexes.proofs.all_hex.Lts as lts
-use Rattle.hexes.proofs.is_hex.Reads as is-hex-reads
 
 abbrev Inv-loop : tie.InvT-loop
 Inv-loop s i₀ i = (i ≤ length s) × (every isHex s ≡ every isHex (drop i s))

@@ -6,9 +6,6 @@ use denote.Ref.{now}
 use borrow.Author.Needs.{needs}
 use Rattle.hexes.proofs.byte_at.Statement.{statement}
 use Rattle.hexes.proofs.byte_at.Tie as tie
-use Rattle.hexes.proofs.byte_at.Reads as reads
-use Rattle.hexes.proofs.byte_at.Lts as lts
-use Rattle.hexes.proofs.value.Reads as value-reads
 
 mul-value : tie.Need-mul-value
 mul-value c = search needs

@@ -9,11 +9,6 @@ use denote.Ref.{now}
 use borrow.Author.Needs.{needs}
 use Rattle.hexes.proofs.hold.Statement.{statement}
 use Rattle.hexes.proofs.hold.Tie as tie
-use Rattle.hexes.proofs.hold.Reads as reads
-use Rattle.hexes.proofs.hold.Lts as lts
-use Rattle.hexes.proofs.least.Reads as least-reads
-use Rattle.hexes.proofs.rest_with.Reads as rest-with-reads
-use Rattle.rooms.proofs.copy_units.Reads as copy-units-reads
 
 rest-with-requires : tie.Need-rest-with-requires
 rest-with-requires c κs = search needs

@@ -3,9 +3,6 @@ use native.Mathlib.Omega.{arith}
 use borrow.Author.Needs.{needs}
 use Rattle.hexes.proofs.is_hex.Statement.{statement}
 use Rattle.hexes.proofs.is_hex.Tie as tie
-use Rattle.hexes.proofs.is_hex.Reads as reads
-use Rattle.hexes.proofs.is_hex.Lts as lts
-use Rattle.hexes.proofs.upper.Reads as upper-reads
 
 upper-requires : tie.Need-upper-requires
 upper-requires c κs = search needs

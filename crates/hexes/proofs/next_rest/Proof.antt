@@ -5,9 +5,6 @@ use mathlib.Core.Path.{refl, sym, ap}
 use borrow.Author.Needs.{needs}
 use Rattle.hexes.proofs.next_rest.Statement.{statement}
 use Rattle.hexes.proofs.next_rest.Tie as tie
-use Rattle.hexes.proofs.next_rest.Reads as reads
-use Rattle.hexes.proofs.next_rest.Lts as lts
-use Rattle.hexes.proofs.is_hex.Reads as is-hex-reads
 
 is-hex-requires : tie.Need-is-hex-requires
 is-hex-requires c κs = search needs

@@ -4,9 +4,6 @@ use denote.Ref.{now}
 use borrow.Author.Needs.{needs}
 use Rattle.hexes.proofs.number.Statement.{statement}
 use Rattle.hexes.proofs.number.Tie as tie
-use Rattle.hexes.proofs.number.Reads as reads
-use Rattle.hexes.proofs.number.Lts as lts
-use Rattle.hexes.proofs.byte_at.Reads as byte-at-reads
 
 byte-at-requires : tie.Need-byte-at-requires
 byte-at-requires c κs = search needs

@@ -10,10 +10,6 @@ use denote.Ref.{now}
 use borrow.Author.Needs.{needs}
 use Rattle.hexes.proofs.put_bytes.Statement.{statement}
 use Rattle.hexes.proofs.put_bytes.Tie as tie
-use Rattle.hexes.proofs.put_bytes.Reads as reads
-use Rattle.hexes.proofs.put_bytes.Lts as lts
-use Rattle.hexes.proofs.byte_at.Reads as byte-at-reads
-use Rattle.hexes.proofs.least.Reads as least-reads
 
 abbrev Inv-loop : tie.InvT-loop
 Inv-loop s out₀ n i₀ out i = (i ≤ n) × ((length out ≡ length out₀) × (out ≡ pasted out₀ 0 (take i (bytesOf s))))

@@ -8,9 +8,6 @@ use denote.Ref.{now}
 use borrow.Author.Needs.{needs}
 use Rattle.hexes.proofs.rest_with.Statement.{statement}
 use Rattle.hexes.proofs.rest_with.Tie as tie
-use Rattle.hexes.proofs.rest_with.Reads as reads
-use Rattle.hexes.proofs.rest_with.Lts as lts
-use Rattle.hexes.proofs.next_rest.Reads as next-rest-reads
 
 abbrev Inv-loop : tie.InvT-loop
 Inv-loop s r₀ i₀ r i = (i ≤ length s) × (restFrom r₀ s ≡ restFrom r (drop i s))

@@ -3,8 +3,6 @@ use native.Mathlib.Omega.{arith}
 use borrow.Author.Needs.{needs}
 use Rattle.hexes.proofs.upper.Statement.{statement}
 use Rattle.hexes.proofs.upper.Tie as tie
-use Rattle.hexes.proofs.upper.Reads as reads
-use Rattle.hexes.proofs.upper.Lts as lts
 
 returns : tie.Need-returns
 returns c = upper-low _ (c .if1 .taken)

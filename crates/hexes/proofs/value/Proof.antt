@@ -3,9 +3,6 @@ use native.Mathlib.Omega.{arith}
 use borrow.Author.Needs.{needs}
 use Rattle.hexes.proofs.value.Statement.{statement}
 use Rattle.hexes.proofs.value.Tie as tie
-use Rattle.hexes.proofs.value.Reads as reads
-use Rattle.hexes.proofs.value.Lts as lts
-use Rattle.hexes.proofs.upper.Reads as upper-reads
 
 upper-requires : tie.Need-upper-requires
 upper-requires c κs = search needs

@@ -10,9 +10,6 @@ use denote.Ref.{now}
 use borrow.Author.Needs.{needs}
 use Rattle.hexes.proofs.widen.Statement.{statement}
 use Rattle.hexes.proofs.widen.Tie as tie
-use Rattle.hexes.proofs.widen.Reads as reads
-use Rattle.hexes.proofs.widen.Lts as lts
-use Rattle.hexes.proofs.least.Reads as least-reads
 
 abbrev Inv-loop : tie.InvT-loop
 Inv-loop src out₀ n i₀ out i = (i ≤ n) × ((length out ≡ length out₀) × (out ≡ pasted out₀ 0 (take i src)))

@@ -8,9 +8,6 @@ use Rattle.caches.specs.Order.{goodPrefix}
 use borrow.Author.Needs.{needs}
 use Rattle.lines.proofs.good_text.Statement.{statement}
 use Rattle.lines.proofs.good_text.Tie as tie
-use Rattle.lines.proofs.good_text.Reads as reads
-use Rattle.lines.proofs.good_text.Lts as lts
-use Rattle.forms.proofs.normalised_count.Reads as normalised-count-reads
 
 slice-aggregate-normalised-count : tie.Need-slice-aggregate-normalised-count
 slice-aggregate-normalised-count c = sym (length-take-le (c .before .before .args .n) (now (c .before .before .args .room)) (omega arith))

@@ -7,10 +7,6 @@ use Rattle.lines.proofs.LineLaws.{value-long, value-there}
 use borrow.Author.Needs.{needs}
 use Rattle.lines.proofs.good_value.Statement.{statement}
 use Rattle.lines.proofs.good_value.Tie as tie
-use Rattle.lines.proofs.good_value.Reads as reads
-use Rattle.lines.proofs.good_value.Lts as lts
-use Rattle.lines.proofs.good_text.Reads as good-text-reads
-use Rattle.unspelling.proofs.unspell.Reads as unspell-reads
 
 returns : tie.Need-returns
 returns c = value-long (now (c .before .before .args .s)) (c .before .before .args .n) (c .before .before .pre .1) (c .if1 .taken)

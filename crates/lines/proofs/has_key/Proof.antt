@@ -8,9 +8,6 @@ use Rattle.lines.proofs.LineLaws.{key-short}
 use borrow.Author.Needs.{needs}
 use Rattle.lines.proofs.has_key.Statement.{statement}
 use Rattle.lines.proofs.has_key.Tie as tie
-use Rattle.lines.proofs.has_key.Reads as reads
-use Rattle.lines.proofs.has_key.Lts as lts
-use Rattle.lines.proofs.same_units.Reads as same-units-reads
 
 returns : tie.Need-returns
 returns c = key-short _ _ (c .if1 .taken)

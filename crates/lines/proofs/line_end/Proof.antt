@@ -8,8 +8,6 @@ use Rattle.lines.proofs.LineLaws.{end-here, end-later, end-none}
 use borrow.Author.Needs.{needs}
 use Rattle.lines.proofs.line_end.Statement.{statement}
 use Rattle.lines.proofs.line_end.Tie as tie
-use Rattle.lines.proofs.line_end.Reads as reads
-use Rattle.lines.proofs.line_end.Lts as lts
 
 abbrev Inv-loop : tie.InvT-loop
 Inv-loop text at i₀ i = (at ≤ i) × (at + lineLength (drop at text) ≡ i + lineLength (drop i text))

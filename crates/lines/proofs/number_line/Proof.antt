@@ -9,10 +9,6 @@ use Rattle.lines.proofs.LineLaws.{number-other, number-read, key-fits, 
 use borrow.Author.Needs.{needs}
 use Rattle.lines.proofs.number_line.Statement.{statement}
 use Rattle.lines.proofs.number_line.Tie as tie
-use Rattle.lines.proofs.number_line.Reads as reads
-use Rattle.lines.proofs.number_line.Lts as lts
-use Rattle.lines.proofs.has_key.Reads as has-key-reads
-use Rattle.unspelling.proofs.decimal_form.Reads as decimal-form-reads
 
 has-key-requires : tie.Need-has-key-requires
 has-key-requires c κs = search needs

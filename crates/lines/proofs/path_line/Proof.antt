@@ -12,11 +12,6 @@ use Rattle.lines.proofs.LineLaws.{path-other, path-bad, path-said, key-
 use borrow.Author.Needs.{needs}
 use Rattle.lines.proofs.path_line.Statement.{statement}
 use Rattle.lines.proofs.path_line.Tie as tie
-use Rattle.lines.proofs.path_line.Reads as reads
-use Rattle.lines.proofs.path_line.Lts as lts
-use Rattle.lines.proofs.good_value.Reads as good-value-reads
-use Rattle.lines.proofs.has_key.Reads as has-key-reads
-use Rattle.unspelling.proofs.spelled_form.Reads as spelled-form-reads
 
 has-key-requires : tie.Need-has-key-requires
 has-key-requires c κs = search needs

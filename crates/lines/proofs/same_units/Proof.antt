@@ -8,8 +8,6 @@ use Rattle.lines.proofs.LineLaws.{same-long, same-next, same-stop, same
 use borrow.Author.Needs.{needs}
 use Rattle.lines.proofs.same_units.Statement.{statement}
 use Rattle.lines.proofs.same_units.Tie as tie
-use Rattle.lines.proofs.same_units.Reads as reads
-use Rattle.lines.proofs.same_units.Lts as lts
 
 abbrev Inv-loop : tie.InvT-loop
 Inv-loop a b i₀ i = (i ≤ length a) × (sameList a b ≡ sameList (drop i a) (drop i b))

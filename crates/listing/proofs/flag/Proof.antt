@@ -5,9 +5,6 @@ use Rattle.places.specs.Layout.{flagAt}
 use borrow.Author.Needs.{needs}
 use Rattle.listing.proofs.flag.Statement.{statement}
 use Rattle.listing.proofs.flag.Tie as tie
-use Rattle.listing.proofs.flag.Reads as reads
-use Rattle.listing.proofs.flag.Lts as lts
-use Rattle.places.proofs.unit.Reads as unit-reads
 
 unit-requires : tie.Need-unit-requires
 unit-requires c κs = search needs

@@ -8,13 +8,6 @@ use Rattle.listing.proofs.EntryLaws.{head-sum, head-small}
 use borrow.Author.Needs.{needs}
 use Rattle.listing.proofs.head_units.Statement.{statement}
 use Rattle.listing.proofs.head_units.Tie as tie
-use Rattle.listing.proofs.head_units.Reads as reads
-use Rattle.listing.proofs.head_units.Lts as lts
-use Rattle.listing.proofs.number_units.Reads as number-units-reads
-use Rattle.listing.proofs.path_units.Reads as path-units-reads
-use Rattle.places.proofs.text.Reads as text-reads
-use Rattle.places.proofs.unit.Reads as unit-reads
-use Rattle.places.proofs.wide.Reads as wide-reads
 
 text-requires : tie.Need-text-requires
 text-requires c κs = search needs

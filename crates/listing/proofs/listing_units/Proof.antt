@@ -11,11 +11,6 @@ use Rattle.listing.proofs.UsedLaws.{seen-free, seen-used}
 use borrow.Author.Needs.{needs}
 use Rattle.listing.proofs.listing_units.Statement.{statement}
 use Rattle.listing.proofs.listing_units.Tie as tie
-use Rattle.listing.proofs.listing_units.Reads as reads
-use Rattle.listing.proofs.listing_units.Lts as lts
-use Rattle.listing.proofs.head_units.Reads as head-units-reads
-use Rattle.listing.proofs.targets_units.Reads as targets-units-reads
-use Rattle.places.proofs.unit.Reads as unit-reads
 
 abbrev Inv-loop : tie.InvT-loop
 Inv-loop cache count n₀ i₀ n i = (i ≤ count) × ((n ≤ 11704 * i) × (length (textOf cache) ≡ n + length (placesLeft i cache)))

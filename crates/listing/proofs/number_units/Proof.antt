@@ -3,9 +3,6 @@ use Rattle.spelling.proofs.DecimalLaws.{length-decimal}
 use borrow.Author.Needs.{needs}
 use Rattle.listing.proofs.number_units.Statement.{statement}
 use Rattle.listing.proofs.number_units.Tie as tie
-use Rattle.listing.proofs.number_units.Reads as reads
-use Rattle.listing.proofs.number_units.Lts as lts
-use Rattle.spelling.proofs.decimal_units.Reads as decimal-units-reads
 
 decimal-units-requires : tie.Need-decimal-units-requires
 decimal-units-requires c κs = search needs

@@ -4,9 +4,6 @@ use Rattle.spelling.proofs.SpellingLaws.{length-spelled}
 use borrow.Author.Needs.{needs}
 use Rattle.listing.proofs.path_units.Statement.{statement}
 use Rattle.listing.proofs.path_units.Tie as tie
-use Rattle.listing.proofs.path_units.Reads as reads
-use Rattle.listing.proofs.path_units.Lts as lts
-use Rattle.spelling.proofs.spelled_units.Reads as spelled-units-reads
 
 spelled-units-requires : tie.Need-spelled-units-requires
 spelled-units-requires c κs = search needs

@@ -4,11 +4,6 @@ use Rattle.listing.proofs.EntryLaws.{ttl-fits, taken-fits, hint-fits, c
 use borrow.Author.Needs.{needs}
 use Rattle.listing.proofs.put_counts.Statement.{statement}
 use Rattle.listing.proofs.put_counts.Tie as tie
-use Rattle.listing.proofs.put_counts.Reads as reads
-use Rattle.listing.proofs.put_counts.Lts as lts
-use Rattle.listing.proofs.put_number.Reads as put-number-reads
-use Rattle.places.proofs.unit.Reads as unit-reads
-use Rattle.places.proofs.wide.Reads as wide-reads
 
 slice-aggregate-put-number : tie.Need-slice-aggregate-put-number
 slice-aggregate-put-number c = search needs

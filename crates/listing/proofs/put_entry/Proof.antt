@@ -4,11 +4,6 @@ use Rattle.listing.proofs.EntryLaws.{entry-settings-fit, entry-counts-f
 use borrow.Author.Needs.{needs}
 use Rattle.listing.proofs.put_entry.Statement.{statement}
 use Rattle.listing.proofs.put_entry.Tie as tie
-use Rattle.listing.proofs.put_entry.Reads as reads
-use Rattle.listing.proofs.put_entry.Lts as lts
-use Rattle.listing.proofs.put_counts.Reads as put-counts-reads
-use Rattle.listing.proofs.put_settings.Reads as put-settings-reads
-use Rattle.listing.proofs.put_targets.Reads as put-targets-reads
 
 put-settings-requires : tie.Need-put-settings-requires
 put-settings-requires c κs = (c .before .before .before .pre .0, entry-settings-fit (now (c .before .before .before .args .out)) (c .before .before .before .args .at) (placeAt (c .before .before .before .args .i) (now (c .before .before .before .args .cache))) (c .before .before .before .pre .1))

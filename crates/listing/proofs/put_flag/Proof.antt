@@ -11,9 +11,6 @@ use Rattle.listing.proofs.FormLaws.{number-set, number-clear}
 use borrow.Author.Needs.{needs}
 use Rattle.listing.proofs.put_flag.Statement.{statement}
 use Rattle.listing.proofs.put_flag.Tie as tie
-use Rattle.listing.proofs.put_flag.Reads as reads
-use Rattle.listing.proofs.put_flag.Lts as lts
-use Rattle.listing.proofs.put_number.Reads as put-number-reads
 
 put-number-requires : tie.Need-put-number-requires
 put-number-requires c κs =

@@ -10,9 +10,6 @@ use Rattle.listing.proofs.EntryLaws.{put-same}
 use borrow.Author.Needs.{needs}
 use Rattle.listing.proofs.put_kind.Statement.{statement}
 use Rattle.listing.proofs.put_kind.Tie as tie
-use Rattle.listing.proofs.put_kind.Reads as reads
-use Rattle.listing.proofs.put_kind.Lts as lts
-use Rattle.listing.proofs.put_line.Reads as put-line-reads
 
 slice-aggregate-put-line : tie.Need-slice-aggregate-put-line
 slice-aggregate-put-line c = search needs

@@ -5,10 +5,6 @@ use Rattle.listing.proofs.FormLaws.{length-ended, whole-line-put}
 use borrow.Author.Needs.{needs}
 use Rattle.listing.proofs.put_line.Statement.{statement}
 use Rattle.listing.proofs.put_line.Tie as tie
-use Rattle.listing.proofs.put_line.Reads as reads
-use Rattle.listing.proofs.put_line.Lts as lts
-use Rattle.rooms.proofs.copy_units.Reads as copy-units-reads
-use Rattle.rooms.proofs.put_unit.Reads as put-unit-reads
 
 copy-units-requires : tie.Need-copy-units-requires
 copy-units-requires c κs = omega (arith, length-ended (now (c .before .before .before .args .line)))

@@ -15,10 +15,6 @@ use Rattle.listing.proofs.UsedLaws.{seen-free, seen-used}
 use borrow.Author.Needs.{needs}
 use Rattle.listing.proofs.put_listing.Statement.{statement}
 use Rattle.listing.proofs.put_listing.Tie as tie
-use Rattle.listing.proofs.put_listing.Reads as reads
-use Rattle.listing.proofs.put_listing.Lts as lts
-use Rattle.listing.proofs.put_entry.Reads as put-entry-reads
-use Rattle.places.proofs.unit.Reads as unit-reads
 
 abbrev Inv-loop : tie.InvT-loop
 Inv-loop cache out₀ count end₀ i₀ out end i = (i ≤ count) × ((length out ≡ length out₀) × Left (pasted out₀ 0 (textOf cache)) (0 + length (textOf cache)) out end (placesLeft i cache))

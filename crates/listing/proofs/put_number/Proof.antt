@@ -4,11 +4,6 @@ use Rattle.listing.proofs.FormLaws.{number-key-fits, number-value-fits,
 use borrow.Author.Needs.{needs}
 use Rattle.listing.proofs.put_number.Statement.{statement}
 use Rattle.listing.proofs.put_number.Tie as tie
-use Rattle.listing.proofs.put_number.Reads as reads
-use Rattle.listing.proofs.put_number.Lts as lts
-use Rattle.rooms.proofs.copy_units.Reads as copy-units-reads
-use Rattle.rooms.proofs.put_unit.Reads as put-unit-reads
-use Rattle.spelling.proofs.put_decimal.Reads as put-decimal-reads
 
 copy-units-requires : tie.Need-copy-units-requires
 copy-units-requires c κs = number-key-fits (now (c .before .before .before .args .out)) (c .before .before .before .args .at) (now (c .before .before .before .args .key)) (c .before .before .before .args .n) (c .before .before .before .pre)

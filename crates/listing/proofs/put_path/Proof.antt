@@ -4,11 +4,6 @@ use Rattle.listing.proofs.FormLaws.{path-key-fits, path-value-fits, pat
 use borrow.Author.Needs.{needs}
 use Rattle.listing.proofs.put_path.Statement.{statement}
 use Rattle.listing.proofs.put_path.Tie as tie
-use Rattle.listing.proofs.put_path.Reads as reads
-use Rattle.listing.proofs.put_path.Lts as lts
-use Rattle.rooms.proofs.copy_units.Reads as copy-units-reads
-use Rattle.rooms.proofs.put_unit.Reads as put-unit-reads
-use Rattle.spelling.proofs.put_spelled.Reads as put-spelled-reads
 
 copy-units-requires : tie.Need-copy-units-requires
 copy-units-requires c κs = path-key-fits (now (c .before .before .before .before .args .out)) (c .before .before .before .before .args .at) (now (c .before .before .before .before .args .key)) (now (c .before .before .before .before .args .s)) (c .before .before .before .before .pre)

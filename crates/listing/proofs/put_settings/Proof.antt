@@ -4,13 +4,6 @@ use Rattle.listing.proofs.EntryLaws.{prefix-fits, kind-fits, interlink-
 use borrow.Author.Needs.{needs}
 use Rattle.listing.proofs.put_settings.Statement.{statement}
 use Rattle.listing.proofs.put_settings.Tie as tie
-use Rattle.listing.proofs.put_settings.Reads as reads
-use Rattle.listing.proofs.put_settings.Lts as lts
-use Rattle.listing.proofs.flag.Reads as flag-reads
-use Rattle.listing.proofs.put_flag.Reads as put-flag-reads
-use Rattle.listing.proofs.put_kind.Reads as put-kind-reads
-use Rattle.listing.proofs.put_path.Reads as put-path-reads
-use Rattle.places.proofs.text.Reads as text-reads
 
 slice-aggregate-put-path : tie.Need-slice-aggregate-put-path
 slice-aggregate-put-path c = search needs

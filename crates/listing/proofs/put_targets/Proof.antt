@@ -14,11 +14,6 @@ use Rattle.listing.proofs.EntryLaws.{put-same}
 use borrow.Author.Needs.{needs}
 use Rattle.listing.proofs.put_targets.Statement.{statement}
 use Rattle.listing.proofs.put_targets.Tie as tie
-use Rattle.listing.proofs.put_targets.Reads as reads
-use Rattle.listing.proofs.put_targets.Lts as lts
-use Rattle.listing.proofs.put_path.Reads as put-path-reads
-use Rattle.places.proofs.list_count.Reads as list-count-reads
-use Rattle.places.proofs.text.Reads as text-reads
 
 abbrev Inv-loop : tie.InvT-loop
 Inv-loop cache i out₀ at target count end₀ j₀ out end j =

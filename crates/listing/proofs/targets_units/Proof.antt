@@ -10,11 +10,6 @@ use Rattle.listing.proofs.FormLaws.{length-text, targetsLeft, targets-s
 use borrow.Author.Needs.{needs}
 use Rattle.listing.proofs.targets_units.Statement.{statement}
 use Rattle.listing.proofs.targets_units.Tie as tie
-use Rattle.listing.proofs.targets_units.Reads as reads
-use Rattle.listing.proofs.targets_units.Lts as lts
-use Rattle.listing.proofs.path_units.Reads as path-units-reads
-use Rattle.places.proofs.list_count.Reads as list-count-reads
-use Rattle.places.proofs.text.Reads as text-reads
 
 abbrev Inv-loop : tie.InvT-loop
 Inv-loop cache i count n₀ j₀ n j = (j ≤ count) × ((n ≤ 1288 * j) × (length (targetsLeft 0 (placeAt i cache)) ≡ n + length (targetsLeft j (placeAt i cache))))

@@ -9,9 +9,6 @@ use native.Mathlib.Omega.{arith}
 use borrow.Author.Needs.{needs}
 use Rattle.outcomes.proofs.put_ask.Statement.{statement}
 use Rattle.outcomes.proofs.put_ask.Tie as tie
-use Rattle.outcomes.proofs.put_ask.Reads as reads
-use Rattle.outcomes.proofs.put_ask.Lts as lts
-use Rattle.printing.proofs.put_line.Reads as put-line-reads
 
 slice-aggregate-put-line : tie.Need-slice-aggregate-put-line
 slice-aggregate-put-line c = search needs

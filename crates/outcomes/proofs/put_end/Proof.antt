@@ -8,11 +8,6 @@ use native.Mathlib.Omega.{arith}
 use borrow.Author.Needs.{needs}
 use Rattle.outcomes.proofs.put_end.Statement.{statement}
 use Rattle.outcomes.proofs.put_end.Tie as tie
-use Rattle.outcomes.proofs.put_end.Reads as reads
-use Rattle.outcomes.proofs.put_end.Lts as lts
-use Rattle.printing.proofs.put_number_line.Reads as put-number-line-reads
-use Rattle.printing.proofs.put_status_line.Reads as put-status-line-reads
-use Rattle.printing.proofs.put_text_line.Reads as put-text-line-reads
 
 slice-aggregate-put-number-line : tie.Need-slice-aggregate-put-number-line
 slice-aggregate-put-number-line c = search needs

@@ -9,11 +9,6 @@ use native.Mathlib.Omega.{arith}
 use borrow.Author.Needs.{needs}
 use Rattle.outcomes.proofs.put_question.Statement.{statement}
 use Rattle.outcomes.proofs.put_question.Tie as tie
-use Rattle.outcomes.proofs.put_question.Reads as reads
-use Rattle.outcomes.proofs.put_question.Lts as lts
-use Rattle.outcomes.proofs.put_ask.Reads as put-ask-reads
-use Rattle.outcomes.proofs.put_size.Reads as put-size-reads
-use Rattle.printing.proofs.put_text_line.Reads as put-text-line-reads
 
 put-ask-requires : tie.Need-put-ask-requires
 put-ask-requires c κs = fits-1 (now (c .before .before .before .before .args .out)) _ _ (ended (askLine (kindAt (c .before .before .before .before .args .kind)))) (ended (pathLine toKey (now (c .before .before .before .before .args .party))) ++ (ended (pathLine nameKey (now (c .before .before .before .before .args .name))) ++ linesText (sizeLines (kindAt (c .before .before .before .before .args .kind)) (c .before .before .before .before .args .size)))) (c .before .before .before .before .pre) (question-parts (kindAt (c .before .before .before .before .args .kind)) (now (c .before .before .before .before .args .party)) (now (c .before .before .before .before .args .name)) (c .before .before .before .before .args .size))

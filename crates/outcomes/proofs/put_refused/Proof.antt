@@ -8,9 +8,6 @@ use native.Mathlib.Omega.{arith}
 use borrow.Author.Needs.{needs}
 use Rattle.outcomes.proofs.put_refused.Statement.{statement}
 use Rattle.outcomes.proofs.put_refused.Tie as tie
-use Rattle.outcomes.proofs.put_refused.Reads as reads
-use Rattle.outcomes.proofs.put_refused.Lts as lts
-use Rattle.printing.proofs.put_number_line.Reads as put-number-line-reads
 
 slice-aggregate-put-number-line : tie.Need-slice-aggregate-put-number-line
 slice-aggregate-put-number-line c = search needs

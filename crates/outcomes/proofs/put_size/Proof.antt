@@ -9,9 +9,6 @@ use native.Mathlib.Omega.{arith}
 use borrow.Author.Needs.{needs}
 use Rattle.outcomes.proofs.put_size.Statement.{statement}
 use Rattle.outcomes.proofs.put_size.Tie as tie
-use Rattle.outcomes.proofs.put_size.Reads as reads
-use Rattle.outcomes.proofs.put_size.Lts as lts
-use Rattle.printing.proofs.put_number_line.Reads as put-number-line-reads
 
 returns : tie.Need-returns
 returns c = nothing-put _ _ (no-size (c .before .before .args .kind) (c .before .before .args .size) (λ h. omega arith) (λ h. omega arith) (λ h. omega arith) (λ h. omega arith))

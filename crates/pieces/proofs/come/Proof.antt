@@ -4,66 +4,46 @@ use denote.Ref.{now}
 use borrow.Author.Needs.{needs}
 use Rattle.pieces.proofs.come.Statement.{statement}
 use Rattle.pieces.proofs.come.Tie as tie
-use Rattle.pieces.proofs.come.Reads as reads
-use Rattle.pieces.proofs.come.Lts as lts
-use Rattle.hexes.proofs.hold.Reads as hold-reads
-use Rattle.lines.proofs.line_end.Reads as line-end-reads
-use Rattle.pieces.proofs.going_on.Reads as going-on-reads
-use Rattle.pieces.proofs.last_came.Reads as last-came-reads
 
--- src/lib.rt:73:9
 going-on-requires : tie.Need-going-on-requires
 going-on-requires c κs = search needs
 
--- src/lib.rt:76:9
 last-came-requires : tie.Need-last-came-requires
 last-came-requires c κs = search needs
 
--- src/lib.rt:76:9
 returns : tie.Need-returns
 returns c = arrives-last (now (c .before .before .before .before .before .before .args .units)) (now (c .before .before .before .before .before .before .args .line)) (c .before .before .going-on .ensures) (c .before .before .before .before .before .before .args .last .at) (omega arith) (c .last-came .ensures)
 
--- src/lib.rt:78:9
 line-end-requires : tie.Need-line-end-requires
 line-end-requires c κs = search needs
 
--- src/lib.rt:79:28
 mul-hold : tie.Need-mul-hold
 mul-hold c = search needs
 
--- src/lib.rt:79:28
 sub-hold : tie.Need-sub-hold
 sub-hold c = search needs
 
--- src/lib.rt:79:28
 part-hold-start : tie.Need-part-hold-start
 part-hold-start c = search needs
 
--- src/lib.rt:79:28
 part-hold-end : tie.Need-part-hold-end
 part-hold-end c = omega (arith, (line-within (now (c .before .before .before .before .before .before .args .units)) (c .before .before .before .before .before .before .args .last .at) (omega arith) (c .line-end .ensures)) .0, (line-within (now (c .before .before .before .before .before .before .args .units)) (c .before .before .before .before .before .before .args .last .at) (omega arith) (c .line-end .ensures)) .1)
 
--- src/lib.rt:79:9
 hold-requires : tie.Need-hold-requires
 hold-requires c κs = search needs
 
--- src/lib.rt:81:9
 same-length : tie.Need-same-length
 same-length c = search needs
 
--- src/lib.rt:81:9
 returns-2 : tie.Need-returns-2
 returns-2 c = arrives-part (now (c .before .before .before .before .before .before .before .before .before .before .before .before .args .units)) (now (c .before .before .before .before .before .before .before .before .before .before .before .before .args .line)) (c .before .before .before .before .before .before .before .before .going-on .ensures) (c .before .before .before .before .before .before .before .before .before .before .before .before .args .last .at) (omega arith) (c .before .before .before .before .before .before .line-end .ensures) (c .before .before .before .hold .ensures .0) (c .before .before .before .hold .ensures .1) (c .if2 .taken)
 
--- src/lib.rt:90:13
 add-t13 : tie.Need-add-t13
 add-t13 c = omega (arith, (line-within (now (c .before .before .before .before .before .before .before .before .before .before .before .before .args .units)) (c .before .before .before .before .before .before .before .before .before .before .before .before .args .last .at) (omega arith) (c .before .before .before .before .before .before .line-end .ensures)) .1, c .if2 .left)
 
--- src/lib.rt:68:1
 same-length-2 : tie.Need-same-length-2
 same-length-2 c = search needs
 
--- src/lib.rt:68:1
 returns-3 : tie.Need-returns-3
 returns-3 c = arrives-line (now (c .before .before .before .before .before .before .before .before .before .before .before .before .args .units)) (now (c .before .before .before .before .before .before .before .before .before .before .before .before .args .line)) (c .before .before .before .before .before .before .before .before .going-on .ensures) (c .before .before .before .before .before .before .before .before .before .before .before .before .args .last .at) (omega arith) (c .before .before .before .before .before .before .line-end .ensures) (c .before .before .before .hold .ensures .0) (c .before .before .before .hold .ensures .1) (c .if2 .left)
 

@@ -1,14 +1,10 @@
 use Rattle.pieces.proofs.PieceLaws.{last-end, last-line}
 use Rattle.pieces.proofs.last_came.Statement.{statement}
 use Rattle.pieces.proofs.last_came.Tie as tie
-use Rattle.pieces.proofs.last_came.Reads as reads
-use Rattle.pieces.proofs.last_came.Lts as lts
 
--- src/lib.rt:52:9
 returns : tie.Need-returns
 returns c = last-end (c .before .before .args .held) _ (c .if1 .taken)
 
--- src/lib.rt:48:1
 returns-2 : tie.Need-returns-2
 returns-2 c = last-line (c .before .before .args .held) _ (c .if1 .left)
 

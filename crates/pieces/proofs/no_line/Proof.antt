@@ -2,10 +2,7 @@ use Rattle.pieces.specs.Pieces.{noLine}
 use mathlib.Core.Path.{refl}
 use Rattle.pieces.proofs.no_line.Statement.{statement}
 use Rattle.pieces.proofs.no_line.Tie as tie
-use Rattle.pieces.proofs.no_line.Reads as reads
-use Rattle.pieces.proofs.no_line.Lts as lts
 
--- src/lib.rt:16:1
 returns : tie.Need-returns
 unfolding noLine
 returns c = refl

@@ -6,15 +6,10 @@ use Rattle.script.specs.declared.Input.the-variants.{Line}
 use borrow.Author.Needs.{needs}
 use Rattle.pieces.proofs.nothing.Statement.{statement}
 use Rattle.pieces.proofs.nothing.Tie as tie
-use Rattle.pieces.proofs.nothing.Reads as reads
-use Rattle.pieces.proofs.nothing.Lts as lts
-use Rattle.pieces.proofs.no_line.Reads as no-line-reads
 
--- src/lib.rt:29:9
 no-line-requires : tie.Need-no-line-requires
 no-line-requires c κs = search needs
 
--- src/lib.rt:26:1
 returns : tie.Need-returns
 unfolding nothingCame
 returns c = ap (λ (x : Held). came x 0 Line false) (c .no-line .ensures)

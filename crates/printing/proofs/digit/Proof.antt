@@ -3,8 +3,6 @@ use Rattle.spelling.proofs.SpellingLaws.{digit-low, digit-high}
 use borrow.Author.Needs.{needs}
 use Rattle.printing.proofs.digit.Statement.{statement}
 use Rattle.printing.proofs.digit.Tie as tie
-use Rattle.printing.proofs.digit.Reads as reads
-use Rattle.printing.proofs.digit.Lts as lts
 
 cast-result : tie.Need-cast-result
 cast-result c = search needs

@@ -4,8 +4,6 @@ use Rattle.spelling.proofs.PutLaws.{put-piece}
 use borrow.Author.Needs.{needs}
 use Rattle.printing.proofs.put_byte.Statement.{statement}
 use Rattle.printing.proofs.put_byte.Tie as tie
-use Rattle.printing.proofs.put_byte.Reads as reads
-use Rattle.printing.proofs.put_byte.Lts as lts
 
 slice-write-out : tie.Need-slice-write-out
 slice-write-out c = search needs

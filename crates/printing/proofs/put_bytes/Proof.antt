@@ -8,8 +8,6 @@ use Rattle.laws.specs.Lists.{pasted}
 use borrow.Author.Needs.{needs}
 use Rattle.printing.proofs.put_bytes.Statement.{statement}
 use Rattle.printing.proofs.put_bytes.Tie as tie
-use Rattle.printing.proofs.put_bytes.Reads as reads
-use Rattle.printing.proofs.put_bytes.Lts as lts
 
 abbrev Inv-loop : tie.InvT-loop
 Inv-loop out₀ at src i₀ out i = (i ≤ length src) × ((length out ≡ length out₀) × (out ≡ pasted out₀ at (take i src)))

@@ -3,10 +3,6 @@ use native.Mathlib.Omega.{arith}
 use borrow.Author.Needs.{needs}
 use Rattle.printing.proofs.put_hex.Statement.{statement}
 use Rattle.printing.proofs.put_hex.Tie as tie
-use Rattle.printing.proofs.put_hex.Reads as reads
-use Rattle.printing.proofs.put_hex.Lts as lts
-use Rattle.printing.proofs.digit.Reads as digit-reads
-use Rattle.printing.proofs.put_bytes.Reads as put-bytes-reads
 
 digit-requires : tie.Need-digit-requires
 digit-requires c κs = search needs

@@ -6,10 +6,6 @@ use native.Mathlib.Omega.{arith}
 use borrow.Author.Needs.{needs}
 use Rattle.printing.proofs.put_line.Statement.{statement}
 use Rattle.printing.proofs.put_line.Tie as tie
-use Rattle.printing.proofs.put_line.Reads as reads
-use Rattle.printing.proofs.put_line.Lts as lts
-use Rattle.printing.proofs.put_byte.Reads as put-byte-reads
-use Rattle.printing.proofs.put_bytes.Reads as put-bytes-reads
 
 put-bytes-requires : tie.Need-put-bytes-requires
 put-bytes-requires c κs = fits-1 (now (c .before .before .before .args .out)) _ _ (now (c .before .before .before .args .line)) (10 ∷ []) (c .before .before .before .pre) (line-parts _)

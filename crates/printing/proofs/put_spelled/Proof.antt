@@ -10,9 +10,6 @@ use Rattle.spelling.proofs.SpellingLaws.{spelled-cons, spelled-end, units-more}
 use borrow.Author.Needs.{needs}
 use Rattle.printing.proofs.put_spelled.Statement.{statement}
 use Rattle.printing.proofs.put_spelled.Tie as tie
-use Rattle.printing.proofs.put_spelled.Reads as reads
-use Rattle.printing.proofs.put_spelled.Lts as lts
-use Rattle.printing.proofs.put_unit.Reads as put-unit-reads
 
 abbrev Inv-loop : tie.InvT-loop
 Inv-loop out₀ at s end₀ i₀ out end i = (i ≤ length s) × ((length out ≡ length out₀) × Left (pasted out₀ at (spelled s)) (at + length (spelled s)) out end (spelled (drop i s)))

@@ -9,11 +9,6 @@ use native.Mathlib.Omega.{arith}
 use borrow.Author.Needs.{needs}
 use Rattle.printing.proofs.put_status_line.Statement.{statement}
 use Rattle.printing.proofs.put_status_line.Tie as tie
-use Rattle.printing.proofs.put_status_line.Reads as reads
-use Rattle.printing.proofs.put_status_line.Lts as lts
-use Rattle.printing.proofs.put_byte.Reads as put-byte-reads
-use Rattle.printing.proofs.put_bytes.Reads as put-bytes-reads
-use Rattle.printing.proofs.put_hex.Reads as put-hex-reads
 
 slice-aggregate-put-bytes : tie.Need-slice-aggregate-put-bytes
 slice-aggregate-put-bytes c = search needs

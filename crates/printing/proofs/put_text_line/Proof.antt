@@ -7,11 +7,6 @@ use native.Mathlib.Omega.{arith}
 use borrow.Author.Needs.{needs}
 use Rattle.printing.proofs.put_text_line.Statement.{statement}
 use Rattle.printing.proofs.put_text_line.Tie as tie
-use Rattle.printing.proofs.put_text_line.Reads as reads
-use Rattle.printing.proofs.put_text_line.Lts as lts
-use Rattle.printing.proofs.put_byte.Reads as put-byte-reads
-use Rattle.printing.proofs.put_bytes.Reads as put-bytes-reads
-use Rattle.printing.proofs.put_spelled.Reads as put-spelled-reads
 
 put-bytes-requires : tie.Need-put-bytes-requires
 put-bytes-requires c κs = fits-1 (now (c .before .before .before .before .args .out)) _ _ (now (c .before .before .before .before .args .key)) (spelled (now (c .before .before .before .before .args .s)) ++ (10 ∷ [])) (c .before .before .before .before .pre) (path-parts _ _)

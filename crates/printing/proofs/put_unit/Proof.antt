@@ -9,11 +9,6 @@ use native.Mathlib.Omega.{arith}
 use borrow.Author.Needs.{needs}
 use Rattle.printing.proofs.put_unit.Statement.{statement}
 use Rattle.printing.proofs.put_unit.Tie as tie
-use Rattle.printing.proofs.put_unit.Reads as reads
-use Rattle.printing.proofs.put_unit.Lts as lts
-use Rattle.printing.proofs.put_byte.Reads as put-byte-reads
-use Rattle.printing.proofs.put_hex.Reads as put-hex-reads
-use Rattle.spelling.proofs.stands.Reads as stands-reads
 
 stands-requires : tie.Need-stands-requires
 stands-requires c κs = search needs

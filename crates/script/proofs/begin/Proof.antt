@@ -2,8 +2,6 @@ use Rattle.script.specs.Script.{begun}
 use mathlib.Core.Path.{refl, sym, ap, _∙_}
 use Rattle.script.proofs.begin.Statement.{statement}
 use Rattle.script.proofs.begin.Tie as tie
-use Rattle.script.proofs.begin.Reads as reads
-use Rattle.script.proofs.begin.Lts as lts
 
 returns : tie.Need-returns
 unfolding begun

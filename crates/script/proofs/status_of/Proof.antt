@@ -14,11 +14,6 @@ use denote.Ref.{now}
 use borrow.Author.Needs.{needs}
 use Rattle.script.proofs.status_of.Statement.{statement}
 use Rattle.script.proofs.status_of.Tie as tie
-use Rattle.script.proofs.status_of.Reads as reads
-use Rattle.script.proofs.status_of.Lts as lts
-use Rattle.hexes.proofs.all_hex.Reads as all-hex-reads
-use Rattle.hexes.proofs.number.Reads as number-reads
-use Rattle.lines.proofs.has_key.Reads as has-key-reads
 
 slice-aggregate-has-key : tie.Need-slice-aggregate-has-key
 slice-aggregate-has-key c = search needs

@@ -6,10 +6,6 @@ use denote.Ref.{now}
 use borrow.Author.Needs.{needs}
 use Rattle.script.proofs.take_limit.Statement.{statement}
 use Rattle.script.proofs.take_limit.Tie as tie
-use Rattle.script.proofs.take_limit.Reads as reads
-use Rattle.script.proofs.take_limit.Lts as lts
-use Rattle.lines.proofs.number_line.Reads as number-line-reads
-use Rattle.script.proofs.with_last.Reads as with-last-reads
 
 slice-aggregate-number-line : tie.Need-slice-aggregate-number-line
 slice-aggregate-number-line c = search needs

@@ -6,10 +6,6 @@ use denote.Ref.{now}
 use borrow.Author.Needs.{needs}
 use Rattle.script.proofs.take_path.Statement.{statement}
 use Rattle.script.proofs.take_path.Tie as tie
-use Rattle.script.proofs.take_path.Reads as reads
-use Rattle.script.proofs.take_path.Lts as lts
-use Rattle.script.proofs.text_line.Reads as text-line-reads
-use Rattle.script.proofs.with_last.Reads as with-last-reads
 
 slice-aggregate-text-line : tie.Need-slice-aggregate-text-line
 slice-aggregate-text-line c = search needs

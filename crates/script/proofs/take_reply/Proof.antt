@@ -13,12 +13,6 @@ use denote.Ref.{now}
 use borrow.Author.Needs.{needs}
 use Rattle.script.proofs.take_reply.Statement.{statement}
 use Rattle.script.proofs.take_reply.Tie as tie
-use Rattle.script.proofs.take_reply.Reads as reads
-use Rattle.script.proofs.take_reply.Lts as lts
-use Rattle.hexes.proofs.all_hex.Reads as all-hex-reads
-use Rattle.hexes.proofs.put_bytes.Reads as put-bytes-reads
-use Rattle.script.proofs.whole_bytes.Reads as whole-bytes-reads
-use Rattle.script.proofs.with_last.Reads as with-last-reads
 
 sub-digits : tie.Need-sub-digits
 sub-digits c = omega (arith, (key-fits replyKey (now (c .before .before .args .line)) refl (c .before .before .pre)))

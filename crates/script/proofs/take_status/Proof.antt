@@ -6,10 +6,6 @@ use denote.Ref.{now}
 use borrow.Author.Needs.{needs}
 use Rattle.script.proofs.take_status.Statement.{statement}
 use Rattle.script.proofs.take_status.Tie as tie
-use Rattle.script.proofs.take_status.Reads as reads
-use Rattle.script.proofs.take_status.Lts as lts
-use Rattle.script.proofs.status_of.Reads as status-of-reads
-use Rattle.script.proofs.with_last.Reads as with-last-reads
 
 status-of-requires : tie.Need-status-of-requires
 status-of-requires c κs = search needs

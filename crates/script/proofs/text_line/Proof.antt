@@ -12,11 +12,6 @@ use denote.Ref.{now}
 use borrow.Author.Needs.{needs}
 use Rattle.script.proofs.text_line.Statement.{statement}
 use Rattle.script.proofs.text_line.Tie as tie
-use Rattle.script.proofs.text_line.Reads as reads
-use Rattle.script.proofs.text_line.Lts as lts
-use Rattle.lines.proofs.has_key.Reads as has-key-reads
-use Rattle.unspelling.proofs.spelled_form.Reads as spelled-form-reads
-use Rattle.unspelling.proofs.unspell.Reads as unspell-reads
 
 has-key-requires : tie.Need-has-key-requires
 has-key-requires c κs = search needs

@@ -4,8 +4,6 @@ use mathlib.Core.Path.{refl, sym, ap, _∙_}
 use borrow.Author.Needs.{needs}
 use Rattle.script.proofs.whole_bytes.Statement.{statement}
 use Rattle.script.proofs.whole_bytes.Tie as tie
-use Rattle.script.proofs.whole_bytes.Reads as reads
-use Rattle.script.proofs.whole_bytes.Lts as lts
 
 enum-told : tie.Need-enum-told
 enum-told c = search needs

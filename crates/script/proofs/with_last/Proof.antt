@@ -2,8 +2,6 @@ use Rattle.script.specs.Script.{after}
 use mathlib.Core.Path.{refl, sym, ap, _∙_}
 use Rattle.script.proofs.with_last.Statement.{statement}
 use Rattle.script.proofs.with_last.Tie as tie
-use Rattle.script.proofs.with_last.Reads as reads
-use Rattle.script.proofs.with_last.Lts as lts
 
 returns : tie.Need-returns
 unfolding after

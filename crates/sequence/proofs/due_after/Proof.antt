@@ -5,37 +5,27 @@ use Rattle.script.specs.Script.{dueAfter}
 use borrow.Author.Needs.{needs}
 use Rattle.sequence.proofs.due_after.Statement.{statement}
 use Rattle.sequence.proofs.due_after.Tie as tie
-use Rattle.sequence.proofs.due_after.Reads as reads
-use Rattle.sequence.proofs.due_after.Lts as lts
-use Rattle.sequence.proofs.read_due.Reads as read-due-reads
 
--- src/lib.rt:199:24
 enum-told : tie.Need-enum-told
 enum-told c = search needs
 
--- src/lib.rt:200:24
 enum-told-2 : tie.Need-enum-told-2
 enum-told-2 c = search needs
 
--- src/lib.rt:200:24
 read-due-requires : tie.Need-read-due-requires
 read-due-requires c κs = search needs
 
--- src/lib.rt:201:23
 enum-told-3 : tie.Need-enum-told-3
 enum-told-3 c = search needs
 
--- src/lib.rt:194:1
 returns : tie.Need-returns
 unfolding dueAfter
 returns c = ap (λ (x : Input). dueAfter x (c .before .before .args .s)) (sym (c .enum-told .given .1))
 
--- src/lib.rt:194:1
 returns-2 : tie.Need-returns-2
 unfolding dueAfter
 returns-2 c = c .read-due .ensures ∙ ap (λ (x : Input). dueAfter x (c .before .before .before .args .s)) (sym (c .before .enum-told2 .given .1))
 
--- src/lib.rt:194:1
 returns-3 : tie.Need-returns-3
 unfolding dueAfter
 returns-3 c = ap (λ (x : Input). dueAfter x (c .before .before .args .s)) (sym (c .enum-told3 .given .1))

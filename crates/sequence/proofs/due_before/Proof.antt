@@ -5,42 +5,30 @@ use Rattle.script.specs.Script.{dueBefore, keptOf}
 use borrow.Author.Needs.{needs}
 use Rattle.sequence.proofs.due_before.Statement.{statement}
 use Rattle.sequence.proofs.due_before.Tie as tie
-use Rattle.sequence.proofs.due_before.Reads as reads
-use Rattle.sequence.proofs.due_before.Lts as lts
-use Rattle.sequence.proofs.end_due.Reads as end-due-reads
-use Rattle.sequence.proofs.line_due.Reads as line-due-reads
 
--- src/lib.rt:169:24
 enum-told : tie.Need-enum-told
 enum-told c = search needs
 
--- src/lib.rt:170:24
 enum-told-2 : tie.Need-enum-told-2
 enum-told-2 c = search needs
 
--- src/lib.rt:170:24
 line-due-requires : tie.Need-line-due-requires
 line-due-requires c κs = search needs
 
--- src/lib.rt:171:23
 enum-told-3 : tie.Need-enum-told-3
 enum-told-3 c = search needs
 
--- src/lib.rt:171:23
 end-due-requires : tie.Need-end-due-requires
 end-due-requires c κs = search needs
 
--- src/lib.rt:164:1
 returns : tie.Need-returns
 unfolding dueBefore
 returns c = ap (λ (x : Input). dueBefore x (c .before .before .before .args .s) (keptOf (now (c .before .before .before .args .line)) (c .before .before .before .args .held))) (sym (c .enum-told .given .1))
 
--- src/lib.rt:164:1
 returns-2 : tie.Need-returns-2
 unfolding dueBefore
 returns-2 c = c .line-due .ensures ∙ ap (λ (x : Input). dueBefore x (c .before .before .before .before .args .s) (keptOf (now (c .before .before .before .before .args .line)) (c .before .before .before .before .args .held))) (sym (c .before .enum-told2 .given .1))
 
--- src/lib.rt:164:1
 returns-3 : tie.Need-returns-3
 unfolding dueBefore
 returns-3 c = c .end-due .ensures ∙ ap (λ (x : Input). dueBefore x (c .before .before .before .before .args .s) (keptOf (now (c .before .before .before .before .args .line)) (c .before .before .before .before .args .held))) (sym (c .before .enum-told3 .given .1))

@@ -3,8 +3,6 @@ use mathlib.Core.Path.{refl, sym, ap, _∙_}
 use borrow.Author.Needs.{needs}
 use Rattle.sequence.proofs.end_due.Statement.{statement}
 use Rattle.sequence.proofs.end_due.Tie as tie
-use Rattle.sequence.proofs.end_due.Reads as reads
-use Rattle.sequence.proofs.end_due.Lts as lts
 
 enum-told : tie.Need-enum-told
 enum-told c = search needs

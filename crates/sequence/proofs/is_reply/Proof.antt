@@ -5,10 +5,6 @@ use denote.Ref.{now}
 use borrow.Author.Needs.{needs}
 use Rattle.sequence.proofs.is_reply.Statement.{statement}
 use Rattle.sequence.proofs.is_reply.Tie as tie
-use Rattle.sequence.proofs.is_reply.Reads as reads
-use Rattle.sequence.proofs.is_reply.Lts as lts
-use Rattle.lines.proofs.has_key.Reads as has-key-reads
-use Rattle.sequence.proofs.is_status.Reads as is-status-reads
 
 is-status-requires : tie.Need-is-status-requires
 is-status-requires c κs = search needs

@@ -3,8 +3,6 @@ use mathlib.Core.Path.{refl, sym, ap, _∙_}
 use borrow.Author.Needs.{needs}
 use Rattle.sequence.proofs.is_status.Statement.{statement}
 use Rattle.sequence.proofs.is_status.Tie as tie
-use Rattle.sequence.proofs.is_status.Reads as reads
-use Rattle.sequence.proofs.is_status.Lts as lts
 
 enum-told : tie.Need-enum-told
 enum-told c = search needs

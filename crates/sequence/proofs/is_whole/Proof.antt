@@ -3,8 +3,6 @@ use mathlib.Core.Path.{refl, sym, ap, _∙_}
 use borrow.Author.Needs.{needs}
 use Rattle.sequence.proofs.is_whole.Statement.{statement}
 use Rattle.sequence.proofs.is_whole.Tie as tie
-use Rattle.sequence.proofs.is_whole.Reads as reads
-use Rattle.sequence.proofs.is_whole.Lts as lts
 
 enum-told : tie.Need-enum-told
 enum-told c = search needs

@@ -12,11 +12,6 @@ use denote.Ref.{now}
 use borrow.Author.Needs.{needs}
 use Rattle.sequence.proofs.line_due.Statement.{statement}
 use Rattle.sequence.proofs.line_due.Tie as tie
-use Rattle.sequence.proofs.line_due.Reads as reads
-use Rattle.sequence.proofs.line_due.Lts as lts
-use Rattle.hexes.proofs.least.Reads as least-reads
-use Rattle.lines.proofs.has_key.Reads as has-key-reads
-use Rattle.sequence.proofs.is_status.Reads as is-status-reads
 
 is-status-requires : tie.Need-is-status-requires
 is-status-requires c κs = search needs

@@ -6,54 +6,39 @@ use Rattle.script.specs.declared.Script.{Script}
 use borrow.Author.Needs.{needs}
 use Rattle.sequence.proofs.take.Statement.{statement}
 use Rattle.sequence.proofs.take.Tie as tie
-use Rattle.sequence.proofs.take.Reads as reads
-use Rattle.sequence.proofs.take.Lts as lts
-use Rattle.script.proofs.with_last.Reads as with-last-reads
-use Rattle.sequence.proofs.take_on.Reads as take-on-reads
 
--- src/lib.rt:123:24
 enum-told : tie.Need-enum-told
 enum-told c = search needs
 
--- src/lib.rt:124:49
 enum-told-2 : tie.Need-enum-told-2
 enum-told-2 c = search needs
 
--- src/lib.rt:124:24
 take-on-requires : tie.Need-take-on-requires
 take-on-requires c κs = search needs
 
--- src/lib.rt:125:44
 enum-told-3 : tie.Need-enum-told-3
 enum-told-3 c = search needs
 
--- src/lib.rt:125:23
 with-last-requires : tie.Need-with-last-requires
 with-last-requires c κs = search needs
 
--- src/lib.rt:111:1
 returns : tie.Need-returns
 unfolding comes
 returns c = ap (λ (x : Input). comes x (c .before .before .before .before .before .before .args .s) (keptOf (now (c .before .before .before .before .before .before .args .line)) (c .before .before .before .before .before .before .args .held)) (c .before .before .before .before .before .before .args .held .rest) (now (c .before .before .before .before .before .before .args .path)) (now (c .before .before .before .before .before .before .args .boot)) (now (c .before .before .before .before .before .before .args .reply))) (sym (c .enum-told .given .1))
 
--- src/lib.rt:111:1
 same-length : tie.Need-same-length
 same-length c = search needs
 
--- src/lib.rt:111:1
 same-length-2 : tie.Need-same-length-2
 same-length-2 c = search needs
 
--- src/lib.rt:111:1
 same-length-3 : tie.Need-same-length-3
 same-length-3 c = search needs
 
--- src/lib.rt:111:1
 returns-2 : tie.Need-returns-2
 unfolding comes
 returns-2 c = c .before .before .before .before .before .before .take-on .ensures ∙ ap (λ (x : Input). comes x (c .before .before .before .before .before .before .before .before .before .before .before .before .before .before .before .before .args .s) (keptOf (now (c .before .before .before .before .before .before .before .before .before .before .before .before .before .before .before .before .args .line)) (c .before .before .before .before .before .before .before .before .before .before .before .before .before .before .before .before .args .held)) (c .before .before .before .before .before .before .before .before .before .before .before .before .before .before .before .before .args .held .rest) (now (c .before .before .before .before .before .before .before .before .before .before .before .before .before .before .before .before .args .path)) (now (c .before .before .before .before .before .before .before .before .before .before .before .before .before .before .before .before .args .boot)) (now (c .before .before .before .before .before .before .before .before .before .before .before .before .before .before .before .before .args .reply))) (sym (c .before .before .before .before .before .before .before .before .before .before .enum-told2 .given .1))
 
--- src/lib.rt:111:1
 returns-3 : tie.Need-returns-3
 unfolding comes
 returns-3 c = ap (λ (x : Script). read x (now (c .before .before .before .before .before .before .before .args .path)) (now (c .before .before .before .before .before .before .before .args .boot)) (now (c .before .before .before .before .before .before .before .args .reply))) (c .with-last .ensures) ∙ ap (λ (x : Input). comes x (c .before .before .before .before .before .before .before .args .s) (keptOf (now (c .before .before .before .before .before .before .before .args .line)) (c .before .before .before .before .before .before .before .args .held)) (c .before .before .before .before .before .before .before .args .held .rest) (now (c .before .before .before .before .before .before .before .args .path)) (now (c .before .before .before .before .before .before .before .args .boot)) (now (c .before .before .before .before .before .before .before .args .reply))) (sym (c .before .enum-told3 .given .1))

@@ -5,11 +5,6 @@ use denote.Ref.{now}
 use borrow.Author.Needs.{needs}
 use Rattle.sequence.proofs.take_answer.Statement.{statement}
 use Rattle.sequence.proofs.take_answer.Tie as tie
-use Rattle.sequence.proofs.take_answer.Reads as reads
-use Rattle.sequence.proofs.take_answer.Lts as lts
-use Rattle.lines.proofs.has_key.Reads as has-key-reads
-use Rattle.script.proofs.take_clock.Reads as take-clock-reads
-use Rattle.script.proofs.take_status.Reads as take-status-reads
 
 slice-aggregate-has-key : tie.Need-slice-aggregate-has-key
 slice-aggregate-has-key c = search needs

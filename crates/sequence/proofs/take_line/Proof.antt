@@ -11,14 +11,6 @@ use denote.Ref.{now}
 use borrow.Author.Needs.{needs}
 use Rattle.sequence.proofs.take_line.Statement.{statement}
 use Rattle.sequence.proofs.take_line.Tie as tie
-use Rattle.sequence.proofs.take_line.Reads as reads
-use Rattle.sequence.proofs.take_line.Lts as lts
-use Rattle.hexes.proofs.least.Reads as least-reads
-use Rattle.sequence.proofs.is_reply.Reads as is-reply-reads
-use Rattle.sequence.proofs.is_whole.Reads as is-whole-reads
-use Rattle.script.proofs.take_reply.Reads as take-reply-reads
-use Rattle.sequence.proofs.take_whole.Reads as take-whole-reads
-use Rattle.script.proofs.with_last.Reads as with-last-reads
 
 least-requires : tie.Need-least-requires
 least-requires c κs = search needs

@@ -3,36 +3,25 @@ use borrow.Author.Tests.{not-true, not-false}
 use borrow.Author.Needs.{needs}
 use Rattle.sequence.proofs.take_on.Statement.{statement}
 use Rattle.sequence.proofs.take_on.Tie as tie
-use Rattle.sequence.proofs.take_on.Reads as reads
-use Rattle.sequence.proofs.take_on.Lts as lts
-use Rattle.sequence.proofs.goes_on.Reads as goes-on-reads
-use Rattle.sequence.proofs.take_line.Reads as take-line-reads
 
--- src/lib.rt:140:9
 goes-on-requires : tie.Need-goes-on-requires
 goes-on-requires c κs = search needs
 
--- src/lib.rt:141:9
 returns : tie.Need-returns
 returns c = line-off (c .before .before .before .before .before .before .args .s) _ (c .before .before .before .before .before .before .args .held .rest) _ _ _ (c .before .goes-on .ensures) (not-true _ (c .if1 .taken))
 
--- src/lib.rt:143:5
 take-line-requires : tie.Need-take-line-requires
 take-line-requires c κs = search needs
 
--- src/lib.rt:130:1
 same-length : tie.Need-same-length
 same-length c = search needs
 
--- src/lib.rt:130:1
 same-length-2 : tie.Need-same-length-2
 same-length-2 c = search needs
 
--- src/lib.rt:130:1
 same-length-3 : tie.Need-same-length-3
 same-length-3 c = search needs
 
--- src/lib.rt:130:1
 returns-2 : tie.Need-returns-2
 returns-2 c = line-on (c .before .before .before .before .before .before .before .before .before .before .before .before .before .before .before .before .args .s) _ (c .before .before .before .before .before .before .before .before .before .before .before .before .before .before .before .before .args .held .rest) _ _ _ (c .before .before .before .before .before .before .before .before .before .before .before .goes-on .ensures) (not-false _ (c .before .before .before .before .before .before .before .before .before .before .if1 .left)) (c .before .before .before .before .before .before .take-line .ensures)
 

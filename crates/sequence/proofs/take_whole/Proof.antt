@@ -6,15 +6,6 @@ use denote.Ref.{now}
 use borrow.Author.Needs.{needs}
 use Rattle.sequence.proofs.take_whole.Statement.{statement}
 use Rattle.sequence.proofs.take_whole.Tie as tie
-use Rattle.sequence.proofs.take_whole.Reads as reads
-use Rattle.sequence.proofs.take_whole.Lts as lts
-use Rattle.sequence.proofs.take_answer.Reads as take-answer-reads
-use Rattle.script.proofs.take_boot.Reads as take-boot-reads
-use Rattle.script.proofs.take_clock.Reads as take-clock-reads
-use Rattle.script.proofs.take_limit.Reads as take-limit-reads
-use Rattle.script.proofs.take_path.Reads as take-path-reads
-use Rattle.script.proofs.take_size.Reads as take-size-reads
-use Rattle.script.proofs.take_status.Reads as take-status-reads
 
 enum-told : tie.Need-enum-told
 enum-told c = search needs

@@ -3,8 +3,6 @@ use Rattle.spelling.proofs.SpellingLaws.{digit-low, digit-high}
 use borrow.Author.Needs.{needs}
 use Rattle.spelling.proofs.digit.Statement.{statement}
 use Rattle.spelling.proofs.digit.Tie as tie
-use Rattle.spelling.proofs.digit.Reads as reads
-use Rattle.spelling.proofs.digit.Lts as lts
 
 add-result : tie.Need-add-result
 add-result c = search needs

@@ -2,10 +2,6 @@ use Rattle.spelling.proofs.SpellingLaws.{escape-put}
 use borrow.Author.Needs.{needs}
 use Rattle.spelling.proofs.put_escape.Statement.{statement}
 use Rattle.spelling.proofs.put_escape.Tie as tie
-use Rattle.spelling.proofs.put_escape.Reads as reads
-use Rattle.spelling.proofs.put_escape.Lts as lts
-use Rattle.rooms.proofs.copy_units.Reads as copy-units-reads
-use Rattle.spelling.proofs.digit.Reads as digit-reads
 
 digit-requires : tie.Need-digit-requires
 digit-requires c κs = search needs

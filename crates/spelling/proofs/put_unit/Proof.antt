@@ -4,11 +4,6 @@ use Rattle.spelling.proofs.SpellingLaws.{length-stands, length-escaped,
 use borrow.Author.Needs.{needs}
 use Rattle.spelling.proofs.put_unit.Statement.{statement}
 use Rattle.spelling.proofs.put_unit.Tie as tie
-use Rattle.spelling.proofs.put_unit.Reads as reads
-use Rattle.spelling.proofs.put_unit.Lts as lts
-use Rattle.rooms.proofs.put_unit.Reads as put-unit-reads
-use Rattle.spelling.proofs.put_escape.Reads as put-escape-reads
-use Rattle.spelling.proofs.stands.Reads as stands-reads
 
 stands-requires : tie.Need-stands-requires
 stands-requires c κs = search needs

@@ -8,9 +8,6 @@ use Rattle.spelling.proofs.SpellingLaws.{spelled-end, units-more, lengt
 use borrow.Author.Needs.{needs}
 use Rattle.spelling.proofs.spelled_units.Statement.{statement}
 use Rattle.spelling.proofs.spelled_units.Tie as tie
-use Rattle.spelling.proofs.spelled_units.Reads as reads
-use Rattle.spelling.proofs.spelled_units.Lts as lts
-use Rattle.spelling.proofs.unit_units.Reads as unit-units-reads
 
 abbrev Inv-loop : tie.InvT-loop
 Inv-loop s n₀ i₀ n i = (i ≤ length s) × ((n ≤ 5 * i) × (length (spelled s) ≡ n + length (spelled (drop i s))))

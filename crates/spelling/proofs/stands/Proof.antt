@@ -3,8 +3,6 @@ use native.Mathlib.Omega.{arith}
 use Rattle.spelling.proofs.SpellingLaws.{stands-low, stands-rest}
 use Rattle.spelling.proofs.stands.Statement.{statement}
 use Rattle.spelling.proofs.stands.Tie as tie
-use Rattle.spelling.proofs.stands.Reads as reads
-use Rattle.spelling.proofs.stands.Lts as lts
 
 returns : tie.Need-returns
 returns c = sym (stands-low _ (c .if1 .taken))

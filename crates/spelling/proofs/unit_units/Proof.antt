@@ -3,9 +3,6 @@ use Rattle.spelling.proofs.SpellingLaws.{length-stands, length-escaped}
 use borrow.Author.Needs.{needs}
 use Rattle.spelling.proofs.unit_units.Statement.{statement}
 use Rattle.spelling.proofs.unit_units.Tie as tie
-use Rattle.spelling.proofs.unit_units.Reads as reads
-use Rattle.spelling.proofs.unit_units.Lts as lts
-use Rattle.spelling.proofs.stands.Reads as stands-reads
 
 stands-requires : tie.Need-stands-requires
 stands-requires c κs = search needs

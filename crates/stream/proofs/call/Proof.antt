@@ -3,49 +3,34 @@ use native.Mathlib.Omega.{arith}
 use borrow.Author.Needs.{needs}
 use Rattle.stream.proofs.call.Statement.{statement}
 use Rattle.stream.proofs.call.Tie as tie
-use Rattle.stream.proofs.call.Reads as reads
-use Rattle.stream.proofs.call.Lts as lts
-use Rattle.calling.proofs.make.Reads as make-reads
-use Rattle.io.proofs.write_all.Reads as write-all-reads
-use Rattle.stream.proofs.out_memory.Reads as out-memory-reads
 
--- src/main.rt:100:19
 out-memory-requires : tie.Need-out-memory-requires
 out-memory-requires c κs = search needs
 
--- src/main.rt:101:79
 slice-aggregate-make : tie.Need-slice-aggregate-make
 slice-aggregate-make c = search needs
 
--- src/main.rt:101:9
 make-requires : tie.Need-make-requires
 make-requires c κs = search needs
 
--- src/main.rt:103:34
 array-share-prefix-out : tie.Need-array-share-prefix-out
 array-share-prefix-out c = made-within _ _ _ (c .before .before .before .before .before .before .before .make .ensures) (omega (arith, c .before .before .before .before .before .before .before .before .before .before .before .before .out-memory .ensures))
 
--- src/main.rt:103:34
 slice-aggregate-write-all : tie.Need-slice-aggregate-write-all
 slice-aggregate-write-all c = made-taken _ _ _ (c .before .before .before .before .before .before .before .before .make .ensures) (omega (arith, c .before .before .before .before .before .before .before .before .before .before .before .before .before .out-memory .ensures))
 
--- src/main.rt:103:5
 write-all-requires : tie.Need-write-all-requires
 write-all-requires c κs = search needs
 
--- src/main.rt:89:1
 same-length : tie.Need-same-length
 same-length c = search needs
 
--- src/main.rt:89:1
 same-length-2 : tie.Need-same-length-2
 same-length-2 c = search needs
 
--- src/main.rt:89:1
 same-length-3 : tie.Need-same-length-3
 same-length-3 c = search needs
 
--- src/main.rt:89:1
 returns : tie.Need-returns
 returns c = record { left = c .before .before .before .before .before .before .before .before .before .make .ensures .left }
 

@@ -3,50 +3,34 @@ use native.Mathlib.Omega.{arith}
 use borrow.Author.Needs.{needs}
 use Rattle.stream.proofs.read.Statement.{statement}
 use Rattle.stream.proofs.read.Tie as tie
-use Rattle.stream.proofs.read.Reads as reads
-use Rattle.stream.proofs.read.Lts as lts
-use Rattle.hexes.proofs.widen.Reads as widen-reads
-use Rattle.io.proofs.buffer.Reads as buffer-reads
-use Rattle.io.proofs.count.Reads as count-reads
-use Rattle.libc.proofs.read.Reads as read-reads
 
--- src/main.rt:26:21
 buffer-requires : tie.Need-buffer-requires
 buffer-requires c κs = search needs
 
--- src/main.rt:27:40
 slice-aggregate-read : tie.Need-slice-aggregate-read
 slice-aggregate-read c = search needs
 
--- src/main.rt:27:9
 read-requires : tie.Need-read-requires
 read-requires c κs = search needs
 
--- src/main.rt:28:28
 slice-aggregate-count : tie.Need-slice-aggregate-count
 slice-aggregate-count c = search needs
 
--- src/main.rt:28:9
 count-requires : tie.Need-count-requires
 count-requires c κs = search needs
 
--- src/main.rt:29:18
 array-share-prefix-bytes : tie.Need-array-share-prefix-bytes
 array-share-prefix-bytes c = search needs
 
--- src/main.rt:29:18
 slice-aggregate-widen : tie.Need-slice-aggregate-widen
 slice-aggregate-widen c = search needs
 
--- src/main.rt:29:5
 widen-requires : tie.Need-widen-requires
 widen-requires c κs = search needs
 
--- src/main.rt:23:1
 same-length : tie.Need-same-length
 same-length c = search needs
 
--- src/main.rt:23:1
 returns : tie.Need-returns
 returns c = omega (arith, simp length-take at (c .before .before .widen .ensures .0), c .before .before .widen .kept .1 .0)
 

@@ -5,11 +5,6 @@ use native.Mathlib.Omega.{arith}
 use borrow.Author.Needs.{needs}
 use Rattle.telling.proofs.put_ended.Statement.{statement}
 use Rattle.telling.proofs.put_ended.Tie as tie
-use Rattle.telling.proofs.put_ended.Reads as reads
-use Rattle.telling.proofs.put_ended.Lts as lts
-use Rattle.numbers.proofs.end_numbers.Reads as end-numbers-reads
-use Rattle.numbers.proofs.end_path.Reads as end-path-reads
-use Rattle.outcomes.proofs.put_end.Reads as put-end-reads
 
 slice-aggregate-end-path : tie.Need-slice-aggregate-end-path
 slice-aggregate-end-path c = search needs

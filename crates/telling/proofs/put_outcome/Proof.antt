@@ -4,11 +4,6 @@ use native.Mathlib.Omega.{arith}
 use borrow.Author.Needs.{needs}
 use Rattle.telling.proofs.put_outcome.Statement.{statement}
 use Rattle.telling.proofs.put_outcome.Tie as tie
-use Rattle.telling.proofs.put_outcome.Reads as reads
-use Rattle.telling.proofs.put_outcome.Lts as lts
-use Rattle.outcomes.proofs.put_refused.Reads as put-refused-reads
-use Rattle.telling.proofs.put_ended.Reads as put-ended-reads
-use Rattle.telling.proofs.put_waiting.Reads as put-waiting-reads
 
 put-refused-requires : tie.Need-put-refused-requires
 put-refused-requires c κs = refusal-fits _ (c .before .before .before .before .before .before .pre)

@@ -5,12 +5,6 @@ use native.Mathlib.Omega.{arith}
 use borrow.Author.Needs.{needs}
 use Rattle.telling.proofs.put_waiting.Statement.{statement}
 use Rattle.telling.proofs.put_waiting.Tie as tie
-use Rattle.telling.proofs.put_waiting.Reads as reads
-use Rattle.telling.proofs.put_waiting.Lts as lts
-use Rattle.numbers.proofs.question_numbers.Reads as question-numbers-reads
-use Rattle.outcomes.proofs.put_question.Reads as put-question-reads
-use Rattle.shown.proofs.question_name.Reads as question-name-reads
-use Rattle.shown.proofs.question_party.Reads as question-party-reads
 
 slice-aggregate-question-party : tie.Need-slice-aggregate-question-party
 slice-aggregate-question-party c = search needs

@@ -9,10 +9,6 @@ use Rattle.unspelling.proofs.NumberLaws.{value-start, value-next, numbe
 use borrow.Author.Needs.{needs}
 use Rattle.unspelling.proofs.decimal_form.Statement.{statement}
 use Rattle.unspelling.proofs.decimal_form.Tie as tie
-use Rattle.unspelling.proofs.decimal_form.Reads as reads
-use Rattle.unspelling.proofs.decimal_form.Lts as lts
-use Rattle.unspelling.proofs.decimal_digit.Reads as decimal-digit-reads
-use Rattle.unspelling.proofs.is_decimal.Reads as is-decimal-reads
 
 abbrev Inv-loop : tie.InvT-loop
 Inv-loop s v₀ i₀ v i = (i ≤ length s) × ((v ≤ 4294967295) × (decimalOf s ≡ valueFrom v (drop i s)))

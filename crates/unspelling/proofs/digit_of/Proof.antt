@@ -3,8 +3,6 @@ use Rattle.unspelling.proofs.HexLaws.{digit-none, digit-decimal, digit-
 use borrow.Author.Needs.{needs}
 use Rattle.unspelling.proofs.digit_of.Statement.{statement}
 use Rattle.unspelling.proofs.digit_of.Tie as tie
-use Rattle.unspelling.proofs.digit_of.Reads as reads
-use Rattle.unspelling.proofs.digit_of.Lts as lts
 
 returns : tie.Need-returns
 returns c = (digit-none _ (c .if1 .taken), omega arith)

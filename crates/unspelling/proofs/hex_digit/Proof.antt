@@ -2,8 +2,6 @@ use native.Mathlib.Omega.{arith}
 use Rattle.unspelling.proofs.HexLaws.{hex-low, hex-decimal, hex-between, hex-letter}
 use Rattle.unspelling.proofs.hex_digit.Statement.{statement}
 use Rattle.unspelling.proofs.hex_digit.Tie as tie
-use Rattle.unspelling.proofs.hex_digit.Reads as reads
-use Rattle.unspelling.proofs.hex_digit.Lts as lts
 
 returns : tie.Need-returns
 returns c = hex-low _ (c .if1 .taken)

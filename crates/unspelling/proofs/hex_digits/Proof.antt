@@ -4,9 +4,6 @@ use Rattle.unspelling.proofs.HexLaws.{hexes-first, hexes-second, hexes-
 use borrow.Author.Needs.{needs}
 use Rattle.unspelling.proofs.hex_digits.Statement.{statement}
 use Rattle.unspelling.proofs.hex_digits.Tie as tie
-use Rattle.unspelling.proofs.hex_digits.Reads as reads
-use Rattle.unspelling.proofs.hex_digits.Lts as lts
-use Rattle.unspelling.proofs.hex_digit.Reads as hex-digit-reads
 
 mul-hex-digit : tie.Need-mul-hex-digit
 mul-hex-digit c = search needs

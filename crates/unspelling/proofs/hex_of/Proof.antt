@@ -6,9 +6,6 @@ use Rattle.unspelling.proofs.HexLaws.{digit-small, hex-sum}
 use borrow.Author.Needs.{needs}
 use Rattle.unspelling.proofs.hex_of.Statement.{statement}
 use Rattle.unspelling.proofs.hex_of.Tie as tie
-use Rattle.unspelling.proofs.hex_of.Reads as reads
-use Rattle.unspelling.proofs.hex_of.Lts as lts
-use Rattle.unspelling.proofs.digit_of.Reads as digit-of-reads
 
 mul-digit-of : tie.Need-mul-digit-of
 mul-digit-of c = search needs

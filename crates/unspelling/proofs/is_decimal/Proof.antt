@@ -11,8 +11,6 @@ use Rattle.unspelling.proofs.NumberLaws.{digit-none, digit-other, digit
 use borrow.Author.Needs.{needs}
 use Rattle.unspelling.proofs.is_decimal.Statement.{statement}
 use Rattle.unspelling.proofs.is_decimal.Tie as tie
-use Rattle.unspelling.proofs.is_decimal.Reads as reads
-use Rattle.unspelling.proofs.is_decimal.Lts as lts
 
 abbrev Inv-loop : tie.InvT-loop
 Inv-loop s n v₀ k₀ v k = (k ≤ length s) × ((v < 4294967296) × (sameList (decimal n) s ≡ sameList (decimal v) (take k s)))

@@ -6,11 +6,6 @@ use Rattle.unspelling.proofs.HexLaws.{escape-short, escape-other, escap
 use borrow.Author.Needs.{needs}
 use Rattle.unspelling.proofs.is_escape.Statement.{statement}
 use Rattle.unspelling.proofs.is_escape.Tie as tie
-use Rattle.unspelling.proofs.is_escape.Reads as reads
-use Rattle.unspelling.proofs.is_escape.Lts as lts
-use Rattle.spelling.proofs.stands.Reads as stands-reads
-use Rattle.unspelling.proofs.hex_digits.Reads as hex-digits-reads
-use Rattle.unspelling.proofs.hex_of.Reads as hex-of-reads
 
 sub-if1 : tie.Need-sub-if1
 sub-if1 c = search needs

@@ -10,10 +10,6 @@ use Rattle.unspelling.proofs.UnspelledLaws.{formFrom, form-start, form-
 use borrow.Author.Needs.{needs}
 use Rattle.unspelling.proofs.spelled_form.Statement.{statement}
 use Rattle.unspelling.proofs.spelled_form.Tie as tie
-use Rattle.unspelling.proofs.spelled_form.Reads as reads
-use Rattle.unspelling.proofs.spelled_form.Lts as lts
-use Rattle.spelling.proofs.stands.Reads as stands-reads
-use Rattle.unspelling.proofs.is_escape.Reads as is-escape-reads
 
 abbrev Inv-loop : tie.InvT-loop
 Inv-loop s n₀ i₀ n i = (i ≤ length s) × ((n ≤ i) × (spelledForm s ≡ formFrom n (drop i s)))

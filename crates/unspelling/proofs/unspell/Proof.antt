@@ -12,10 +12,6 @@ use Rattle.unspelling.proofs.UnspelledLaws.{plain-says, tilde-says, til
 use borrow.Author.Needs.{needs}
 use Rattle.unspelling.proofs.unspell.Statement.{statement}
 use Rattle.unspelling.proofs.unspell.Tie as tie
-use Rattle.unspelling.proofs.unspell.Reads as reads
-use Rattle.unspelling.proofs.unspell.Lts as lts
-use Rattle.rooms.proofs.put_unit.Reads as put-unit-reads
-use Rattle.unspelling.proofs.hex_of.Reads as hex-of-reads
 
 abbrev Inv-loop : tie.InvT-loop
 Inv-loop s out₀ at end₀ i₀ out end i =

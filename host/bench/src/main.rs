@@ -191,6 +191,7 @@ fn hold_look_ups(goals: &mut Goals, builds: &[[Times; 2]]) {
 fn other_builds(file: &str) -> Vec<[Times; 2]> {
     let text = std::fs::read_to_string(file).unwrap();
     let ns: Vec<f64> = text.lines().filter_map(|l| l.strip_prefix("ns ")).flat_map(|l| l.split(' ').map(|n| n.parse().unwrap())).collect();
+    assert!(!ns.is_empty() && ns.len() % 10 == 0, "{file} has the times of no other build");
     ns.chunks_exact(10).map(|b| [b[..5].try_into().unwrap(), b[5..].try_into().unwrap()]).collect()
 }
 

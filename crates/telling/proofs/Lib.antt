@@ -1,2 +1,3 @@
 -- Laws of what is printed after a call.
 pub mod TellingLaws
+pub mod OneLaws

@@ -173,11 +173,11 @@ fn look_ups() -> [Times; 2] {
     })
 }
 
-// What counts is the plain look-up that makes the same tests in the same order, by the faster of its two ways to compare names. The other ways are printed.
+// Of the plain ways the fastest counts in each shape.
 fn hold_look_ups(goals: &mut Goals, builds: &[[Times; 2]]) {
     for (k, (name, _)) in SHAPES.iter().enumerate() {
         let times: Times = [0, 1, 2, 3, 4].map(|way| builds.iter().map(|b| b[k][way]).fold(f64::MAX, f64::min));
-        let (what, plain) = (format!("look-up in 32 entries, {name}"), times[1].min(times[2]));
+        let (what, plain) = (format!("look-up in 32 entries, {name}"), times[1..].iter().copied().fold(f64::MAX, f64::min));
         println!("{what}, least of {} builds: proved {}, plain {}, ratio {:.2}", builds.len(), shown(times[0]), shown(plain), times[0] / plain);
         for (way, name) in WAYS.iter().enumerate() {
             let each: Vec<String> = builds.iter().map(|b| format!("{:.2}", b[k][0] / b[k][way + 1])).collect();

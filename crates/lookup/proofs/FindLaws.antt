@@ -1,9 +1,9 @@
 -- Laws of the loops that find an entry: what is left to look at, and what is found.
 use mathlib.Core.Path.{_≡_, refl, sym, ap, _∙_}
-use mathlib.Core.Bool.{Bool, true, false, _&&_, not, true≢false}
+use mathlib.Core.Bool.{Bool, true, false, _&&_}
 use mathlib.Core.List.{List, [], _∷_, map}
 use mathlib.Core.Logic.{_⊎_, inl, inr}
-use Prim.Native.Nat.{ℕ, _+_, _/_, _%_, _≤_, _<_, min}
+use Prim.Native.Nat.{ℕ, _+_, _/_, _≤_, _<_, min}
 use native.Mathlib.Numerals.{add-one}
 use native.Mathlib.Omega.{arith}
 use lib.ListN.{length, getD, take, drop, length-take}
@@ -15,10 +15,10 @@ use Rattle.laws.specs.Listed.{listed}
 use Rattle.laws.proofs.Choices.{choose-yes, choose-no, and-no-right}
 use Rattle.laws.proofs.Orders.{told, lt-or-le}
 use Rattle.laws.proofs.Listed.{drop-listed, drop-listed-end, map-listed}
-use Rattle.unc.specs.Names.{sameName}
+use Rattle.unc.specs.Names.{sameUnit, sameName, SameWithin}
 use Rattle.unc.specs.Paths.{matches}
-use Rattle.unc.proofs.WithinLaws.{sameName-low}
-use Rattle.unc.proofs.MatchLaws.{matches-same, matches-within}
+use Rattle.unc.proofs.WithinLaws.{sameName-at}
+use Rattle.unc.proofs.MatchLaws.{matches-same}
 use Rattle.places.specs.Layout.{placeCount, placeAt, unitAt, roomAt, textAt}
 use Rattle.places.proofs.LayoutLaws.{length-room}
 use Rattle.lookup.specs.declared.Found.{Found}
@@ -72,45 +72,35 @@ module _ (p : List ℕ) where
         go (inl l) = longer (textAt 0 p) path n l (sym (longer (textAt 0 p) path 0 (omega arith) refl ∙ (sym (longer-place path 0) ∙ h))) ∙ sym (longer-place path n)
         go (inr l) = place-shorter refl l
 
--- a prefix whose last unit is unlike that of the path; k is that unit, or the last of the path where the prefix is none or longer
+-- a prefix whose units are not the first ones of the path
 module _ (raw path : List ℕ) (i : ℕ) (fits : i < length raw / 2336) where
-  abbrev units : ℕ
-  units = unitAt 0 (placeAt i raw)
-
   abbrev prefix : List ℕ
   prefix = textAt 0 (placeAt i raw)
 
-  text-units : length prefix ≡ min units 256
+  text-units : length prefix ≡ min (unitAt 0 (placeAt i raw)) 256
   unfolding textAt
-  text-units = length-take units (roomAt 0 (placeAt i raw)) ∙ ap (min units) (length-room raw i fits 0 (omega arith))
+  text-units = length-take (unitAt 0 (placeAt i raw)) (roomAt 0 (placeAt i raw)) ∙ ap (min (unitAt 0 (placeAt i raw))) (length-room raw i fits 0 (omega arith))
 
-  module _ (k : ℕ) {u : ℕ} {room : List ℕ} (eu : u ≡ units) (er : room ≡ roomAt 0 (placeAt i raw)) where
-    text-unit : k < units → getD prefix k 0 ≡ getD room k 0
+  module _ {u : ℕ} {room : List ℕ} (eu : u ≡ unitAt 0 (placeAt i raw)) (er : room ≡ roomAt 0 (placeAt i raw)) where
+    text-unit : (k : ℕ) → k < u → getD prefix k 0 ≡ getD room k 0
     unfolding textAt
-    text-unit h = getD-take units (roomAt 0 (placeAt i raw)) k 0 h ∙ ap (λ (t : List ℕ). getD t k 0) (sym er)
+    text-unit k h = getD-take (unitAt 0 (placeAt i raw)) (roomAt 0 (placeAt i raw)) k 0 (omega arith) ∙ ap (λ (t : List ℕ). getD t k 0) (sym er)
 
-    last-low : length path ≤ 256 → (0 < u → u ≤ length path → k + 1 ≡ u) → (length path ≤ u → k + 1 ≡ length path)
-        → not (eqb (getD room k 0 % 32) (getD path k 0 % 32)) ≡ true → 0 < length prefix → matches prefix path ≡ true → ⊥
-    last-low short inner outer differ some matched =
-        let z = text-units in
-        let w : length prefix ≤ length path = matches-within prefix path matched in
-        let l : k + 1 ≡ length prefix = last z w (lt-or-le 256 u) in
-        let a : getD prefix k 0 ≡ getD room k 0 = text-unit (omega arith) in
-        let b : getD (take (length prefix) path) k 0 ≡ getD path k 0 = getD-take (length prefix) path k 0 (omega arith) in
-        true≢false (sym (matches-same prefix path matched) ∙ sameName-low prefix (take (length prefix) path) k (omega arith) (rw (a, b) differ))
+    first-units : u ≤ 256 → matches prefix path ≡ true → SameWithin room path 0 u
+    first-units short h = record { at = at }
       where
-        last : length prefix ≡ min units 256 → length prefix ≤ length path → (256 < u) ⊎ (u ≤ 256) → k + 1 ≡ length prefix
-        last z w (inl l) = outer (omega arith) ∙ omega arith
-        last z w (inr l) = inner (omega arith) (omega arith) ∙ omega arith
+        at : (k : ℕ) → 0 ≤ k → k < u → sameUnit (getD room k 0) (getD path k 0) ≡ true
+        at k _ v =
+            let z = text-units in
+            let l : k < length prefix = omega arith in
+            rw (← text-unit k v, ← getD-take (length prefix) path k 0 l) (sameName-at prefix (take (length prefix) path) (matches-same prefix path h) k l)
 
-    pub last-unlike : length path ≤ 256 → (0 < u → u ≤ length path → k + 1 ≡ u) → (length path ≤ u → k + 1 ≡ length path)
-        → not (eqb (getD room k 0 % 32) (getD path k 0 % 32)) ≡ true → longerMatch path 0 (placeOf referrals (placeAt i raw)) ≡ false
-    last-unlike short inner outer differ = longer-place (placeAt i raw) path 0 ∙ go (lt-or-le 0 (length prefix)) (told (matches prefix path))
+    pub units-unlike : {n : ℕ} → u ≤ 256 → u ≡ n → (SameWithin room path 0 n → ⊥) → longerMatch path 0 (placeOf referrals (placeAt i raw)) ≡ false
+    units-unlike short e unlike = longer-place (placeAt i raw) path 0 ∙ go (told (matches prefix path))
       where
-        go : (0 < length prefix) ⊎ (length prefix ≤ 0) → (matches prefix path ≡ true) ⊎ (matches prefix path ≡ false) → (ltb 0 (length prefix) && matches prefix path) ≡ false
-        go (inr none) m = sym (shorter prefix path 0 none)
-        go (inl some) (inl matched) = absurd (last-low short inner outer differ some matched)
-        go (inl some) (inr unmatched) = and-no-right (ltb 0 (length prefix)) unmatched
+        go : (matches prefix path ≡ true) ⊎ (matches prefix path ≡ false) → (ltb 0 (length prefix) && matches prefix path) ≡ false
+        go (inl matched) = absurd (unlike (rw (← e) (first-units short matched)))
+        go (inr unmatched) = and-no-right (ltb 0 (length prefix)) unmatched
 
 -- the loop that finds the longest match
 module _ (raw path : List ℕ) (i : ℕ) (best : Found) (n : ℕ) where

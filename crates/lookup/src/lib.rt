@@ -3,6 +3,7 @@ ghost use mathlib.Core.Path.{_≡_};
 ghost use mathlib.Core.Bool.{true, false};
 ghost use Prim.Native.Nat.{_+_, _/_, _≤_, _<_};
 ghost use lib.ListN.{length};
+ghost use Rattle.unc.specs.Names.{SameWithin};
 ghost use Rattle.places.specs.Layout.{placeAt};
 ghost use Rattle.caches.specs.Memory.{referrals, domains, placeOf, decode, encode, inOrder};
 ghost use Rattle.lookup.specs.Lookup.{longerMatch, longestMatch, withKey, entryAt, age, expired, firstFreeFrom, placeAge, oldest, newPlace, targetPath, targetOpens, dcName, targetHinted, dcHinted};
@@ -16,20 +17,21 @@ pub enum Found {
     Nothing,
 }
 
-// The last unit of a prefix of so many units; that of the path where the prefix is none or longer.
-fn last_unit(units: usize, path: usize) -> usize
-    requires { ⌜ 0 < path ⌝ }
-    ensures { λ r. ⌜ (r < path) × (((0 < units) → (units ≤ path) → r + 1 ≡ units) × (path ≤ units → r + 1 ≡ path)) ⌝ }
+// Whether unit k, or the one before it, differs in its five low bits, which equal units have in common.
+fn unlike(a: &[u16], b: &[u16], k: usize) -> bool
+    requires { ⌜ (k < length (now a)) × (k < length (now b)) ⌝ }
+    ensures { λ r. ⌜ (r ≡ true → SameWithin (now (a .entry)) (now (b .entry)) 0 (k + 1) → ⊥) ⌝ }
 {
-    let k = std::num::wrapping_sub_usize(units, 1);
-    if k < path {
-        return k;
+    if a[k] % 32 != b[k] % 32 {
+        return true;
     }
-    path - 1
+    if k == 0 {
+        return false;
+    }
+    a[k - 1] % 32 != b[k - 1] % 32
 }
 
-// Whether the prefix of place i cannot match by its last unit: the five low bits of equal units are the same. Paths of one namespace begin alike, so that this
-// one test tells most of them apart.
+// Whether the prefix of place i cannot match by its last units. Paths of one namespace begin alike, so that these tell most of them apart.
 fn ends_unlike(cache: &[u16], i: usize, path: &[u16]) -> bool
     requires { ⌜ i < length (now cache) / 2336 ⌝ }
     ensures { λ r. ⌜ (r ≡ true → longerMatch (now (path .entry)) 0 (placeOf referrals (placeAt i (now (cache .entry)))) ≡ false) ⌝ }
@@ -41,9 +43,17 @@ fn ends_unlike(cache: &[u16], i: usize, path: &[u16]) -> bool
     if ROOM < n {
         return false;
     }
-    let k = last_unit(places::unit(cache, i, 0) as usize, n);
+    let units = places::unit(cache, i, 0) as usize;
     let room = places::room(cache, i, 0);
-    room[k] % 32 != path[k] % 32
+    // the same units at every place of this length
+    if units == n {
+        return unlike(room, path, n - 1);
+    }
+    let k = std::num::wrapping_sub_usize(units, 1);
+    if k < n {
+        return unlike(room, path, k);
+    }
+    false
 }
 
 // Whether the prefix of place i has more units than `units` and matches the path.

@@ -1,6 +1,6 @@
 -- Laws of names compared by parts, in any order: what is known of the units from a place up to another.
 use mathlib.Core.Path.{_≡_, refl, sym, ap, _∙_}
-use mathlib.Core.Bool.{Bool, true, false, not, true≢false}
+use mathlib.Core.Bool.{Bool, true, false, true≢false}
 use mathlib.Core.List.{List, [], _∷_}
 use mathlib.Core.Logic.{_⊎_, inl, inr}
 use Prim.Native.Nat.{ℕ, zero, suc, _+_, _≤_, _<_, _%_}
@@ -9,13 +9,13 @@ use native.Mathlib.Omega.{arith}
 use lib.Bits.{bitOr, bitXor, or-add-and, xor-add-and, and-le-l, and-le-r}
 use lib.Dec.{eqb}
 use lib.ListN.{length, getD}
-use borrow.Author.Tests.{eqb-true, eq-eqb}
+use borrow.Author.Tests.{eqb-true}
 use Rattle.laws.proofs.Choices.{and-left, and-right, and-both}
 use Rattle.laws.proofs.Orders.{told, lt-or-le}
 use Rattle.unc.specs.Names.{folded, sameUnit, sameName, SameWithin}
 use Rattle.unc.proofs.NameLaws.{folded-below, folded-above, folded-letter, sameUnit-refl}
 
-sameName-at : (s t : List ℕ) → sameName s t ≡ true → (k : ℕ) → k < length s → sameUnit (getD s k 0) (getD t k 0) ≡ true
+pub sameName-at : (s t : List ℕ) → sameName s t ≡ true → (k : ℕ) → k < length s → sameUnit (getD s k 0) (getD t k 0) ≡ true
 unfolding sameName
 sameName-at [] t h k u = absurd (omega arith)
 sameName-at (a ∷ s) [] h k u = absurd (true≢false (sym h))
@@ -99,9 +99,5 @@ sameUnit-low : (x y : ℕ) → sameUnit x y ≡ true → x % 32 ≡ y % 32
 unfolding sameUnit
 sameUnit-low x y h = sym (folded-low x) ∙ (ap (λ (n : ℕ). n % 32) (eqb-true (folded x) (folded y) h) ∙ folded-low y)
 
-pub sameName-low : (s t : List ℕ) (i : ℕ) → i < length s → not (eqb (getD s i 0 % 32) (getD t i 0 % 32)) ≡ true → sameName s t ≡ false
-sameName-low s t i u h = unlike-at s t i refl (go (told _)) u
-  where
-    go : (sameUnit (getD s i 0) (getD t i 0) ≡ true) ⊎ (sameUnit (getD s i 0) (getD t i 0) ≡ false) → sameUnit (getD s i 0) (getD t i 0) ≡ false
-    go (inl e) = absurd (true≢false (sym h ∙ ap not (eq-eqb _ _ (sameUnit-low _ _ e))))
-    go (inr e) = e
+pub within-low : (s t : List ℕ) {from to : ℕ} (k : ℕ) → (getD s k 0 % 32 ≡ getD t k 0 % 32 → ⊥) → from ≤ k → k < to → SameWithin s t from to → ⊥
+within-low s t k h u v p = h (sameUnit-low _ _ (p .at k u v))

@@ -91,18 +91,27 @@ fn find_by(cache: &[u16], path: &[u16], unlike: impl Fn(&[u16], usize) -> bool, 
     best
 }
 
-// Paths of one namespace begin alike, so that the five low bits of their last units, which equal units have in common, tell most of them apart.
+// Whether the last units differ, or those before them, in the five low bits, which equal units have in common. Paths of one namespace begin alike, so that
+// these tell most of them apart. The two are compared as one number.
+#[inline]
+fn unlike(a: &[u16], b: &[u16]) -> bool {
+    let pair = |t: &[u16]| t.last_chunk::<2>().map(|[x, y]| *x as u32 | (*y as u32) << 16);
+    matches!((pair(a), pair(b)), (Some(x), Some(y)) if (x ^ y) & 0x1f001f != 0)
+}
+
+// The same tests in the same order as the proved look-up.
 #[inline]
 fn find_with(cache: &[u16], path: &[u16], same: impl Fn(&[u16], &[u16]) -> bool) -> Option<usize> {
-    if path.is_empty() || path.len() > ROOM {
+    if path.len() > ROOM {
         return find_by(cache, path, |_, _| false, same);
     }
-    let end = path.len() - 1;
-    let unlike = |p: &[u16], n: usize| {
-        let k = n.wrapping_sub(1).min(end);
-        (p[HEAD + k] ^ path[k]) % 32 != 0
+    let ends_unlike = |p: &[u16], n: usize| {
+        if n == path.len() {
+            return unlike(&p[HEAD..HEAD + n], path);
+        }
+        n < path.len() && unlike(&p[HEAD..HEAD + n], &path[..n])
     };
-    find_by(cache, path, unlike, same)
+    find_by(cache, path, ends_unlike, same)
 }
 
 pub fn find(cache: &[u16], path: &[u16]) -> Option<usize> {
@@ -113,7 +122,7 @@ pub fn find_in_blocks(cache: &[u16], path: &[u16]) -> Option<usize> {
     find_with(cache, path, super::names::same_in_blocks)
 }
 
-/// The same with the test for an equal length first: fast where the path is itself a prefix, and slow where it lies below one.
+/// An equal length first, then the last unit; of a shorter prefix first what follows it in the path.
 pub fn find_equal_first(cache: &[u16], path: &[u16]) -> Option<usize> {
     if path.len() > ROOM {
         return find_by(cache, path, |_, _| false, same_called);
@@ -135,6 +144,54 @@ pub fn find_equal_first(cache: &[u16], path: &[u16]) -> Option<usize> {
                 best = Some(i);
                 units = n;
             }
+        }
+    }
+    best
+}
+
+#[inline]
+fn ends_alike(p: &[u16], path: &[u16]) -> bool {
+    let n = path.len();
+    p[0] as usize == n && !unlike(&p[HEAD..HEAD + n], path)
+}
+
+/// An equal prefix in a pass of its own, four places a turn; the shorter ones after it.
+pub fn find_equal_pass(cache: &[u16], path: &[u16]) -> Option<usize> {
+    let n = path.len();
+    if n > ROOM || n < 2 {
+        return find(cache, path);
+    }
+    let fours = cache.chunks_exact(4 * PLACE);
+    let rest = fours.remainder();
+    let mut i = 0;
+    for four in fours {
+        for k in 0..4 {
+            let p = &four[k * PLACE..(k + 1) * PLACE];
+            if ends_alike(p, path) && same_called(&p[HEAD..HEAD + n], path) {
+                return Some(i + k);
+            }
+        }
+        i += 4;
+    }
+    for p in rest.chunks_exact(PLACE) {
+        if ends_alike(p, path) && same_called(&p[HEAD..HEAD + n], path) {
+            return Some(i);
+        }
+        i += 1;
+    }
+    find_shorter(cache, path)
+}
+
+// The longest match that is shorter than the path; a call, as `same_called` is.
+#[inline(never)]
+fn find_shorter(cache: &[u16], path: &[u16]) -> Option<usize> {
+    let mut best = None;
+    let mut units = 0;
+    for (i, p) in cache.chunks_exact(PLACE).enumerate() {
+        let n = p[0] as usize;
+        if n > units && n < path.len() && path[n] == BACKSLASH && !unlike(&p[HEAD..HEAD + n], &path[..n]) && same_called(&p[HEAD..HEAD + n], &path[..n]) {
+            best = Some(i);
+            units = n;
         }
     }
     best

@@ -1,12 +1,16 @@
 -- The call that is made is the call that is due, and what is printed is its outcome.
 use mathlib.Core.Path.{_≡_, refl, sym, ap, subst, _∙_}
+use mathlib.Core.Bool.{true}
 use mathlib.Core.List.{List, []}
 use Prim.Native.Nat.{ℕ, _+_, _≤_, min}
+use native.Mathlib.Nat.{zero-add}
 use native.Mathlib.Omega.{arith}
 use lib.ListN.{length, take}
 use lib.Dec.{eqb}
 use borrow.Author.Tests.{eq-eqb, ne-eqb}
 use Rattle.laws.specs.Choice.{choose}
+use Rattle.laws.specs.Lists.{every, part}
+use Rattle.laws.proofs.Pasting.{part-pasted}
 use Rattle.laws.proofs.Choices.{choose-yes, choose-no}
 use Rattle.hexes.proofs.HexLaws.{take-least}
 use Rattle.walks.specs.declared.Walk.{Walk}
@@ -16,10 +20,12 @@ use Rattle.resolve.specs.Calls.{Answered, answered, refusalNumber, startCall, i
 use Rattle.spelling.specs.Spelling.{Put}
 use Rattle.spelling.proofs.PutLaws.{length-put}
 use Rattle.listing.proofs.EntryLaws.{put-same}
-use Rattle.printing.specs.Printed.{refusedLine}
+use Rattle.printing.specs.Printed.{refusedLine, isByte}
 use Rattle.printing.proofs.PrintedLaws.{refused-bytes, nothing-put}
+use Rattle.printing.proofs.ByteLaws.{refused-all}
 use Rattle.telling.specs.Telling.{outcomeLines}
 use Rattle.telling.proofs.TellingLaws.{outcome-bytes, taken-whole}
+use Rattle.telling.proofs.ByteLaws.{outcome-all}
 use Rattle.script.specs.Script.{after}
 use Rattle.script.specs.declared.Script.{Script}
 use Rattle.script.specs.declared.Last.the-variants.{Stopped}
@@ -121,6 +127,18 @@ made-bytes due.Io s h = told-bytes s _
 made-bytes due.Referral s h = told-bytes s _
 made-bytes due.Refusal s h = omega (arith, refused-bytes 0)
 
+told-all : (s : Script) (a : Answered) → every isByte (told s a .printed) ≡ true
+unfolding told
+told-all s a = outcome-all _ _ _ _ _
+
+made-all : (e : Due) (s : Script) (h : Lent) → every isByte (made e s h .printed) ≡ true
+unfolding made startMade ioMade referralMade every
+made-all due.None s h = refl
+made-all due.Start s h = told-all s _
+made-all due.Io s h = told-all s _
+made-all due.Referral s h = told-all s _
+made-all due.Refusal s h = refused-all 0
+
 -- and they lie in the buffer
 module _ (e : Due) (s : Script) (h : Lent) {r : Done} {refs doms texts d o : List ℕ} (m : Made (made e s h) r refs doms texts d o) (fits : 4931 ≤ length d) where
   pub made-within : r .bytes ≤ length o
@@ -128,3 +146,17 @@ module _ (e : Due) (s : Script) (h : Lent) {r : Done} {refs doms texts d o : Lis
 
   pub made-taken : r .bytes ≡ length (take (r .bytes) o)
   made-taken = taken-whole (r .bytes) o made-within
+
+  -- what is printed is taken from the buffer, and all of it is bytes
+  made-printed : take (r .bytes) o ≡ made e s h .printed
+  unfolding part
+  made-printed =
+      let b = made-bytes e s h in
+      let n : r .bytes ≡ length (made e s h .printed) = m .printed .end ∙ zero-add _ in
+      rw (n, m .printed .memory) (part-pasted d 0 (made e s h .printed) (omega arith))
+
+  pub printed-all : every isByte (take (r .bytes) o) ≡ true
+  printed-all = rw made-printed (made-all e s h)
+
+  pub printed-few : length (take (r .bytes) o) ≤ 4931
+  printed-few = rw made-printed (made-bytes e s h)

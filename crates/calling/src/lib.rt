@@ -27,7 +27,7 @@ fn no_request() -> [u8; 516]
 }
 
 // What a call gave back, printed.
-fn tell(s: Script, o: Outcome, refs: &[u16], doms: &[u16], texts: &[u16], out: &mut [u8]) -> Done
+fn tell(s: Script, o: Outcome, refs: &[u16], doms: &[u16], texts: &[u16], out: &mut [u16]) -> Done
     requires { ⌜ 4931 ≤ length (now out) ⌝ }
     ensures { λ r. ⌜ Made (told s (answered o (now (texts .entry)) [] (now (refs .entry)) (now (doms .entry)))) r (now (refs .entry)) (now (doms .entry)) (now (texts .entry)) (now (out .entry)) (now (out .exit)) ⌝ }
 {
@@ -51,7 +51,7 @@ fn tell(s: Script, o: Outcome, refs: &[u16], doms: &[u16], texts: &[u16], out: &
 }
 
 // The input is not of the form.
-fn refuse(s: Script, walk: Walk, out: &mut [u8]) -> Done
+fn refuse(s: Script, walk: Walk, out: &mut [u16]) -> Done
     requires { ⌜ 4931 ≤ length (now out) ⌝ }
     ensures { λ r. ⌜ Refused s walk r (now (out .entry)) (now (out .exit)) ⌝ }
 {
@@ -72,7 +72,7 @@ fn start(
     texts: &mut [u16],
     path: &[u16],
     boot: &[u16],
-    out: &mut [u8],
+    out: &mut [u16],
 ) -> Done
     requires { ⌜ 4931 ≤ length (now out) ⌝ }
     ensures { λ r. ⌜ Made (startMade s (lent walk (now (refs .entry)) (now (doms .entry)) (now (texts .entry)) (now (path .entry)) (now (boot .entry)) [])) r (now (refs .entry)) (now (doms .entry)) (now (texts .exit)) (now (out .entry)) (now (out .exit)) ⌝ }
@@ -101,7 +101,7 @@ fn answer_io(
     refs: &mut [u16],
     doms: &[u16],
     texts: &mut [u16],
-    out: &mut [u8],
+    out: &mut [u16],
 ) -> Done
     requires { ⌜ 4931 ≤ length (now out) ⌝ }
     ensures { λ r. ⌜ Made (ioMade s (lent walk (now (refs .entry)) (now (doms .entry)) (now (texts .entry)) [] [] [])) r (now (refs .exit)) (now (doms .entry)) (now (texts .exit)) (now (out .entry)) (now (out .exit)) ⌝ }
@@ -118,7 +118,7 @@ fn answer_referral(
     doms: &mut [u16],
     texts: &mut [u16],
     reply: &[u8],
-    out: &mut [u8],
+    out: &mut [u16],
 ) -> Done
     requires { ⌜ 4931 ≤ length (now out) ⌝ }
     ensures { λ r. ⌜ Made (referralMade s (lent walk (now (refs .entry)) (now (doms .entry)) (now (texts .entry)) [] [] (now (reply .entry)))) r (now (refs .exit)) (now (doms .exit)) (now (texts .exit)) (now (out .entry)) (now (out .exit)) ⌝ }
@@ -149,7 +149,7 @@ pub fn make(
     path: &[u16],
     boot: &[u16],
     reply: &[u8],
-    out: &mut [u8],
+    out: &mut [u16],
 ) -> Done
     requires { ⌜ 4931 ≤ length (now out) ⌝ }
     ensures { λ r. ⌜ Made (made due s (lent walk (now (refs .entry)) (now (doms .entry)) (now (texts .entry)) (now (path .entry)) (now (boot .entry)) (now (reply .entry)))) r (now (refs .exit)) (now (doms .exit)) (now (texts .exit)) (now (out .entry)) (now (out .exit)) ⌝ }

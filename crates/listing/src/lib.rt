@@ -98,7 +98,8 @@ fn listing_units(cache: &[u16]) -> usize
     n
 }
 
-fn put_path(out: &mut [u16], at: usize, key: &[u16], s: &[u16]) -> usize
+// A line of a key and a text spelled, into a lent buffer from `at` on; answers where it ends.
+pub fn put_path(out: &mut [u16], at: usize, key: &[u16], s: &[u16]) -> usize
     requires { ⌜ at + length (ended (pathLine (now key) (now s))) ≤ length (now out) ⌝ }
     ensures { λ r. ⌜ Put (now (out .entry)) at (ended (pathLine (now (key .entry)) (now (s .entry)))) (now (out .exit)) r ⌝ }
 {
@@ -108,7 +109,8 @@ fn put_path(out: &mut [u16], at: usize, key: &[u16], s: &[u16]) -> usize
     end + 1
 }
 
-fn put_number(out: &mut [u16], at: usize, key: &[u16], n: u32) -> usize
+// A line of a key and a number in decimal.
+pub fn put_number(out: &mut [u16], at: usize, key: &[u16], n: u32) -> usize
     requires { ⌜ at + length (ended (numberLine (now key) n)) ≤ length (now out) ⌝ }
     ensures { λ r. ⌜ Put (now (out .entry)) at (ended (numberLine (now (key .entry)) n)) (now (out .exit)) r ⌝ }
 {
@@ -118,7 +120,8 @@ fn put_number(out: &mut [u16], at: usize, key: &[u16], n: u32) -> usize
     end + 1
 }
 
-fn put_line(out: &mut [u16], at: usize, line: &[u16]) -> usize
+// A line as it is given.
+pub fn put_line(out: &mut [u16], at: usize, line: &[u16]) -> usize
     requires { ⌜ at + length (ended (now line)) ≤ length (now out) ⌝ }
     ensures { λ r. ⌜ Put (now (out .entry)) at (ended (now (line .entry))) (now (out .exit)) r ⌝ }
 {

@@ -7,27 +7,32 @@ ghost use Rattle.packing.specs.Packing.{kindAt};
 ghost use Rattle.printing.specs.Printed.{askLine, sizeLines, questionLines, endLines, refusedLine};
 
 // The kind by its number: 1 dc, 2 root, 3 link, 4 sysvol, else io.
-fn put_ask(out: &mut [u8], at: usize, kind: u32) -> usize
+fn put_ask(out: &mut [u16], at: usize, kind: u32) -> usize
     requires { ⌜ at + length (ended (askLine (kindAt kind))) ≤ length (now out) ⌝ }
     ensures { λ r. ⌜ Put (now (out .entry)) at (ended (askLine (kindAt kind))) (now (out .exit)) r ⌝ }
 {
     if kind == 1 {
-        return printing::put_line(out, at, b"ask=dc");
+        // ask=dc
+        return listing::put_line(out, at, &[97, 115, 107, 61, 100, 99]);
     }
     if kind == 2 {
-        return printing::put_line(out, at, b"ask=root");
+        // ask=root
+        return listing::put_line(out, at, &[97, 115, 107, 61, 114, 111, 111, 116]);
     }
     if kind == 3 {
-        return printing::put_line(out, at, b"ask=link");
+        // ask=link
+        return listing::put_line(out, at, &[97, 115, 107, 61, 108, 105, 110, 107]);
     }
     if kind == 4 {
-        return printing::put_line(out, at, b"ask=sysvol");
+        // ask=sysvol
+        return listing::put_line(out, at, &[97, 115, 107, 61, 115, 121, 115, 118, 111, 108]);
     }
-    printing::put_line(out, at, b"ask=io")
+    // ask=io
+    listing::put_line(out, at, &[97, 115, 107, 61, 105, 111])
 }
 
 // The size, but for I/O.
-fn put_size(out: &mut [u8], at: usize, kind: u32, size: u32) -> usize
+fn put_size(out: &mut [u16], at: usize, kind: u32, size: u32) -> usize
     requires { ⌜ at + length (linesText (sizeLines (kindAt kind) size)) ≤ length (now out) ⌝ }
     ensures { λ r. ⌜ Put (now (out .entry)) at (linesText (sizeLines (kindAt kind) size)) (now (out .exit)) r ⌝ }
 {
@@ -37,12 +42,13 @@ fn put_size(out: &mut [u8], at: usize, kind: u32, size: u32) -> usize
     if 4 < kind {
         return at;
     }
-    printing::put_number_line(out, at, b"size=", size)
+    // size=
+    listing::put_number(out, at, &[115, 105, 122, 101, 61], size)
 }
 
 // A question: the number of its kind, its party, the name asked, and the size.
 pub fn put_question(
-    out: &mut [u8],
+    out: &mut [u16],
     at: usize,
     kind: u32,
     party: &[u16],
@@ -53,14 +59,16 @@ pub fn put_question(
     ensures { λ r. ⌜ Put (now (out .entry)) at (questionLines (kindAt kind) (now (party .entry)) (now (name .entry)) size) (now (out .exit)) r ⌝ }
 {
     let a = put_ask(out, at, kind);
-    let b = printing::put_text_line(out, a, b"to=", party);
-    let c = printing::put_text_line(out, b, b"name=", name);
+    // to=
+    let b = listing::put_path(out, a, &[116, 111, 61], party);
+    // name=
+    let c = listing::put_path(out, b, &[110, 97, 109, 101, 61], name);
     put_size(out, c, kind, size)
 }
 
 // An end: its number, status, path and moves.
 pub fn put_end(
-    out: &mut [u8],
+    out: &mut [u16],
     at: usize,
     number: u32,
     status: u32,
@@ -70,16 +78,20 @@ pub fn put_end(
     requires { ⌜ at + length (endLines number status (now path) moves) ≤ length (now out) ⌝ }
     ensures { λ r. ⌜ Put (now (out .entry)) at (endLines number status (now (path .entry)) moves) (now (out .exit)) r ⌝ }
 {
-    let a = printing::put_number_line(out, at, b"end=", number);
-    let b = printing::put_status_line(out, a, status);
-    let c = printing::put_text_line(out, b, b"path=", path);
-    printing::put_number_line(out, c, b"moves=", moves)
+    // end=
+    let a = listing::put_number(out, at, &[101, 110, 100, 61], number);
+    let b = printing::put_status(out, a, status);
+    // path=
+    let c = listing::put_path(out, b, &[112, 97, 116, 104, 61], path);
+    // moves=
+    listing::put_number(out, c, &[109, 111, 118, 101, 115, 61], moves)
 }
 
 // A refusal by its number; 0 where the input is not of the form.
-pub fn put_refused(out: &mut [u8], at: usize, number: u32) -> usize
+pub fn put_refused(out: &mut [u16], at: usize, number: u32) -> usize
     requires { ⌜ at + length (refusedLine number) ≤ length (now out) ⌝ }
     ensures { λ r. ⌜ Put (now (out .entry)) at (refusedLine number) (now (out .exit)) r ⌝ }
 {
-    printing::put_number_line(out, at, b"refused=", number)
+    // refused=
+    listing::put_number(out, at, &[114, 101, 102, 117, 115, 101, 100, 61], number)
 }

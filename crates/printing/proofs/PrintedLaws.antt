@@ -1,19 +1,15 @@
 -- Laws of what is printed: the pieces of a line, of a question and of an end, and how many bytes they have at most.
 use mathlib.Core.Path.{_≡_, refl, sym, ap, _∙_}
-use mathlib.Core.Bool.{true, _&&_, not}
 use mathlib.Core.List.{List, [], _∷_, _++_, append-assoc, append-nil}
 use Prim.Native.Nat.{ℕ, zero, suc, _+_, _*_, _/_, _%_, _≤_, _<_}
 use native.Mathlib.Omega.{arith}
 use lib.ListN.{length, length-append}
-use lib.Dec.{leb, eqb}
-use borrow.Author.Tests.{leb-true}
 use Rattle.laws.specs.Choice.{choose}
 use Rattle.laws.specs.Lists.{pasted}
-use Rattle.laws.proofs.Choices.{and-left, and-right}
 use Rattle.laws.proofs.Pasting.{pasted-nil}
-use Rattle.spelling.specs.Spelling.{tilde, stands, digitUnit, hexUnits, spelledUnit, spelled, decimal, Put}
-use Rattle.spelling.proofs.SpellingLaws.{unit-stands, unit-escaped, length-spelled}
-use Rattle.spelling.proofs.DecimalLaws.{decimal-low, decimal-high, length-decimal}
+use Rattle.spelling.specs.Spelling.{hexUnits, spelled, decimal, Put}
+use Rattle.spelling.proofs.SpellingLaws.{length-hex, length-spelled}
+use Rattle.spelling.proofs.DecimalLaws.{length-decimal}
 use Rattle.listing.specs.Form.{pathLine, numberLine, ended, linesText}
 use Rattle.listing.proofs.FormLaws.{length-path, length-number, length-ended}
 use Rattle.listing.proofs.EntryLaws.{put-same}
@@ -22,28 +18,6 @@ use Rattle.steps.specs.declared.Kind.the-variants.{Dc, Root, Link, Sysvol, Io}
 use Rattle.packing.specs.Packing.{kindNumber, kindAt}
 use Rattle.packing.proofs.PackLaws.{kind-dc, kind-root, kind-link, kind-sysvol, kind-io}
 use Rattle.printing.specs.Printed.{askKey, toKey, nameKey, sizeKey, endKey, statusKey, pathKey, movesKey, refusedKey, askWord, askLine, statusLine, sizeLines, questionLines, endLines, refusedLine}
-
--- four digits
-pub hex-put : (u a b c d : ℕ) → a ≡ digitUnit (u / 4096 % 16) → b ≡ digitUnit (u / 256 % 16) → c ≡ digitUnit (u / 16 % 16) → d ≡ digitUnit (u % 16)
-    → {m : List ℕ} {n : ℕ} {o : List ℕ} {e : ℕ} → Put m n (a ∷ b ∷ c ∷ d ∷ []) o e → Put m n (hexUnits u) o e
-unfolding hexUnits
-hex-put u a b c d p q r s w = put-same (λ i. p i ∷ q i ∷ r i ∷ s i ∷ []) w
-
-pub length-hex : (u : ℕ) → length (hexUnits u) ≡ 4
-unfolding hexUnits
-length-hex u = refl
-
--- a unit that stands is a byte
-pub stands-byte : (u : ℕ) → stands u ≡ true → u < 256
-unfolding stands
-stands-byte u h = omega (arith, leb-true u 126 (and-left (leb u 126) (not (eqb u tilde)) (and-right (leb 33 u) (leb u 126 && not (eqb u tilde)) h)))
-
-pub unit-put : (u : ℕ) {m : List ℕ} {n : ℕ} {o : List ℕ} {e : ℕ} → stands u ≡ true → Put m n (u ∷ []) o e → Put m n (spelledUnit u) o e
-unit-put u h w = put-same (sym (unit-stands u h)) w
-
--- decimals
-pub decimal-one : (n : ℕ) {d : List ℕ} {at : ℕ} {o : List ℕ} {e : ℕ} → n < 10 → Put d at ((48 + n) ∷ []) o e → Put d at (decimal n) o e
-decimal-one n h w = put-same (sym (decimal-low n h)) w
 
 -- the pieces of a line
 pub path-parts : (key s : List ℕ) → ended (pathLine key s) ≡ key ++ (spelled s ++ (10 ∷ []))

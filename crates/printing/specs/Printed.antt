@@ -1,6 +1,8 @@
--- What the program `walk` prints: document 01, "Examples to hold it to". Texts are bytes; lines, texts and numbers are spelled as in the listing.
+-- What the program `walk` prints: document 01, "Examples to hold it to". Lines, texts and numbers are spelled as in the listing, in units that are bytes.
 use Prim.Native.Nat.{ℕ, _/_, _%_}
+use mathlib.Core.Bool.{Bool}
 use mathlib.Core.List.{List, [], _∷_, _++_}
+use lib.Dec.{ltb}
 use Rattle.spelling.specs.Spelling.{hexUnits}
 use Rattle.listing.specs.Form.{pathLine, numberLine, ended, linesText}
 use Rattle.steps.specs.declared.Kind.{Kind}
@@ -78,3 +80,7 @@ endLines number status path moves =
 -- "A refusal prints refused= and its number (0: input not of this form)"
 unfoldable pub refusedLine : ℕ → List ℕ
 refusedLine number = ended (numberLine refusedKey number)
+
+-- a unit that is written as one byte
+unfoldable pub isByte : ℕ → Bool
+isByte u = ltb u 256

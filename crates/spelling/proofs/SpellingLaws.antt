@@ -15,7 +15,7 @@ use Rattle.laws.specs.Lists.{pasted}
 use Rattle.laws.proofs.Choices.{choose-yes, choose-no, and-both, and-left, and-right, and-no-left, and-no-right}
 use Rattle.laws.proofs.Pasting.{pasted-nil}
 use Rattle.spelling.specs.Spelling.{tilde, stands, digitUnit, hexUnits, spelledUnit, spelled, Put}
-use Rattle.spelling.proofs.PutLaws.{Left, left-start, left-next, left-done, put-piece}
+use Rattle.spelling.proofs.PutLaws.{Left, left-start, left-next, left-done, put-then, put-piece}
 
 pub stands-low : (u : ℕ) → u < 33 → stands u ≡ false
 unfolding stands
@@ -75,18 +75,25 @@ unfolding spelled
 length-spelled [] = omega arith
 length-spelled (u ∷ s) = omega (arith, length-append (spelledUnit u) (spelled s), length-unit u, length-spelled s)
 
--- the four digits of an escape, as they are put together
-pub escape-put : (u a b c d : ℕ) → a ≡ digitUnit (u / 4096 % 16) → b ≡ digitUnit (u / 256 % 16) → c ≡ digitUnit (u / 16 % 16) → d ≡ digitUnit (u % 16)
-    → {m : List ℕ} {n : ℕ} {o : List ℕ} → o ≡ pasted m n (tilde ∷ a ∷ b ∷ c ∷ d ∷ []) → Put m n (tilde ∷ hexUnits u) o (n + 5)
+pub length-hex : (u : ℕ) → length (hexUnits u) ≡ 4
 unfolding hexUnits
-escape-put u a b c d p q r s {m} {n} {o} e =
-    record { memory = e ∙ ap (pasted m n) (λ i. tilde ∷ p i ∷ q i ∷ r i ∷ s i ∷ []); end = refl }
+length-hex u = refl
+
+-- four digits, as they are put together
+pub hex-put : (u a b c d : ℕ) → a ≡ digitUnit (u / 4096 % 16) → b ≡ digitUnit (u / 256 % 16) → c ≡ digitUnit (u / 16 % 16) → d ≡ digitUnit (u % 16)
+    → {m : List ℕ} {n : ℕ} {o : List ℕ} → o ≡ pasted m n (a ∷ b ∷ c ∷ d ∷ []) → Put m n (hexUnits u) o (n + 4)
+unfolding hexUnits
+hex-put u a b c d p q r s {m} {n} {o} e =
+    record { memory = e ∙ ap (pasted m n) (λ i. p i ∷ q i ∷ r i ∷ s i ∷ []); end = refl }
 
 pub put-stands : (u : ℕ) {m : List ℕ} {n : ℕ} {o : List ℕ} → stands u ≡ true → o ≡ pasted m n (u ∷ []) → Put m n (spelledUnit u) o (n + 1)
 put-stands u {m} {n} {o} h e = record { memory = e ∙ ap (pasted m n) (sym (unit-stands u h)); end = ap (λ (x : ℕ). n + x) (sym (length-stands u h)) }
 
-pub put-escaped : (u : ℕ) {m : List ℕ} {n : ℕ} {o : List ℕ} → stands u ≡ false → Put m n (tilde ∷ hexUnits u) o (n + 5) → Put m n (spelledUnit u) o (n + 5)
-put-escaped u {m} {n} {o} h w = record { memory = w .memory ∙ ap (pasted m n) (sym (unit-escaped u h)); end = ap (λ (x : ℕ). n + x) (sym (length-escaped u h)) }
+pub put-escaped : (u : ℕ) {m : List ℕ} {n : ℕ} {o t : List ℕ} {e : ℕ} → stands u ≡ false → n + length (spelledUnit u) ≤ length m
+    → t ≡ pasted m n (tilde ∷ []) → Put t (n + 1) (hexUnits u) o e → Put m n (spelledUnit u) o e
+put-escaped u {m} {n} h f k w =
+    let x = unit-escaped u h in
+    rw x (put-then m n (tilde ∷ []) (hexUnits u) (put-piece k) w (rw x at f))
 
 -- over the units of a text
 pub spelled-cons : (s : List ℕ) (i : ℕ) → i < length s → spelled (drop i s) ≡ spelledUnit (getD s i 0) ++ spelled (drop (i + 1) s)

@@ -27,16 +27,18 @@ fn digit(d: u16) -> u16
     55 + d
 }
 
-fn put_escape(out: &mut [u16], at: usize, u: u16)
-    requires { ⌜ at + 5 ≤ length (now out) ⌝ }
-    ensures { λ r. ⌜ Put (now (out .entry)) at (tilde ∷ hexUnits u) (now (out .exit)) (at + 5) ⌝ }
+// Four hex digits into a lent buffer from `at` on; answers where they end.
+pub fn put_hex(out: &mut [u16], at: usize, u: u16) -> usize
+    requires { ⌜ at + 4 ≤ length (now out) ⌝ }
+    ensures { λ r. ⌜ Put (now (out .entry)) at (hexUnits u) (now (out .exit)) r ⌝ }
 {
     let a = digit(u / 4096 % 16);
     let b = digit(u / 256 % 16);
     let c = digit(u / 16 % 16);
     let d = digit(u % 16);
-    let units = [TILDE, a, b, c, d];
+    let units = [a, b, c, d];
     rooms::copy_units(out, at, &units);
+    at + 4
 }
 
 fn put_unit(out: &mut [u16], at: usize, u: u16) -> usize
@@ -47,8 +49,8 @@ fn put_unit(out: &mut [u16], at: usize, u: u16) -> usize
         rooms::put_unit(out, at, u);
         return at + 1;
     }
-    put_escape(out, at, u);
-    at + 5
+    rooms::put_unit(out, at, TILDE);
+    put_hex(out, at + 1, u)
 }
 
 // A text spelled into a lent buffer from `at` on; answers where it ends.

@@ -1,7 +1,10 @@
 // Standard input and output of the program `walk`: a piece of the input read, a call made and its lines written. No contract can say what is read or written.
 ghost use mathlib.Core.Path.{_≡_};
+ghost use mathlib.Core.Bool.{true};
 ghost use Prim.Native.Nat.{_≤_};
 ghost use lib.ListN.{length};
+ghost use Rattle.laws.specs.Lists.{every, pasted};
+ghost use Rattle.printing.specs.Printed.{isByte};
 ghost use Rattle.calling.specs.Calling.{lent, made};
 ghost use Rattle.stream.specs.Stream.{Leaves, Next};
 use calling::Done;
@@ -12,10 +15,39 @@ use script::Script;
 use walks::Walk;
 
 // Memory for what a call prints.
-fn out_memory() -> [u8; 4931]
+fn out_memory() -> [u16; 4931]
     ensures { λ r. ⌜ 4931 ≡ length r ⌝ }
 {
     [0; 4931]
+}
+
+// Memory for its bytes.
+fn byte_memory() -> [u8; 4931]
+    ensures { λ r. ⌜ 4931 ≡ length r ⌝ }
+{
+    [0; 4931]
+}
+
+// Units that are bytes, as bytes.
+fn narrow(units: &[u16], bytes: &mut [u8])
+    requires { ⌜ (length (now units) ≤ length (now bytes)) × (every isByte (now units) ≡ true) ⌝ }
+    ensures { λ r. ⌜ now (bytes .exit) ≡ pasted (now (bytes .entry)) 0 (now (units .entry)) ⌝ }
+{
+    let mut i = 0;
+    while i < units.len() {
+        bytes[i] = units[i] as u8;
+        i += 1;
+    }
+}
+
+// Writes what a call prints.
+fn write(units: &[u16])
+    requires { ⌜ (length (now units) ≤ 4931) × (every isByte (now units) ≡ true) ⌝ }
+{
+    let n = units.len();
+    let mut bytes = byte_memory();
+    narrow(units, &mut bytes);
+    io::write_all(STDOUT_FILENO, &bytes[..n]);
 }
 
 // Reads a piece of the input, and answers how many bytes came.
@@ -68,6 +100,6 @@ pub fn call(
     let mut out = out_memory();
     let d = calling::make(due, s, walk, refs, doms, texts, path, boot, reply, &mut out);
     let n = d.bytes;
-    io::write_all(STDOUT_FILENO, &out[..n]);
+    write(&out[..n]);
     d
 }

@@ -1,3 +1,4 @@
 -- Laws of what is printed after a call.
 pub mod TellingLaws
 pub mod OneLaws
+pub mod ByteLaws

@@ -12,7 +12,7 @@ fn put_waiting(
     doms: &[u16],
     walk: Walk,
     texts: &[u16],
-    out: &mut [u8],
+    out: &mut [u16],
     at: usize,
 ) -> usize
     requires { ⌜ at + 2597 ≤ length (now out) ⌝ }
@@ -36,7 +36,7 @@ fn put_waiting(
 }
 
 // The end; nothing where the walk has not ended.
-fn put_ended(walk: Walk, texts: &[u16], out: &mut [u8], at: usize) -> usize
+fn put_ended(walk: Walk, texts: &[u16], out: &mut [u16], at: usize) -> usize
     requires { ⌜ at + 2334 ≤ length (now out) ⌝ }
     ensures { λ r. ⌜ Put (now (out .entry)) at (endedLines walk (now (texts .entry))) (now (out .exit)) r ⌝ }
 {
@@ -59,7 +59,7 @@ pub fn put_outcome(
     doms: &[u16],
     walk: Walk,
     texts: &[u16],
-    out: &mut [u8],
+    out: &mut [u16],
 ) -> usize
     requires { ⌜ 4931 ≤ length (now out) ⌝ }
     ensures { λ r. ⌜ Put (now (out .entry)) 0 (outcomeLines number (now (refs .entry)) (now (doms .entry)) walk (now (texts .entry))) (now (out .exit)) r ⌝ }

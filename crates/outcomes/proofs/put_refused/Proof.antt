@@ -9,19 +9,19 @@ use borrow.Author.Needs.{needs}
 use Rattle.outcomes.proofs.put_refused.Statement.{statement}
 use Rattle.outcomes.proofs.put_refused.Tie as tie
 
-slice-aggregate-put-number-line : tie.Need-slice-aggregate-put-number-line
-slice-aggregate-put-number-line c = search needs
+slice-aggregate-put-number : tie.Need-slice-aggregate-put-number
+slice-aggregate-put-number c = search needs
 
-put-number-line-requires : tie.Need-put-number-line-requires
-put-number-line-requires c κs = omega (arith, ap (λ (x : List ℕ). length x) (refused-parts (c .before .before .before .args .number)))
+put-number-requires : tie.Need-put-number-requires
+put-number-requires c κs = omega (arith, ap (λ (x : List ℕ). length x) (refused-parts (c .before .before .before .args .number)))
 
 same-length : tie.Need-same-length
 same-length c = search needs
 
 returns : tie.Need-returns
-returns c = put-same (refused-parts (c .before .before .before .before .before .before .args .number)) (c .before .before .put-number-line .ensures)
+returns c = put-same (refused-parts (c .before .before .before .before .before .before .args .number)) (c .before .before .put-number .ensures)
 
 pub put-refused-spec : {M : Type 1} → statement M
 put-refused-spec =
     tie.close
-    (tie.spec slice-aggregate-put-number-line put-number-line-requires same-length returns)
+    (tie.spec slice-aggregate-put-number put-number-requires same-length returns)

@@ -16,17 +16,17 @@ returns c = nothing-put _ _ (no-size (c .before .before .args .kind) (c .before 
 returns-2 : tie.Need-returns-2
 returns-2 c = nothing-put _ _ (no-size (c .before .before .before .args .kind) (c .before .before .before .args .size) (λ h. omega arith) (λ h. omega arith) (λ h. omega arith) (λ h. omega arith))
 
-slice-aggregate-put-number-line : tie.Need-slice-aggregate-put-number-line
-slice-aggregate-put-number-line c = search needs
+slice-aggregate-put-number : tie.Need-slice-aggregate-put-number
+slice-aggregate-put-number c = search needs
 
-put-number-line-requires : tie.Need-put-number-line-requires
-put-number-line-requires c κs = omega (arith, ap (λ (x : List ℕ). length x) (size-line (c .before .before .before .before .before .args .kind) (c .before .before .before .before .before .args .size) (omega arith) (omega arith)))
+put-number-requires : tie.Need-put-number-requires
+put-number-requires c κs = omega (arith, ap (λ (x : List ℕ). length x) (size-line (c .before .before .before .before .before .args .kind) (c .before .before .before .before .before .args .size) (omega arith) (omega arith)))
 
 same-length : tie.Need-same-length
 same-length c = search needs
 
 returns-3 : tie.Need-returns-3
-returns-3 c = put-same (size-line (c .before .before .before .before .before .before .before .before .args .kind) (c .before .before .before .before .before .before .before .before .args .size) (omega arith) (omega arith)) (c .before .before .put-number-line .ensures)
+returns-3 c = put-same (size-line (c .before .before .before .before .before .before .before .before .args .kind) (c .before .before .before .before .before .before .before .before .args .size) (omega arith) (omega arith)) (c .before .before .put-number .ensures)
 
 pub put-size-spec : {M : Type 1} → statement M
 put-size-spec =
@@ -34,7 +34,7 @@ put-size-spec =
     (tie.spec
     returns
     returns-2
-    slice-aggregate-put-number-line
-    put-number-line-requires
+    slice-aggregate-put-number
+    put-number-requires
     same-length
     returns-3)

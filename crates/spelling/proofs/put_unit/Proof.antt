@@ -20,17 +20,20 @@ same-length c = search needs
 returns : tie.Need-returns
 returns c = put-stands _ (sym (c .before .before .before .before .before .stands .ensures) ∙ c .before .before .before .before .if1 .taken) (c .before .before .put-unit .ensures)
 
-put-escape-requires : tie.Need-put-escape-requires
-put-escape-requires c κs = omega (arith, length-escaped _ (sym (c .before .before .stands .ensures) ∙ c .before .if1 .left))
+put-unit-requires-2 : tie.Need-put-unit-requires-2
+put-unit-requires-2 c κs = omega (arith, length-escaped _ (sym (c .before .before .stands .ensures) ∙ c .before .if1 .left))
 
-add-result-2 : tie.Need-add-result-2
-add-result-2 c = search needs
+add-put-hex : tie.Need-add-put-hex
+add-put-hex c = search needs
+
+put-hex-requires : tie.Need-put-hex-requires
+put-hex-requires c κs = omega (arith, length-escaped _ (sym (c .before .before .before .before .before .before .stands .ensures) ∙ c .before .before .before .before .before .if1 .left))
 
 same-length-2 : tie.Need-same-length-2
 same-length-2 c = search needs
 
 returns-2 : tie.Need-returns-2
-returns-2 c = put-escaped _ (sym (c .before .before .before .before .before .stands .ensures) ∙ c .before .before .before .before .if1 .left) (c .before .before .put-escape .ensures)
+returns-2 c = put-escaped _ (sym (c .before .before .before .before .before .before .before .before .before .stands .ensures) ∙ c .before .before .before .before .before .before .before .before .if1 .left) (c .before .before .before .before .before .before .before .before .before .before .before .pre) (c .before .before .before .before .before .before .put-unit2 .ensures) (c .before .before .put-hex .ensures)
 
 pub put-unit-spec : {M : Type 1} → statement M
 put-unit-spec =
@@ -41,7 +44,8 @@ put-unit-spec =
     add-result
     same-length
     returns
-    put-escape-requires
-    add-result-2
+    put-unit-requires-2
+    add-put-hex
+    put-hex-requires
     same-length-2
     returns-2)

@@ -1,4 +1,4 @@
-use Rattle.calling.proofs.CallingLaws.{made-within, made-taken}
+use Rattle.calling.proofs.CallingLaws.{made-within, made-taken, printed-few, printed-all}
 use native.Mathlib.Omega.{arith}
 use borrow.Author.Needs.{needs}
 use Rattle.stream.proofs.call.Statement.{statement}
@@ -16,11 +16,11 @@ make-requires c κs = search needs
 array-share-prefix-out : tie.Need-array-share-prefix-out
 array-share-prefix-out c = made-within _ _ _ (c .before .before .before .before .before .before .before .make .ensures) (omega (arith, c .before .before .before .before .before .before .before .before .before .before .before .before .out-memory .ensures))
 
-slice-aggregate-write-all : tie.Need-slice-aggregate-write-all
-slice-aggregate-write-all c = made-taken _ _ _ (c .before .before .before .before .before .before .before .before .make .ensures) (omega (arith, c .before .before .before .before .before .before .before .before .before .before .before .before .before .out-memory .ensures))
+slice-aggregate-write : tie.Need-slice-aggregate-write
+slice-aggregate-write c = made-taken _ _ _ (c .before .before .before .before .before .before .before .before .make .ensures) (omega (arith, c .before .before .before .before .before .before .before .before .before .before .before .before .before .out-memory .ensures))
 
-write-all-requires : tie.Need-write-all-requires
-write-all-requires c κs = search needs
+write-requires : tie.Need-write-requires
+write-requires c κs = (printed-few _ _ _ (c .before .before .before .before .before .before .before .before .make .ensures) (omega (arith, c .before .before .before .before .before .before .before .before .before .before .before .before .before .out-memory .ensures)), printed-all _ _ _ (c .before .before .before .before .before .before .before .before .make .ensures) (omega (arith, c .before .before .before .before .before .before .before .before .before .before .before .before .before .out-memory .ensures)))
 
 same-length : tie.Need-same-length
 same-length c = search needs
@@ -42,8 +42,8 @@ call-spec =
     slice-aggregate-make
     make-requires
     array-share-prefix-out
-    slice-aggregate-write-all
-    write-all-requires
+    slice-aggregate-write
+    write-requires
     same-length
     same-length-2
     same-length-3

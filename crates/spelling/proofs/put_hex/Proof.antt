@@ -1,7 +1,7 @@
-use Rattle.spelling.proofs.SpellingLaws.{escape-put}
+use Rattle.spelling.proofs.SpellingLaws.{hex-put}
 use borrow.Author.Needs.{needs}
-use Rattle.spelling.proofs.put_escape.Statement.{statement}
-use Rattle.spelling.proofs.put_escape.Tie as tie
+use Rattle.spelling.proofs.put_hex.Statement.{statement}
+use Rattle.spelling.proofs.put_hex.Tie as tie
 
 digit-requires : tie.Need-digit-requires
 digit-requires c κs = search needs
@@ -21,14 +21,17 @@ slice-aggregate-copy-units c = search needs
 copy-units-requires : tie.Need-copy-units-requires
 copy-units-requires c κs = search needs
 
+add-result : tie.Need-add-result
+add-result c = search needs
+
 same-length : tie.Need-same-length
 same-length c = search needs
 
 returns : tie.Need-returns
-returns c = escape-put (c .before .before .before .before .before .before .before .before .before .before .args .u) _ _ _ _ (c .before .before .before .before .before .before .before .before .digit .ensures) (c .before .before .before .before .before .before .before .digit2 .ensures) (c .before .before .before .before .before .before .digit3 .ensures) (c .before .before .before .before .before .digit4 .ensures) (c .before .before .copy-units .ensures)
+returns c = hex-put (c .before .before .before .before .before .before .before .before .before .before .args .u) _ _ _ _ (c .before .before .before .before .before .before .before .before .digit .ensures) (c .before .before .before .before .before .before .before .digit2 .ensures) (c .before .before .before .before .before .before .digit3 .ensures) (c .before .before .before .before .before .digit4 .ensures) (c .before .before .copy-units .ensures)
 
-pub put-escape-spec : {M : Type 1} → statement M
-put-escape-spec =
+pub put-hex-spec : {M : Type 1} → statement M
+put-hex-spec =
     tie.close
     (tie.spec
     digit-requires
@@ -37,5 +40,6 @@ put-escape-spec =
     digit-requires-4
     slice-aggregate-copy-units
     copy-units-requires
+    add-result
     same-length
     returns)

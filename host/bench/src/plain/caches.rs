@@ -92,9 +92,15 @@ fn find_by(cache: &[u16], path: &[u16], unlike: impl Fn(&[u16], usize) -> bool, 
 }
 
 // Whether the last units differ, or those before them, in the five low bits, which equal units have in common. Paths of one namespace begin alike, so that
-// these tell most of them apart. The two are compared as one number.
+// these tell most of them apart.
 #[inline]
 fn unlike(a: &[u16], b: &[u16]) -> bool {
+    matches!((a, b), ([.., c, x], [.., d, y]) if (x ^ y) % 32 != 0 || (c ^ d) % 32 != 0)
+}
+
+// The same, the two units as one number.
+#[inline]
+fn unlike_pair(a: &[u16], b: &[u16]) -> bool {
     let pair = |t: &[u16]| t.last_chunk::<2>().map(|[x, y]| *x as u32 | (*y as u32) << 16);
     matches!((pair(a), pair(b)), (Some(x), Some(y)) if (x ^ y) & 0x1f001f != 0)
 }
@@ -152,7 +158,7 @@ pub fn find_equal_first(cache: &[u16], path: &[u16]) -> Option<usize> {
 #[inline]
 fn ends_alike(p: &[u16], path: &[u16]) -> bool {
     let n = path.len();
-    p[0] as usize == n && !unlike(&p[HEAD..HEAD + n], path)
+    p[0] as usize == n && !unlike_pair(&p[HEAD..HEAD + n], path)
 }
 
 /// An equal prefix in a pass of its own, four places a turn; the shorter ones after it.
@@ -189,7 +195,7 @@ fn find_shorter(cache: &[u16], path: &[u16]) -> Option<usize> {
     let mut units = 0;
     for (i, p) in cache.chunks_exact(PLACE).enumerate() {
         let n = p[0] as usize;
-        if n > units && n < path.len() && path[n] == BACKSLASH && !unlike(&p[HEAD..HEAD + n], &path[..n]) && same_called(&p[HEAD..HEAD + n], &path[..n]) {
+        if n > units && n < path.len() && path[n] == BACKSLASH && !unlike_pair(&p[HEAD..HEAD + n], &path[..n]) && same_called(&p[HEAD..HEAD + n], &path[..n]) {
             best = Some(i);
             units = n;
         }

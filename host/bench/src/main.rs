@@ -85,7 +85,8 @@ struct Goals {
 impl Goals {
     fn hold(&mut self, what: String, is: f64, goal: f64, bound: f64) {
         if is > goal {
-            self.missed.push(format!("{what} {is:.2}, goal {goal:.2}, bound {bound:.2}"));
+            let bound_said = if bound.is_finite() { format!(", bound {bound:.2}") } else { String::new() };
+            self.missed.push(format!("{what} {is:.2}, goal {goal:.2}{bound_said}"));
             self.failed |= is > bound;
         }
     }
@@ -176,7 +177,7 @@ fn look_ups() -> [Times; 2] {
     })
 }
 
-// A host has one look-up for all its paths, so a plain one counts over both shapes together; its ratio in each is printed too.
+// In each shape the fastest plain look-up is the goal (decision 93); the bound is of each of them over both shapes, since a plain one may be tuned to one.
 fn hold_look_ups(goals: &mut Goals, builds: &[[Times; 2]]) {
     let least = |k: usize, way: usize| builds.iter().map(|b| b[k][way]).fold(f64::MAX, f64::min);
     let proved = [least(0, 0), least(1, 0)];
@@ -186,7 +187,11 @@ fn hold_look_ups(goals: &mut Goals, builds: &[[Times; 2]]) {
         let plain = [least(0, way + 1), least(1, way + 1)];
         let ratio = (proved[0] + proved[1]) / (plain[0] + plain[1]);
         println!("  plain, {name}: {}, {}, {}; ratios {:.2}, {:.2}, {ratio:.2}", shown(plain[0]), shown(plain[1]), shown(plain[0] + plain[1]), proved[0] / plain[0], proved[1] / plain[1]);
-        goals.hold(format!("look-up against plain, {name}"), ratio, LOOK_UP, LOOK_UP * MARGIN);
+        goals.hold(format!("look-up over both, against plain, {name}"), ratio, LOOK_UP, LOOK_UP * MARGIN);
+    }
+    for (k, (shape, _)) in SHAPES.iter().enumerate() {
+        let plain = (1..=WAYS.len()).map(|way| least(k, way)).fold(f64::MAX, f64::min);
+        goals.hold(format!("look-up, {shape}, against the fastest plain"), proved[k] / plain, LOOK_UP, f64::INFINITY);
     }
 }
 

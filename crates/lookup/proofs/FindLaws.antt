@@ -18,7 +18,7 @@ use Rattle.laws.proofs.Listed.{drop-listed, drop-listed-end, map-listed}
 use Rattle.unc.specs.Names.{sameUnit, sameName, SameWithin}
 use Rattle.unc.specs.Paths.{matches}
 use Rattle.unc.proofs.WithinLaws.{sameName-at}
-use Rattle.unc.proofs.MatchLaws.{matches-same}
+use Rattle.unc.proofs.MatchLaws.{matches-longer, matches-same}
 use Rattle.places.specs.Layout.{placeCount, placeAt, unitAt, roomAt, textAt}
 use Rattle.places.proofs.LayoutLaws.{length-room}
 use Rattle.lookup.specs.declared.Found.{Found}
@@ -80,6 +80,10 @@ module _ (raw path : List ℕ) (i : ℕ) (fits : i < length raw / 2336) where
   text-units : length prefix ≡ min (unitAt 0 (placeAt i raw)) 256
   unfolding textAt
   text-units = length-take (unitAt 0 (placeAt i raw)) (roomAt 0 (placeAt i raw)) ∙ ap (min (unitAt 0 (placeAt i raw))) (length-room raw i fits 0 (omega arith))
+
+  -- a prefix that is longer than the path
+  pub units-over : {u : ℕ} → u ≡ unitAt 0 (placeAt i raw) → u ≤ 256 → length path < u → longerMatch path 0 (placeOf referrals (placeAt i raw)) ≡ false
+  units-over e short h = longer-place (placeAt i raw) path 0 ∙ and-no-right (ltb 0 (length prefix)) (matches-longer prefix path (omega (arith, text-units)))
 
   module _ {u : ℕ} {room : List ℕ} (eu : u ≡ unitAt 0 (placeAt i raw)) (er : room ≡ roomAt 0 (placeAt i raw)) where
     text-unit : (k : ℕ) → k < u → getD prefix k 0 ≡ getD room k 0

@@ -3,13 +3,16 @@ ghost use mathlib.Core.Path.{_≡_};
 ghost use mathlib.Core.Bool.{true, false};
 ghost use Prim.Native.Nat.{_+_, _/_, _≤_, _<_};
 ghost use lib.ListN.{length};
-ghost use Rattle.unc.specs.Names.{SameWithin};
-ghost use Rattle.places.specs.Layout.{placeAt};
+ghost use Rattle.places.specs.Layout.{placeAt, unitAt, roomAt};
 ghost use Rattle.caches.specs.Memory.{referrals, domains, placeOf, decode, encode, inOrder};
 ghost use Rattle.lookup.specs.Lookup.{longerMatch, longestMatch, withKey, entryAt, age, expired, firstFreeFrom, placeAge, oldest, newPlace, targetPath, targetOpens, dcName, targetHinted, dcHinted};
 ghost use Rattle.lookup.specs.Keys.{keyIs, keyPlace};
+ghost use Rattle.lookup.specs.Ends.{LowBits, NoMatch};
 use places::PLACE;
 use places::ROOM;
+
+// The five low bits of two units, which equal units have in common.
+const LOW_BITS: u32 = 2031647;
 
 // The place of an entry, if there is one.
 pub enum Found {
@@ -17,43 +20,88 @@ pub enum Found {
     Nothing,
 }
 
-// Whether unit k, or the one before it, differs in its five low bits, which equal units have in common.
-fn unlike(a: &[u16], b: &[u16], k: usize) -> bool
-    requires { ⌜ (k < length (now a)) × (k < length (now b)) ⌝ }
-    ensures { λ r. ⌜ (r ≡ true → SameWithin (now (a .entry)) (now (b .entry)) 0 (k + 1) → ⊥) ⌝ }
+// Units k and k + 1 as one number, so that both are compared at once.
+fn two_units(s: &[u16], k: usize) -> u32
+    requires { ⌜ k + 1 < length (now s) ⌝ }
+    ensures { λ r. ⌜ LowBits (now (s .entry)) k r ⌝ }
 {
-    if a[k] % 32 != b[k] % 32 {
-        return true;
-    }
-    if k == 0 {
-        return false;
-    }
-    a[k - 1] % 32 != b[k - 1] % 32
+    s[k] as u32 + 65536 * s[k + 1] as u32
 }
 
-// Whether the prefix of place i cannot match by its last units. Paths of one namespace begin alike, so that these tell most of them apart.
-fn ends_unlike(cache: &[u16], i: usize, path: &[u16]) -> bool
-    requires { ⌜ i < length (now cache) / 2336 ⌝ }
-    ensures { λ r. ⌜ (r ≡ true → longerMatch (now (path .entry)) 0 (placeOf referrals (placeAt i (now (cache .entry)))) ≡ false) ⌝ }
+// Whether place i has a prefix of k + 2 units that cannot match by its last two. Paths of one namespace begin alike, so that these tell most of them apart.
+fn unlike(cache: &[u16], i: usize, k: usize, last: u32) -> bool
+    requires { ⌜ (i < length (now cache) / 2336) × (k + 2 ≤ 256) ⌝ }
+    ensures { λ r. ⌜ (r ≡ true → (unitAt 0 (placeAt i (now (cache .entry))) ≡ k + 2) × (LowBits (roomAt 0 (placeAt i (now (cache .entry)))) k last → ⊥)) ⌝ }
 {
-    let n = path.len();
-    if n == 0 {
+    if places::unit(cache, i, 0) as usize != k + 2 {
         return false;
     }
-    if ROOM < n {
-        return false;
-    }
-    let units = places::unit(cache, i, 0) as usize;
     let room = places::room(cache, i, 0);
-    // the same units at every place of this length
-    if units == n {
-        return unlike(room, path, n - 1);
+    (two_units(room, k) ^ last) & LOW_BITS != 0
+}
+
+// The first place from `from` on that is not unlike the path at units k and k + 1. Four places a turn, which is faster.
+fn past_unlike(cache: &[u16], from: usize, k: usize, path: &[u16]) -> usize
+    requires { ⌜ (from ≤ length (now cache) / 2336) × ((k + 2 ≤ 256) × (k + 2 ≤ length (now path))) ⌝ }
+    ensures { λ r. ⌜ (from ≤ r) × ((r ≤ length (now (cache .entry)) / 2336) × NoMatch (now (path .entry)) (now (cache .entry)) from r) ⌝ }
+{
+    let last = two_units(path, k);
+    let count = cache.len() / PLACE;
+    let mut i = from;
+    while 4 <= count - i {
+        if !unlike(cache, i, k, last) {
+            return i;
+        }
+        if !unlike(cache, i + 1, k, last) {
+            return i + 1;
+        }
+        if !unlike(cache, i + 2, k, last) {
+            return i + 2;
+        }
+        if !unlike(cache, i + 3, k, last) {
+            return i + 3;
+        }
+        i += 4;
     }
-    let k = std::num::wrapping_sub_usize(units, 1);
-    if k < n {
-        return unlike(room, path, k);
+    while i < count {
+        if !unlike(cache, i, k, last) {
+            return i;
+        }
+        i += 1;
     }
-    false
+    i
+}
+
+// The first place from `from` on whose prefix may match by its length and its last units, or the number of places. Places of one length, one after another,
+// are told apart by the same units of the path.
+fn next_alike(cache: &[u16], from: usize, path: &[u16]) -> usize
+    requires { ⌜ from ≤ length (now cache) / 2336 ⌝ }
+    ensures { λ r. ⌜ (from ≤ r) × ((r ≤ length (now (cache .entry)) / 2336) × NoMatch (now (path .entry)) (now (cache .entry)) from r) ⌝ }
+{
+    let count = cache.len() / PLACE;
+    let mut i = from;
+    while i < count {
+        let units = places::unit(cache, i, 0) as usize;
+        if ROOM < units {
+            return i;
+        }
+        if path.len() < units {
+            i += 1;
+            continue;
+        }
+        if units < 2 {
+            return i;
+        }
+        let next = past_unlike(cache, i, units - 2, path);
+        if next == count {
+            return next;
+        }
+        if places::unit(cache, next, 0) as usize == units {
+            return next;
+        }
+        i = next;
+    }
+    i
 }
 
 // Whether the prefix of place i has more units than `units` and matches the path.
@@ -61,9 +109,6 @@ fn longer_match(cache: &[u16], i: usize, path: &[u16], units: usize) -> bool
     requires { ⌜ i < length (now cache) / 2336 ⌝ }
     ensures { λ r. ⌜ r ≡ longerMatch (now (path .entry)) units (placeOf referrals (placeAt i (now (cache .entry)))) ⌝ }
 {
-    if ends_unlike(cache, i, path) {
-        return false;
-    }
     let prefix = places::text(cache, i, 0);
     if prefix.len() <= units {
         return false;
@@ -80,11 +125,15 @@ pub fn find(cache: &[u16], path: &[u16]) -> Found
     let mut units = 0;
     let mut i = 0;
     while i < count {
-        if longer_match(cache, i, path, units) {
-            best = Found::At(i);
-            units = places::text(cache, i, 0).len();
+        let next = next_alike(cache, i, path);
+        if next == count {
+            return best;
         }
-        i += 1;
+        if longer_match(cache, next, path, units) {
+            best = Found::At(next);
+            units = places::text(cache, next, 0).len();
+        }
+        i = next + 1;
     }
     best
 }

@@ -99,5 +99,5 @@ sameUnit-low : (x y : ℕ) → sameUnit x y ≡ true → x % 32 ≡ y % 32
 unfolding sameUnit
 sameUnit-low x y h = sym (folded-low x) ∙ (ap (λ (n : ℕ). n % 32) (eqb-true (folded x) (folded y) h) ∙ folded-low y)
 
-pub within-low : (s t : List ℕ) {from to : ℕ} (k : ℕ) → (getD s k 0 % 32 ≡ getD t k 0 % 32 → ⊥) → from ≤ k → k < to → SameWithin s t from to → ⊥
-within-low s t k h u v p = h (sameUnit-low _ _ (p .at k u v))
+pub within-low : (s t : List ℕ) {from to : ℕ} (k : ℕ) → from ≤ k → k < to → SameWithin s t from to → getD s k 0 % 32 ≡ getD t k 0 % 32
+within-low s t k u v p = sameUnit-low _ _ (p .at k u v)

@@ -154,16 +154,15 @@ fn order_tests(goals: &mut Goals) {
 }
 
 /// The plain look-ups.
-const WAYS: [(&str, fn(&[u16], &[u16]) -> Option<usize>); 5] = [
+const WAYS: [(&str, fn(&[u16], &[u16]) -> Option<usize>); 4] = [
     ("the same tests, names by the C library", plain::caches::find),
     ("the same tests, names in blocks", plain::caches::find_in_blocks),
-    ("equal length first", plain::caches::find_equal_first),
     ("equal prefix in a pass of its own", plain::caches::find_equal_pass),
-    ("every unit folded", plain::caches::find_folding),
+    ("the same tests, every unit folded", plain::caches::find_folding),
 ];
 
 /// Nanoseconds of a look-up: the proved one, then the plain ones.
-type Times = [f64; 6];
+type Times = [f64; WAYS.len() + 1];
 
 // In each shape.
 fn look_ups() -> [Times; 2] {
@@ -199,8 +198,9 @@ fn hold_look_ups(goals: &mut Goals, builds: &[[Times; 2]]) {
 fn other_builds(file: &str) -> Vec<[Times; 2]> {
     let text = std::fs::read_to_string(file).unwrap();
     let ns: Vec<f64> = text.lines().filter_map(|l| l.strip_prefix("ns ")).flat_map(|l| l.split(' ').map(|n| n.parse().unwrap())).collect();
-    assert!(!ns.is_empty() && ns.len() % 12 == 0, "{file} has the times of no other build");
-    ns.chunks_exact(12).map(|b| [b[..6].try_into().unwrap(), b[6..].try_into().unwrap()]).collect()
+    let n = WAYS.len() + 1;
+    assert!(!ns.is_empty() && ns.len() % (2 * n) == 0, "{file} has the times of no other build");
+    ns.chunks_exact(2 * n).map(|b| [b[..n].try_into().unwrap(), b[n..].try_into().unwrap()]).collect()
 }
 
 struct Start<'a> {

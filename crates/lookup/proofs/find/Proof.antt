@@ -7,6 +7,7 @@ use native.Mathlib.Omega.{arith}
 use Rattle.caches.specs.Memory.{referrals, decode}
 use Rattle.lookup.specs.Lookup.{longestMatch, longestFrom}
 use Rattle.lookup.proofs.FindLaws.{find-start, find-hit, find-miss, find-end}
+use Rattle.lookup.proofs.EndLaws.{find-past}
 use borrow.Author.Needs.{needs}
 use Rattle.lookup.proofs.find.Statement.{statement}
 use Rattle.lookup.proofs.find.Tie as tie
@@ -22,6 +23,15 @@ abbrev μ-loop : tie.MeasureT-loop
 loop-holds : tie.Need-loop-holds Inv-loop μ-loop
 loop-holds c = (search needs, find-start _ _)
 
+next-alike-requires : tie.Need-next-alike-requires Inv-loop μ-loop
+next-alike-requires c κs = search needs
+
+returns : tie.Need-returns Inv-loop μ-loop
+returns c =
+    let past = c .before .next-alike .ensures in
+    sym (c .before .before .before .loop .inv .1
+    ∙ (find-past _ _ _ _ _ _ (past .0) (past .1 .0) (past .1 .1) ∙ find-end _ _ _ _ _ (omega arith)))
+
 longer-match-requires : tie.Need-longer-match-requires Inv-loop μ-loop
 longer-match-requires c κs = search needs
 
@@ -35,17 +45,19 @@ loop-less : tie.Need-loop-less Inv-loop μ-loop
 loop-less c = search needs
 
 loop-again : tie.Need-loop-again Inv-loop μ-loop
-loop-again c = (
-  search needs,
-  c .before .before .before .loop .inv .1
-      ∙ ⊎-elim
-      (λ w. find-hit _ _ _ _ _ (c .before .longer-match .ensures) (w .0 .taken) (w .2) (w .1 .ensures) (w .3) (omega arith))
-      (λ w. find-miss _ _ _ _ _ (c .before .longer-match .ensures) (w .0 .left) (w .1) (w .2) (omega arith))
-      (c .if1 .came),
-)
+loop-again c =
+    let past = c .before .before .before .next-alike .ensures in (
+      search needs,
+      c .before .before .before .before .before .loop .inv .1
+          ∙ (find-past _ _ _ _ _ _ (past .0) (past .1 .0) (past .1 .1)
+          ∙ ⊎-elim
+          (λ w. find-hit _ _ _ _ _ (c .before .longer-match .ensures) (w .0 .taken) (w .2) (w .1 .ensures) (w .3) (omega arith))
+          (λ w. find-miss _ _ _ _ _ (c .before .longer-match .ensures) (w .0 .left) (w .1) (w .2) (omega arith))
+          (c .if2 .came)),
+    )
 
-returns : tie.Need-returns Inv-loop μ-loop
-returns c = sym (c .before .loop .inv .1 ∙ find-end _ _ _ _ _ (omega arith))
+returns-2 : tie.Need-returns-2 Inv-loop μ-loop
+returns-2 c = sym (c .before .loop .inv .1 ∙ find-end _ _ _ _ _ (omega arith))
 
 pub find-spec : {M : Type 1} → statement M
 find-spec =
@@ -54,9 +66,11 @@ find-spec =
     Inv-loop
     μ-loop
     loop-holds
+    next-alike-requires
+    returns
     longer-match-requires
     text-requires
     add-i
     loop-less
     loop-again
-    returns)
+    returns-2)

@@ -1,5 +1,5 @@
 //! The order test and the look-ups.
-use super::names::{good_name, path_components, same, same_called, BACKSLASH};
+use super::names::{good_name, path_components, same, BACKSLASH};
 use dfsc::PLACE_UNITS as PLACE;
 
 pub const HEAD: usize = 32;
@@ -73,138 +73,94 @@ pub fn domains_in_order(cache: &[u16]) -> bool {
     in_order(cache, good_domain)
 }
 
-/// The place whose prefix is the longest that matches the path, of those that are not told apart by `unlike`.
+// The last two units as one number.
 #[inline]
-fn find_by(cache: &[u16], path: &[u16], unlike: impl Fn(&[u16], usize) -> bool, same: impl Fn(&[u16], &[u16]) -> bool) -> Option<usize> {
-    let mut best = None;
-    let mut units = 0;
-    for (i, p) in cache.chunks_exact(PLACE).enumerate() {
-        let n = p[0] as usize;
-        if unlike(p, n) {
+fn last_two(t: &[u16]) -> u32 {
+    t.last_chunk::<2>().map_or(0, |[x, y]| *x as u32 | (*y as u32) << 16)
+}
+
+// Whether two units differ in the five low bits, which equal units have in common.
+#[inline]
+fn unlike(a: u32, b: u32) -> bool {
+    (a ^ b) & 0x1f001f != 0
+}
+
+// How many places, from the first on, pass a test; four a turn.
+#[inline]
+fn while_all(cache: &[u16], test: impl Fn(&[u16]) -> bool) -> usize {
+    let fours = cache.chunks_exact(4 * PLACE);
+    let rest = fours.remainder();
+    let mut i = 0;
+    for four in fours {
+        for k in 0..4 {
+            if !test(&four[k * PLACE..(k + 1) * PLACE]) {
+                return i + k;
+            }
+        }
+        i += 4;
+    }
+    i + rest.chunks_exact(PLACE).take_while(|p| test(p)).count()
+}
+
+/// The place whose prefix is the longest that matches the path. Places of one length, one after another, are told apart by their last two units: those of
+/// the path are read once for all of them.
+#[inline]
+fn find_with(cache: &[u16], path: &[u16], same: impl Fn(&[u16], &[u16]) -> bool) -> Option<usize> {
+    let count = cache.len() / PLACE;
+    let (mut best, mut units, mut i) = (None, 0, 0);
+    while i < count {
+        let n = cache[i * PLACE] as usize;
+        if n > path.len() || n > ROOM {
+            i += 1;
             continue;
         }
-        if n > units && n <= path.len() && (n == path.len() || path[n] == BACKSLASH) && same(&p[HEAD..HEAD + n], &path[..n]) {
+        if n > 1 {
+            let last = last_two(&path[..n]);
+            i += while_all(&cache[i * PLACE..], |p| p[0] as usize == n && unlike(last_two(&p[HEAD..HEAD + n]), last));
+            if i == count {
+                break;
+            }
+            if cache[i * PLACE] as usize != n {
+                continue;
+            }
+        }
+        if n > units && (n == path.len() || path[n] == BACKSLASH) && same(&cache[i * PLACE + HEAD..][..n], &path[..n]) {
+            if n == path.len() {
+                return Some(i);
+            }
             best = Some(i);
             units = n;
         }
+        i += 1;
     }
     best
 }
 
-// Whether the last units differ, or those before them, in the five low bits, which equal units have in common. Paths of one namespace begin alike, so that
-// these tell most of them apart.
-#[inline]
-fn unlike(a: &[u16], b: &[u16]) -> bool {
-    matches!((a, b), ([.., c, x], [.., d, y]) if (x ^ y) % 32 != 0 || (c ^ d) % 32 != 0)
-}
-
-// The same, the two units as one number.
-#[inline]
-fn unlike_pair(a: &[u16], b: &[u16]) -> bool {
-    let pair = |t: &[u16]| t.last_chunk::<2>().map(|[x, y]| *x as u32 | (*y as u32) << 16);
-    matches!((pair(a), pair(b)), (Some(x), Some(y)) if (x ^ y) & 0x1f001f != 0)
-}
-
-// The same tests in the same order as the proved look-up.
-#[inline]
-fn find_with(cache: &[u16], path: &[u16], same: impl Fn(&[u16], &[u16]) -> bool) -> Option<usize> {
-    if path.len() > ROOM {
-        return find_by(cache, path, |_, _| false, same);
-    }
-    let ends_unlike = |p: &[u16], n: usize| {
-        if n == path.len() {
-            return unlike(&p[HEAD..HEAD + n], path);
-        }
-        n < path.len() && unlike(&p[HEAD..HEAD + n], &path[..n])
-    };
-    find_by(cache, path, ends_unlike, same)
-}
-
+#[inline(never)]
 pub fn find(cache: &[u16], path: &[u16]) -> Option<usize> {
-    find_with(cache, path, same_called)
+    find_with(cache, path, super::names::same_alike)
 }
 
 pub fn find_in_blocks(cache: &[u16], path: &[u16]) -> Option<usize> {
     find_with(cache, path, super::names::same_in_blocks)
 }
 
-/// An equal length first, then the last unit; of a shorter prefix first what follows it in the path.
-pub fn find_equal_first(cache: &[u16], path: &[u16]) -> Option<usize> {
-    if path.len() > ROOM {
-        return find_by(cache, path, |_, _| false, same_called);
-    }
-    let unlike = |a: &[u16], b: &[u16]| matches!((a.last(), b.last()), (Some(x), Some(y)) if (x ^ y) % 32 != 0);
-    let mut best = None;
-    let mut units = 0;
-    for (i, p) in cache.chunks_exact(PLACE).enumerate() {
-        let n = p[0] as usize;
-        if n == path.len() {
-            let prefix = &p[HEAD..HEAD + n];
-            if !unlike(prefix, path) && n > units && same_called(prefix, path) {
-                best = Some(i);
-                units = n;
-            }
-        } else if n > units && n < path.len() && path[n] == BACKSLASH {
-            let prefix = &p[HEAD..HEAD + n];
-            if !unlike(prefix, &path[..n]) && same_called(prefix, &path[..n]) {
-                best = Some(i);
-                units = n;
-            }
-        }
-    }
-    best
-}
-
-#[inline]
-fn ends_alike(p: &[u16], path: &[u16]) -> bool {
-    let n = path.len();
-    p[0] as usize == n && !unlike_pair(&p[HEAD..HEAD + n], path)
-}
-
-/// An equal prefix in a pass of its own, four places a turn; the shorter ones after it.
-pub fn find_equal_pass(cache: &[u16], path: &[u16]) -> Option<usize> {
-    let n = path.len();
-    if n > ROOM || n < 2 {
-        return find(cache, path);
-    }
-    let fours = cache.chunks_exact(4 * PLACE);
-    let rest = fours.remainder();
-    let mut i = 0;
-    for four in fours {
-        for k in 0..4 {
-            let p = &four[k * PLACE..(k + 1) * PLACE];
-            if ends_alike(p, path) && same_called(&p[HEAD..HEAD + n], path) {
-                return Some(i + k);
-            }
-        }
-        i += 4;
-    }
-    for p in rest.chunks_exact(PLACE) {
-        if ends_alike(p, path) && same_called(&p[HEAD..HEAD + n], path) {
-            return Some(i);
-        }
-        i += 1;
-    }
-    find_shorter(cache, path)
-}
-
-// The longest match that is shorter than the path; a call, as `same_called` is.
-#[inline(never)]
-fn find_shorter(cache: &[u16], path: &[u16]) -> Option<usize> {
-    let mut best = None;
-    let mut units = 0;
-    for (i, p) in cache.chunks_exact(PLACE).enumerate() {
-        let n = p[0] as usize;
-        if n > units && n < path.len() && path[n] == BACKSLASH && !unlike_pair(&p[HEAD..HEAD + n], &path[..n]) && same_called(&p[HEAD..HEAD + n], &path[..n]) {
-            best = Some(i);
-            units = n;
-        }
-    }
-    best
-}
-
 pub fn find_folding(cache: &[u16], path: &[u16]) -> Option<usize> {
     find_with(cache, path, super::names::same_folding)
+}
+
+/// A prefix that is the whole path in a pass of its own, which looks at lengths last; the others after it.
+pub fn find_equal_pass(cache: &[u16], path: &[u16]) -> Option<usize> {
+    let n = path.len();
+    if (2..=ROOM).contains(&n) {
+        let last = last_two(path);
+        let equal = |p: &[u16]| !unlike(last_two(&p[HEAD..HEAD + n]), last) && p[0] as usize == n && super::names::same_alike(&p[HEAD..HEAD + n], path);
+        let i = while_all(cache, |p| !equal(p));
+        if i < cache.len() / PLACE {
+            return Some(i);
+        }
+    }
+    find(cache, path)
 }
 
 /// The place whose key is equal.

@@ -21,10 +21,21 @@ pub fn same(a: &[u16], b: &[u16]) -> bool {
     a.len() == b.len() && (a.last_chunk::<16>() == b.last_chunk::<16>() && a == b || same_units(a, b))
 }
 
-/// The same by a call: the look-up then keeps its registers for what it does at every place.
+// By calls, so that a look-up keeps its registers for what it does at every place.
 #[inline(never)]
-pub fn same_called(a: &[u16], b: &[u16]) -> bool {
-    same(a, b)
+fn equal(a: &[u16], b: &[u16]) -> bool {
+    a == b
+}
+
+#[inline(never)]
+fn same_units_called(a: &[u16], b: &[u16]) -> bool {
+    same_units(a, b)
+}
+
+/// Equal names of one length whose last units are known to be alike.
+#[inline]
+pub fn same_alike(a: &[u16], b: &[u16]) -> bool {
+    equal(a, b) || same_units_called(a, b)
 }
 
 // Whether all units are the same: a loop without an exit, of which the compiler makes vector instructions.

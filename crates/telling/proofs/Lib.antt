@@ -1,4 +1,5 @@
 -- Laws of what is printed after a call.
 pub mod TellingLaws
+pub mod PartyLaws
 pub mod OneLaws
 pub mod ByteLaws

@@ -218,7 +218,7 @@ module _ (walk : Walk) (texts : List ℕ) {rp : Shown} {op : List ℕ} (e : give
     end-printed hk = sym (end-told (given rp op) (given rk ok) hp hk) ∙ (λ i. endTold (e i) (g i))
 
 -- how many bytes there are at most
-room-units : length room ≡ 256
+pub room-units : length room ≡ 256
 unfolding room
 room-units = refl
 

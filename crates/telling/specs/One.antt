@@ -1,0 +1,35 @@
+-- Just one outcome is printed of a walk after a call that was taken: the question that waits, or the end.
+use Prim.Native.Nat.{ℕ}
+use mathlib.Core.Path.{_≡_}
+use mathlib.Core.List.{List, []}
+use mathlib.Core.Option.{some}
+use Rattle.steps.specs.Steps.{Question, Rest, waits, ended, nameAsked, endNumber}
+use Rattle.steps.specs.Rested.{cachesOf}
+use Rattle.steps.specs.declared.End.{End}
+use Rattle.walks.specs.Walks.{bootIn}
+use Rattle.walks.specs.declared.Walk.{Walk}
+use Rattle.turns.specs.Turns.{coreIn}
+use Rattle.shown.specs.Shown.{questionShown, endPath}
+use Rattle.printing.specs.Printed.{questionLines, endLines}
+use Rattle.telling.specs.Telling.{waitingLines, endedLines, outcomeLines}
+
+-- of a walk that waits: the lines of its question (kind, party as it is shown, name, size), and no end
+pub record PrintsQuestion (refs doms : List ℕ) (walk : Walk) (texts : List ℕ) (q : Question) : Type 0 where
+  pub party : List ℕ
+  pub shown : questionShown (cachesOf refs doms) (coreIn walk texts) (bootIn walk texts) q .party ≡ some party
+  pub question : waitingLines refs doms walk texts ≡ questionLines (q .kind) party (nameAsked (coreIn walk texts) q) (q .size)
+  pub not-none : waitingLines refs doms walk texts ≡ [] → ⊥
+  pub no-end : endedLines walk texts ≡ []
+  pub printed : outcomeLines 0 refs doms walk texts ≡ questionLines (q .kind) party (nameAsked (coreIn walk texts) q) (q .size)
+
+-- of one that has ended: the lines of its end (number, status, path, moves), and no question
+pub record PrintsEnd (refs doms : List ℕ) (walk : Walk) (texts : List ℕ) (e : End) (status : ℕ) (tried : List ℕ) : Type 0 where
+  pub end : endedLines walk texts ≡ endLines (endNumber e) status (endPath e (coreIn walk texts .path) tried) (walk .moves)
+  pub not-none : endedLines walk texts ≡ [] → ⊥
+  pub no-question : waitingLines refs doms walk texts ≡ []
+  pub printed : outcomeLines 0 refs doms walk texts ≡ endLines (endNumber e) status (endPath e (coreIn walk texts .path) tried) (walk .moves)
+
+-- by where it rests
+unfoldable pub PrintsOne : List ℕ → List ℕ → Walk → List ℕ → Rest → Type 0
+PrintsOne refs doms walk texts (waits q) = PrintsQuestion refs doms walk texts q
+PrintsOne refs doms walk texts (ended e status tried) = PrintsEnd refs doms walk texts e status tried

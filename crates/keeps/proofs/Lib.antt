@@ -1,6 +1,7 @@
 -- Laws.
 pub mod PrefixLaws
 pub mod CacheLaws
+pub mod FoundLaws
 pub mod CalledLaws
 pub mod RestLaws
 pub mod HintLaws

@@ -52,7 +52,7 @@ picked P false x y f g = g refl
 pub chosen : {A : Type 0} (P : A → Type 0) (b : Bool) (x y : A) → P x → P y → P (choose b x y)
 chosen P b x y f g = picked P b x y (λ t. f) (λ t. g)
 
-or-right : (a : Bool) {b : Bool} → b ≡ true → (a || b) ≡ true
+pub or-right : (a : Bool) {b : Bool} → b ≡ true → (a || b) ≡ true
 or-right true h = refl
 or-right false h = h
 

@@ -5,6 +5,7 @@ pub mod FoundLaws
 pub mod CalledLaws
 pub mod RestLaws
 pub mod HintLaws
+pub mod UseLaws
 pub mod AnswerLaws
 pub mod NamedLaws
 pub mod EventLaws

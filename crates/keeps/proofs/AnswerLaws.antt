@@ -61,7 +61,7 @@ resized path a s Sysvol n g h =
 resized path a s Io n g h = absurd (true≢false n)
 
 -- the next party of a round
-next-inside : (n place : ℕ) → 0 < n → nextPlace n place < n
+pub next-inside : (n place : ℕ) → 0 < n → nextPlace n place < n
 unfolding nextPlace
 next-inside n place h = go (lt-or-le (place + 1) n)
   where
@@ -83,7 +83,7 @@ well-empty path Sysvol = well-no-dc path pathNotFound
 well-empty path Io = well-failed path pathNotFound
 
 -- the name asked matches the path
-asked-matches : (w : Core) (q : Question) → hasTried (q .kind) ≡ false → matches (nameAsked w q) (w .path) ≡ true
+pub asked-matches : (w : Core) (q : Question) → hasTried (q .kind) ≡ false → matches (nameAsked w q) (w .path) ≡ true
 unfolding nameAsked hasTried
 asked-matches w q n = go (q .kind) n
   where
@@ -95,7 +95,7 @@ asked-matches w q n = go (q .kind) n
     go Io h = absurd (true≢false h)
 
 module _ (c : Caches) (cs : GoodCaches c) (w : Core) (q : Question) (p : Proper w (waits q)) where
-  told-q : Waiting (w .path) (q .tried) (askingOf q)
+  pub told-q : Waiting (w .path) (q .tried) (askingOf q)
   unfolding nextOf triedOf
   told-q = waiting-told (w .path) (q .tried) (askingOf q) (p .next)
 

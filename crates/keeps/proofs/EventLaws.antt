@@ -70,7 +70,7 @@ module _ (P : Turn → Type 0) where
   unfolding If
   if-some x g t h = subst P (let z : x ≡ t = cc in z) g
 
-is-io : (k : Kind) → hasTried k ≡ true → k ≡ Io
+pub is-io : (k : Kind) → hasTried k ≡ true → k ≡ Io
 unfolding hasTried
 is-io Dc h = absurd (true≢false (sym h))
 is-io Root h = absurd (true≢false (sym h))

@@ -9,6 +9,7 @@ pub mod UseLaws
 pub mod AnswerLaws
 pub mod NamedLaws
 pub mod EventLaws
+pub mod PutLaws
 pub mod BackLaws
 pub mod CallLaws
 pub mod StoreLaws

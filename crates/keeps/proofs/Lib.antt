@@ -12,4 +12,5 @@ pub mod EventLaws
 pub mod PutLaws
 pub mod BackLaws
 pub mod CallLaws
+pub mod StandLaws
 pub mod StoreLaws

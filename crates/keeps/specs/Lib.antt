@@ -1,3 +1,4 @@
 -- What the calls keep.
 pub mod Named
 pub mod Keeps
+pub mod Stands

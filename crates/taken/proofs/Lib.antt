@@ -1,0 +1,2 @@
+-- What is printed after a call that was taken.
+pub mod TakenLaws

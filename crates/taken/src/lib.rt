@@ -1,0 +1,1 @@
+// A call that is taken prints just one outcome. It has no function.

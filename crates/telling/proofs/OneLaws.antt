@@ -35,8 +35,7 @@ use Rattle.shown.specs.Shown.{Given, given, shows, showsSome, partyText, questi
 use Rattle.shown.specs.declared.Shown.{Shown}
 use Rattle.shown.specs.declared.Shown.the-variants.{Units, NotInOrder, OutOfForm, ShortBuffer, NoEntry}
 use Rattle.shown.proofs.ShownLaws.{put-whole}
-use Rattle.listing.specs.Form.{linesText, ended as lined, numberLine}
-use Rattle.printing.specs.Printed.{questionLines, endLines, askLine}
+use Rattle.printing.specs.Printed.{questionLines, endLines}
 use Rattle.printing.proofs.PrintedLaws.{kind-shown}
 use Rattle.telling.specs.Telling.{ifShown, questionTold, endTold, room, three, waitingLines, endedLines, outcomeLines}
 use Rattle.telling.specs.One.{PrintsQuestion, PrintsEnd, PrintsOne}
@@ -101,15 +100,6 @@ module _ (out nums : List ℕ) (k : 3 ≤ length nums) where
       ∙ (λ i.
       endLines (unit-back (number ∷ status ∷ moves ∷ []) nums k 0 (omega arith) i) (unit-back (number ∷ status ∷ moves ∷ []) nums k 1 (omega arith) i)
       (text-back path out p i) (unit-back (number ∷ status ∷ moves ∷ []) nums k 2 (omega arith) i))
-
--- the lines of a question and of an end are never none
-question-some : (kind : Kind) (party name : List ℕ) (size : ℕ) → questionLines kind party name size ≡ [] → ⊥
-unfolding questionLines linesText askLine lined
-question-some kind party name size h = let z : _≡_ {A = ℕ} 0 1 = cc in absurd (omega arith)
-
-end-some : (number status : ℕ) (path : List ℕ) (moves : ℕ) → endLines number status path moves ≡ [] → ⊥
-unfolding endLines linesText numberLine lined
-end-some number status path moves h = let z : _≡_ {A = ℕ} 0 1 = cc in absurd (omega arith)
 
 -- the texts of a walk in form fit the rooms
 three-long : length three ≡ 3
@@ -198,12 +188,8 @@ module _ (refs doms : List ℕ) (walk : Walk) (texts : List ℕ) (form : inForm 
         (λ i. questionTold (partyCall refs doms walk texts room) (name-at h i) (questionCall walk texts three)) ∙ none-shown (partyCall refs doms walk texts room .answer)
 
     pub ended-printed : PrintsEnd refs doms walk texts e status tried
-    ended-printed = record {
-      end = end-lines;
-      not-none = λ z. end-some _ _ _ _ (sym end-lines ∙ z);
-      no-question = no-question;
-      printed = taken-lines refs doms walk texts ∙ (λ i. no-question i ++ end-lines i);
-    }
+    unfolding PrintsEnd
+    ended-printed = taken-lines refs doms walk texts ∙ (λ i. no-question i ++ end-lines i)
 
   -- a walk that waits prints its question, over caches in order where its entry in use is there
   module _ (q : Question) (h : restIn walk texts ≡ waits q) where
@@ -242,9 +228,6 @@ module _ (refs doms : List ℕ) (walk : Walk) (texts : List ℕ) (form : inForm 
       waiting-printed = record {
         party = party .text;
         shown = party .here;
-        question = question-lines;
-        not-none = λ z. question-some _ _ _ _ (sym question-lines ∙ z);
-        no-end = no-end;
         printed = taken-lines refs doms walk texts ∙ ((λ i. question-lines i ++ no-end i) ∙ append-nil _);
       }
 

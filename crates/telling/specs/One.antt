@@ -1,7 +1,7 @@
 -- Just one outcome is printed of a walk after a call that was taken: the question that waits, or the end.
 use Prim.Native.Nat.{ℕ}
 use mathlib.Core.Path.{_≡_}
-use mathlib.Core.List.{List, []}
+use mathlib.Core.List.{List}
 use mathlib.Core.Option.{some}
 use Rattle.steps.specs.Steps.{Question, Rest, waits, ended, nameAsked, endNumber}
 use Rattle.steps.specs.Rested.{cachesOf}
@@ -11,23 +11,18 @@ use Rattle.walks.specs.declared.Walk.{Walk}
 use Rattle.turns.specs.Turns.{coreIn}
 use Rattle.shown.specs.Shown.{questionShown, endPath}
 use Rattle.printing.specs.Printed.{questionLines, endLines}
-use Rattle.telling.specs.Telling.{waitingLines, endedLines, outcomeLines}
+use Rattle.telling.specs.Telling.{outcomeLines}
 
--- of a walk that waits: the lines of its question (kind, party as it is shown, name, size), and no end
+-- of a walk that waits: the lines of its question (kind, party as it is shown, name, size)
 pub record PrintsQuestion (refs doms : List ℕ) (walk : Walk) (texts : List ℕ) (q : Question) : Type 0 where
   pub party : List ℕ
   pub shown : questionShown (cachesOf refs doms) (coreIn walk texts) (bootIn walk texts) q .party ≡ some party
-  pub question : waitingLines refs doms walk texts ≡ questionLines (q .kind) party (nameAsked (coreIn walk texts) q) (q .size)
-  pub not-none : waitingLines refs doms walk texts ≡ [] → ⊥
-  pub no-end : endedLines walk texts ≡ []
   pub printed : outcomeLines 0 refs doms walk texts ≡ questionLines (q .kind) party (nameAsked (coreIn walk texts) q) (q .size)
 
--- of one that has ended: the lines of its end (number, status, path, moves), and no question
-pub record PrintsEnd (refs doms : List ℕ) (walk : Walk) (texts : List ℕ) (e : End) (status : ℕ) (tried : List ℕ) : Type 0 where
-  pub end : endedLines walk texts ≡ endLines (endNumber e) status (endPath e (coreIn walk texts .path) tried) (walk .moves)
-  pub not-none : endedLines walk texts ≡ [] → ⊥
-  pub no-question : waitingLines refs doms walk texts ≡ []
-  pub printed : outcomeLines 0 refs doms walk texts ≡ endLines (endNumber e) status (endPath e (coreIn walk texts .path) tried) (walk .moves)
+-- of one that has ended: the lines of its end (number, status, path, moves)
+unfoldable pub PrintsEnd : List ℕ → List ℕ → Walk → List ℕ → End → ℕ → List ℕ → Type 0
+PrintsEnd refs doms walk texts e status tried =
+    outcomeLines 0 refs doms walk texts ≡ endLines (endNumber e) status (endPath e (coreIn walk texts .path) tried) (walk .moves)
 
 -- by where it rests
 unfoldable pub PrintsOne : List ℕ → List ℕ → Walk → List ℕ → Rest → Type 0

@@ -3,17 +3,18 @@ use mathlib.Core.Path.{_≡_, refl, sym, ap, _∙_}
 use mathlib.Core.Bool.{Bool, true, false, _&&_}
 use mathlib.Core.List.{List, [], _∷_, map}
 use mathlib.Core.Logic.{_⊎_, inl, inr}
-use Prim.Native.Nat.{ℕ, _+_, _/_, _≤_, _<_, min}
+use Prim.Native.Nat.{ℕ, _+_, _-_, _/_, _≤_, _<_, min}
 use native.Mathlib.Numerals.{add-one}
 use native.Mathlib.Omega.{arith}
 use lib.ListN.{length, getD, take, drop, length-take}
 use lib.Seq.{getD-take}
 use lib.Dec.{ltb, eqb}
-use borrow.Author.Tests.{eqb-true, eq-eqb, ne-eqb, le-ltb, lt-ltb}
+use borrow.Author.Tests.{eqb-true, eq-eqb, ne-eqb, le-ltb, lt-ltb, ltb-true}
 use Rattle.laws.specs.Choice.{choose}
 use Rattle.laws.specs.Listed.{listed}
-use Rattle.laws.proofs.Choices.{choose-yes, choose-no, and-no-right}
+use Rattle.laws.proofs.Choices.{choose-yes, choose-no, and-left, and-right, and-no-right}
 use Rattle.laws.proofs.Orders.{told, lt-or-le}
+use Rattle.laws.proofs.Tests.{not-both}
 use Rattle.laws.proofs.Listed.{drop-listed, drop-listed-end, map-listed}
 use Rattle.unc.specs.Names.{sameUnit, sameName, SameWithin}
 use Rattle.unc.specs.Paths.{matches}
@@ -64,13 +65,48 @@ module _ (p : List ℕ) where
     pub place-longer : {key : List ℕ} {r : Bool} → key ≡ textAt 0 p → n < length key → r ≡ matches key path → r ≡ longerMatch path n (placeOf referrals p)
     place-longer e h f = longer (textAt 0 p) path n (rw (← e) h) (f ∙ ap (λ (t : List ℕ). matches t path) e) ∙ sym (longer-place path n)
 
-    -- what is no match at all is none that is longer
-    pub place-unlike : longerMatch path 0 (placeOf referrals p) ≡ false → false ≡ longerMatch path n (placeOf referrals p)
-    place-unlike h = go (lt-or-le n (length (textAt 0 p)))
+    -- what is no match of more than m units is none of more than n
+    pub place-unlike : {m : ℕ} → m ≤ n → longerMatch path m (placeOf referrals p) ≡ false → false ≡ longerMatch path n (placeOf referrals p)
+    place-unlike {m} le h = go (lt-or-le n (length (textAt 0 p)))
       where
         go : (n < length (textAt 0 p)) ⊎ (length (textAt 0 p) ≤ n) → false ≡ longerMatch path n (placeOf referrals p)
-        go (inl l) = longer (textAt 0 p) path n l (sym (longer (textAt 0 p) path 0 (omega arith) refl ∙ (sym (longer-place path 0) ∙ h))) ∙ sym (longer-place path n)
+        go (inl l) = longer (textAt 0 p) path n l (sym (longer (textAt 0 p) path m (omega arith) refl ∙ (sym (longer-place path m) ∙ h))) ∙ sym (longer-place path n)
         go (inr l) = place-shorter refl l
+
+    -- a match of more than n units, and none of more than m
+    pub place-few : (m : ℕ) → longerMatch path n (placeOf referrals p) ≡ true → longerMatch path m (placeOf referrals p) ≡ false → length (textAt 0 p) ≤ m
+    place-few m h k = go (lt-or-le m (length (textAt 0 p)))
+      where
+        go : (m < length (textAt 0 p)) ⊎ (length (textAt 0 p) ≤ m) → length (textAt 0 p) ≤ m
+        go (inl l) =
+            absurd (not-both (and-right (ltb n (length (textAt 0 p))) _ (sym (longer-place path n) ∙ h)) (longer (textAt 0 p) path m l refl ∙ (sym (longer-place path m) ∙ k)))
+        go (inr l) = l
+
+    -- none has more units than the path
+    pub no-longer : length path ≤ n → longerMatch path n (placeOf referrals p) ≡ false
+    no-longer le = go (lt-or-le n (length (textAt 0 p)))
+      where
+        go : (n < length (textAt 0 p)) ⊎ (length (textAt 0 p) ≤ n) → longerMatch path n (placeOf referrals p) ≡ false
+        go (inl l) = longer-place path n ∙ and-no-right (ltb n (length (textAt 0 p))) (matches-longer (textAt 0 p) path (omega arith))
+        go (inr l) = sym (place-shorter refl l)
+
+-- a prefix that is the whole path
+pub record Whole (path p : List ℕ) : Type 0 where
+  pub units : length (textAt 0 p) ≡ length path
+  pub matched : matches (textAt 0 p) path ≡ true
+
+pub place-whole : (p path : List ℕ) → longerMatch path (length path - 1) (placeOf referrals p) ≡ true → 0 < length path → Whole path p
+place-whole p path h some = go (lt-or-le (length path) (length (textAt 0 p)))
+  where
+    both : (ltb (length path - 1) (length (textAt 0 p)) && matches (textAt 0 p) path) ≡ true
+    both = sym (longer-place p path (length path - 1)) ∙ h
+
+    go : (length path < length (textAt 0 p)) ⊎ (length (textAt 0 p) ≤ length path) → Whole path p
+    go (inl l) = absurd (not-both (and-right (ltb (length path - 1) (length (textAt 0 p))) _ both) (matches-longer (textAt 0 p) path l))
+    go (inr l) = record {
+      units = omega (arith, ltb-true (length path - 1) (length (textAt 0 p)) (and-left _ (matches (textAt 0 p) path) both));
+      matched = and-right (ltb (length path - 1) (length (textAt 0 p))) _ both;
+    }
 
 -- a prefix whose units are not the first ones of the path
 module _ (raw path : List ℕ) (i : ℕ) (fits : i < length raw / 2336) where
@@ -90,21 +126,29 @@ module _ (raw path : List ℕ) (i : ℕ) (fits : i < length raw / 2336) where
     unfolding textAt
     text-unit k h = getD-take (unitAt 0 (placeAt i raw)) (roomAt 0 (placeAt i raw)) k 0 (omega arith) ∙ ap (λ (t : List ℕ). getD t k 0) (sym er)
 
-    first-units : u ≤ 256 → matches prefix path ≡ true → SameWithin room path 0 u
-    first-units short h = record { at = at }
+    first-units : matches prefix path ≡ true → SameWithin room path 0 (length prefix)
+    first-units h = record { at = at }
       where
-        at : (k : ℕ) → 0 ≤ k → k < u → sameUnit (getD room k 0) (getD path k 0) ≡ true
+        at : (k : ℕ) → 0 ≤ k → k < length prefix → sameUnit (getD room k 0) (getD path k 0) ≡ true
         at k _ v =
             let z = text-units in
-            let l : k < length prefix = omega arith in
-            rw (← text-unit k v, ← getD-take (length prefix) path k 0 l) (sameName-at prefix (take (length prefix) path) (matches-same prefix path h) k l)
+            rw (← text-unit k (omega arith), ← getD-take (length prefix) path k 0 v) (sameName-at prefix (take (length prefix) path) (matches-same prefix path h) k v)
 
     pub units-unlike : {n : ℕ} → u ≤ 256 → u ≡ n → (SameWithin room path 0 n → ⊥) → longerMatch path 0 (placeOf referrals (placeAt i raw)) ≡ false
-    units-unlike short e unlike = longer-place (placeAt i raw) path 0 ∙ go (told (matches prefix path))
+    units-unlike {n} short e unlike = longer-place (placeAt i raw) path 0 ∙ go (told (matches prefix path))
       where
         go : (matches prefix path ≡ true) ⊎ (matches prefix path ≡ false) → (ltb 0 (length prefix) && matches prefix path) ≡ false
-        go (inl matched) = absurd (unlike (rw (← e) (first-units short matched)))
+        go (inl matched) = let z : length prefix ≡ n = omega (arith, text-units) in absurd (unlike (rw (← z) (first-units matched)))
         go (inr unmatched) = and-no-right (ltb 0 (length prefix)) unmatched
+
+    -- a prefix that is not the whole path
+    pub whole-unlike : 0 < length path → (SameWithin room path 0 (length path) → ⊥) → longerMatch path (length path - 1) (placeOf referrals (placeAt i raw)) ≡ false
+    whole-unlike some unlike = go (told (longerMatch path (length path - 1) (placeOf referrals (placeAt i raw))))
+      where
+        go : (longerMatch path (length path - 1) (placeOf referrals (placeAt i raw)) ≡ true) ⊎ (longerMatch path (length path - 1) (placeOf referrals (placeAt i raw)) ≡ false)
+            → longerMatch path (length path - 1) (placeOf referrals (placeAt i raw)) ≡ false
+        go (inl h) = let w : Whole path (placeAt i raw) = place-whole (placeAt i raw) path h some in absurd (unlike (rw (← w .units) (first-units (w .matched))))
+        go (inr h) = h
 
 -- the loop that finds the longest match
 module _ (raw path : List ℕ) (i : ℕ) (best : Found) (n : ℕ) where

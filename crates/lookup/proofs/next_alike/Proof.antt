@@ -10,7 +10,7 @@ use Rattle.lookup.proofs.next_alike.Statement.{statement}
 use Rattle.lookup.proofs.next_alike.Tie as tie
 
 abbrev Inv-loop : tie.InvT-loop
-Inv-loop cache from path count i₀ i = (from ≤ i) × ((i ≤ length cache / 2336) × NoMatch path cache from i)
+Inv-loop cache from path count i₀ i = (from ≤ i) × ((i ≤ length cache / 2336) × NoMatch path cache 0 from i)
 
 abbrev μ-loop : tie.MeasureT-loop
 μ-loop cache from path count i₀ i = length cache / 2336 - i

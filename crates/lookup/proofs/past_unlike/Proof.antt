@@ -9,13 +9,13 @@ use Rattle.lookup.proofs.past_unlike.Statement.{statement}
 use Rattle.lookup.proofs.past_unlike.Tie as tie
 
 abbrev Inv-loop : tie.InvT-loop
-Inv-loop cache from k path last count i₀ i = (from ≤ i) × ((i ≤ length cache / 2336) × NoMatch path cache from i)
+Inv-loop cache from k path last count i₀ i = (from ≤ i) × ((i ≤ length cache / 2336) × NoMatch path cache 0 from i)
 
 abbrev μ-loop : tie.MeasureT-loop
 μ-loop cache from k path last count i₀ i = length cache / 2336 - i
 
 abbrev Inv-loop2 : tie.InvT-loop2
-Inv-loop2 cache from k path last count i₀ i = (from ≤ i) × ((i ≤ length cache / 2336) × NoMatch path cache from i)
+Inv-loop2 cache from k path last count i₀ i = (from ≤ i) × ((i ≤ length cache / 2336) × NoMatch path cache 0 from i)
 
 abbrev μ-loop2 : tie.MeasureT-loop2
 μ-loop2 cache from k path last count i₀ i = length cache / 2336 - i

@@ -1,8 +1,7 @@
 -- Compares the length and the last two units of a prefix.
-use mathlib.Core.Path.{sym, _∙_}
+use mathlib.Core.Path.{sym}
 use mathlib.Core.Bool.{true≢false}
 use native.Mathlib.Omega.{arith}
-use Rattle.lookup.proofs.EndLaws.{low-apart}
 use borrow.Author.Needs.{needs}
 use Rattle.lookup.proofs.unlike.Statement.{statement}
 use Rattle.lookup.proofs.unlike.Tie as tie
@@ -19,16 +18,13 @@ add-if1 c = search needs
 returns : tie.Need-returns
 returns c = λ e. absurd (true≢false (sym e))
 
-room-requires : tie.Need-room-requires
-room-requires c κs = search needs
-
-two-units-requires : tie.Need-two-units-requires
-two-units-requires c κs = search needs
+apart-requires : tie.Need-apart-requires
+apart-requires c κs = search needs
 
 returns-2 : tie.Need-returns-2
-returns-2 c = λ e. (omega arith, low-apart _ _ _ (c .before .room .ensures .0) (c .two-units .ensures) e)
+returns-2 c = λ e. (omega arith, c .apart .ensures e)
 
 pub unlike-spec : {M : Type 1} → statement M
 unlike-spec =
     tie.close
-    (tie.spec unit-requires cast-if1 add-if1 returns room-requires two-units-requires returns-2)
+    (tie.spec unit-requires cast-if1 add-if1 returns apart-requires returns-2)

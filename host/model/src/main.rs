@@ -19,6 +19,7 @@ mod texts;
 use lent::{PLACE, WALK};
 use random::Random;
 use rules::caches::Caches;
+use rules::look_up;
 use rules::replies::request;
 use rules::storing::domains_after;
 use rules::walk::{answer, start, Kind, Walk};
@@ -183,6 +184,10 @@ impl Host {
         }
         if let Some(w) = &self.walk {
             same("the walk", &self.units, &lent::walk_units(w))?;
+        }
+        if let (Some(c), Some(w)) = (&self.caches, &self.walk) {
+            let place = look_up::longest(&self.refs, &w.path);
+            same("the entry that is looked up", &[place.map(|i| c.referrals[i].as_ref())], &[c.find(&w.path).map(Some)])?;
         }
         let walk = self.walk.as_ref();
         let question = walk.and_then(|w| w.question()).ok_or(5u32);

@@ -2,6 +2,7 @@
 //! Text is a list of UTF-16 units, a cache is a list of places, a step is a function.
 pub mod caches;
 pub mod listing;
+pub mod look_up;
 pub mod names;
 pub mod replies;
 pub mod storing;

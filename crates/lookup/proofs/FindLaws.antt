@@ -3,18 +3,17 @@ use mathlib.Core.Path.{_≡_, refl, sym, ap, _∙_}
 use mathlib.Core.Bool.{Bool, true, false, _&&_}
 use mathlib.Core.List.{List, [], _∷_, map}
 use mathlib.Core.Logic.{_⊎_, inl, inr}
-use Prim.Native.Nat.{ℕ, _+_, _-_, _/_, _≤_, _<_, min}
+use Prim.Native.Nat.{ℕ, _+_, _/_, _≤_, _<_, min}
 use native.Mathlib.Numerals.{add-one}
 use native.Mathlib.Omega.{arith}
 use lib.ListN.{length, getD, take, drop, length-take}
 use lib.Seq.{getD-take}
 use lib.Dec.{ltb, eqb}
-use borrow.Author.Tests.{eqb-true, eq-eqb, ne-eqb, le-ltb, lt-ltb, ltb-true}
+use borrow.Author.Tests.{eqb-true, eq-eqb, ne-eqb, le-ltb, lt-ltb, ltb-false}
 use Rattle.laws.specs.Choice.{choose}
 use Rattle.laws.specs.Listed.{listed}
-use Rattle.laws.proofs.Choices.{choose-yes, choose-no, and-left, and-right, and-no-right}
+use Rattle.laws.proofs.Choices.{choose-yes, choose-no, and-no-right}
 use Rattle.laws.proofs.Orders.{told, lt-or-le}
-use Rattle.laws.proofs.Tests.{not-both}
 use Rattle.laws.proofs.Listed.{drop-listed, drop-listed-end, map-listed}
 use Rattle.unc.specs.Names.{sameUnit, sameName, SameWithin}
 use Rattle.unc.specs.Paths.{matches}
@@ -73,15 +72,6 @@ module _ (p : List ℕ) where
         go (inl l) = longer (textAt 0 p) path n l (sym (longer (textAt 0 p) path m (omega arith) refl ∙ (sym (longer-place path m) ∙ h))) ∙ sym (longer-place path n)
         go (inr l) = place-shorter refl l
 
-    -- a match of more than n units, and none of more than m
-    pub place-few : (m : ℕ) → longerMatch path n (placeOf referrals p) ≡ true → longerMatch path m (placeOf referrals p) ≡ false → length (textAt 0 p) ≤ m
-    place-few m h k = go (lt-or-le m (length (textAt 0 p)))
-      where
-        go : (m < length (textAt 0 p)) ⊎ (length (textAt 0 p) ≤ m) → length (textAt 0 p) ≤ m
-        go (inl l) =
-            absurd (not-both (and-right (ltb n (length (textAt 0 p))) _ (sym (longer-place path n) ∙ h)) (longer (textAt 0 p) path m l refl ∙ (sym (longer-place path m) ∙ k)))
-        go (inr l) = l
-
     -- none has more units than the path
     pub no-longer : length path ≤ n → longerMatch path n (placeOf referrals p) ≡ false
     no-longer le = go (lt-or-le n (length (textAt 0 p)))
@@ -89,24 +79,6 @@ module _ (p : List ℕ) where
         go : (n < length (textAt 0 p)) ⊎ (length (textAt 0 p) ≤ n) → longerMatch path n (placeOf referrals p) ≡ false
         go (inl l) = longer-place path n ∙ and-no-right (ltb n (length (textAt 0 p))) (matches-longer (textAt 0 p) path (omega arith))
         go (inr l) = sym (place-shorter refl l)
-
--- a prefix that is the whole path
-pub record Whole (path p : List ℕ) : Type 0 where
-  pub units : length (textAt 0 p) ≡ length path
-  pub matched : matches (textAt 0 p) path ≡ true
-
-pub place-whole : (p path : List ℕ) → longerMatch path (length path - 1) (placeOf referrals p) ≡ true → 0 < length path → Whole path p
-place-whole p path h some = go (lt-or-le (length path) (length (textAt 0 p)))
-  where
-    both : (ltb (length path - 1) (length (textAt 0 p)) && matches (textAt 0 p) path) ≡ true
-    both = sym (longer-place p path (length path - 1)) ∙ h
-
-    go : (length path < length (textAt 0 p)) ⊎ (length (textAt 0 p) ≤ length path) → Whole path p
-    go (inl l) = absurd (not-both (and-right (ltb (length path - 1) (length (textAt 0 p))) _ both) (matches-longer (textAt 0 p) path l))
-    go (inr l) = record {
-      units = omega (arith, ltb-true (length path - 1) (length (textAt 0 p)) (and-left _ (matches (textAt 0 p) path) both));
-      matched = and-right (ltb (length path - 1) (length (textAt 0 p))) _ both;
-    }
 
 -- a prefix whose units are not the first ones of the path
 module _ (raw path : List ℕ) (i : ℕ) (fits : i < length raw / 2336) where
@@ -116,6 +88,10 @@ module _ (raw path : List ℕ) (i : ℕ) (fits : i < length raw / 2336) where
   text-units : length prefix ≡ min (unitAt 0 (placeAt i raw)) 256
   unfolding textAt
   text-units = length-take (unitAt 0 (placeAt i raw)) (roomAt 0 (placeAt i raw)) ∙ ap (min (unitAt 0 (placeAt i raw))) (length-room raw i fits 0 (omega arith))
+
+  -- a free place
+  pub units-none : {u : ℕ} → u ≡ unitAt 0 (placeAt i raw) → ltb 0 u ≡ false → longerMatch path 0 (placeOf referrals (placeAt i raw)) ≡ false
+  units-none {u} e h = sym (place-shorter (placeAt i raw) path 0 refl (omega (arith, text-units, ltb-false 0 u h)))
 
   -- a prefix that is longer than the path
   pub units-over : {u : ℕ} → u ≡ unitAt 0 (placeAt i raw) → u ≤ 256 → length path < u → longerMatch path 0 (placeOf referrals (placeAt i raw)) ≡ false
@@ -140,15 +116,6 @@ module _ (raw path : List ℕ) (i : ℕ) (fits : i < length raw / 2336) where
         go : (matches prefix path ≡ true) ⊎ (matches prefix path ≡ false) → (ltb 0 (length prefix) && matches prefix path) ≡ false
         go (inl matched) = let z : length prefix ≡ n = omega (arith, text-units) in absurd (unlike (rw (← z) (first-units matched)))
         go (inr unmatched) = and-no-right (ltb 0 (length prefix)) unmatched
-
-    -- a prefix that is not the whole path
-    pub whole-unlike : 0 < length path → (SameWithin room path 0 (length path) → ⊥) → longerMatch path (length path - 1) (placeOf referrals (placeAt i raw)) ≡ false
-    whole-unlike some unlike = go (told (longerMatch path (length path - 1) (placeOf referrals (placeAt i raw))))
-      where
-        go : (longerMatch path (length path - 1) (placeOf referrals (placeAt i raw)) ≡ true) ⊎ (longerMatch path (length path - 1) (placeOf referrals (placeAt i raw)) ≡ false)
-            → longerMatch path (length path - 1) (placeOf referrals (placeAt i raw)) ≡ false
-        go (inl h) = let w : Whole path (placeAt i raw) = place-whole (placeAt i raw) path h some in absurd (unlike (rw (← w .units) (first-units (w .matched))))
-        go (inr h) = h
 
 -- the loop that finds the longest match
 module _ (raw path : List ℕ) (i : ℕ) (best : Found) (n : ℕ) where

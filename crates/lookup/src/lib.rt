@@ -1,19 +1,21 @@
 // Looking up in the two lent caches: the longest match, an equal key, ages, the place of a new entry, its fields and hints.
 ghost use mathlib.Core.Path.{_≡_};
 ghost use mathlib.Core.Bool.{true, false};
-ghost use Prim.Native.Nat.{ℕ, _+_, _-_, _/_, _≤_, _<_};
+ghost use Prim.Native.Nat.{_+_, _/_, _≤_, _<_, min};
 ghost use lib.ListN.{length};
 ghost use Rattle.places.specs.Layout.{placeAt, unitAt, roomAt};
 ghost use Rattle.caches.specs.Memory.{referrals, domains, placeOf, decode, encode, inOrder};
-ghost use Rattle.lookup.specs.declared.Found.the-variants.{At};
 ghost use Rattle.lookup.specs.Lookup.{longerMatch, longestMatch, withKey, entryAt, age, expired, firstFreeFrom, placeAge, oldest, newPlace, targetPath, targetOpens, dcName, targetHinted, dcHinted};
 ghost use Rattle.lookup.specs.Keys.{keyIs, keyPlace};
-ghost use Rattle.lookup.specs.Ends.{LowBits, Apart, NoMatch};
+ghost use Rattle.lookup.specs.Ends.{LowBits, NoMatch};
 use places::PLACE;
 use places::ROOM;
 
-// The five low bits of two units, which equal units have in common.
-const LOW_BITS: u32 = 2031647;
+// The five low bits of each of four units, which equal units have in common.
+const LOW_BITS: u64 = 8725857424048159;
+
+// Units that a prefix is told apart by.
+const END: usize = 4;
 
 // The place of an entry, if there is one.
 pub enum Found {
@@ -21,69 +23,45 @@ pub enum Found {
     Nothing,
 }
 
-// Units k and k + 1 as one number, so that both are compared at once.
-fn two_units(s: &[u16], k: usize) -> u32
-    requires { ⌜ k + 1 < length (now s) ⌝ }
+// Four units from k on as one number, so that they are compared at once.
+fn four_units(s: &[u16], k: usize) -> u64
+    requires { ⌜ k + 3 < length (now s) ⌝ }
     ensures { λ r. ⌜ LowBits (now (s .entry)) k r ⌝ }
 {
-    s[k] as u32 + 65536 * s[k + 1] as u32
+    s[k] as u64
+        + 65536 * s[k + 1] as u64
+        + 4294967296 * s[k + 2] as u64
+        + 281474976710656 * s[k + 3] as u64
 }
 
-// Whether units k and k + 1 of the key at place i cannot be equal to those of the path. Paths of one namespace begin alike, so that the last two units tell
-// most of them apart.
-fn apart(cache: &[u16], i: usize, k: usize, last: u32) -> bool
-    requires { ⌜ (i < length (now cache) / 2336) × (k + 2 ≤ 256) ⌝ }
-    ensures { λ r. ⌜ (r ≡ true → Apart (now (cache .entry)) k last i (i + 1)) ⌝ }
+fn smaller(a: usize, b: usize) -> usize
+    ensures { λ r. ⌜ r ≡ min a b ⌝ }
 {
+    if a < b { a } else { b }
+}
+
+// Whether the prefix of place i may match by its last four units. Paths of one namespace begin alike, so that their ends tell most of them apart. A prefix that
+// is longer than the path is compared with the path's end: it does not match anyway, and a test for it would often be guessed wrong.
+fn may_match(cache: &[u16], i: usize, path: &[u16]) -> bool
+    requires { ⌜ i < length (now cache) / 2336 ⌝ }
+    ensures { λ r. ⌜ (r ≡ false → longerMatch (now (path .entry)) 0 (placeOf referrals (placeAt i (now (cache .entry)))) ≡ false) ⌝ }
+{
+    let units = places::unit(cache, i, 0) as usize;
+    if path.len() < END {
+        return true;
+    }
+    if units < END {
+        return 0 < units;
+    }
+    if ROOM < units {
+        return true;
+    }
     let room = places::room(cache, i, 0);
-    (two_units(room, k) ^ last) & LOW_BITS != 0
+    let start = units - END;
+    (four_units(room, start) ^ four_units(path, smaller(start, path.len() - END))) & LOW_BITS == 0
 }
 
-// Whether place i has a prefix of k + 2 units that cannot match by its last two.
-fn unlike(cache: &[u16], i: usize, k: usize, last: u32) -> bool
-    requires { ⌜ (i < length (now cache) / 2336) × (k + 2 ≤ 256) ⌝ }
-    ensures { λ r. ⌜ (r ≡ true → (unitAt 0 (placeAt i (now (cache .entry))) ≡ k + 2) × Apart (now (cache .entry)) k last i (i + 1)) ⌝ }
-{
-    if places::unit(cache, i, 0) as usize != k + 2 {
-        return false;
-    }
-    apart(cache, i, k, last)
-}
-
-// The first place from `from` on that is not unlike the path at units k and k + 1. Four places a turn, which is faster.
-fn past_unlike(cache: &[u16], from: usize, k: usize, path: &[u16]) -> usize
-    requires { ⌜ (from ≤ length (now cache) / 2336) × ((k + 2 ≤ 256) × (k + 2 ≤ length (now path))) ⌝ }
-    ensures { λ r. ⌜ (from ≤ r) × ((r ≤ length (now (cache .entry)) / 2336) × NoMatch (now (path .entry)) (now (cache .entry)) 0 from r) ⌝ }
-{
-    let last = two_units(path, k);
-    let count = cache.len() / PLACE;
-    let mut i = from;
-    while 4 <= count - i {
-        if !unlike(cache, i, k, last) {
-            return i;
-        }
-        if !unlike(cache, i + 1, k, last) {
-            return i + 1;
-        }
-        if !unlike(cache, i + 2, k, last) {
-            return i + 2;
-        }
-        if !unlike(cache, i + 3, k, last) {
-            return i + 3;
-        }
-        i += 4;
-    }
-    while i < count {
-        if !unlike(cache, i, k, last) {
-            return i;
-        }
-        i += 1;
-    }
-    i
-}
-
-// The first place from `from` on whose prefix may match by its length and its last units, or the number of places. Places of one length, one after another,
-// are told apart by the same units of the path.
+// The first place from `from` on whose prefix may match, or the number of places.
 fn next_alike(cache: &[u16], from: usize, path: &[u16]) -> usize
     requires { ⌜ from ≤ length (now cache) / 2336 ⌝ }
     ensures { λ r. ⌜ (from ≤ r) × ((r ≤ length (now (cache .entry)) / 2336) × NoMatch (now (path .entry)) (now (cache .entry)) 0 from r) ⌝ }
@@ -91,25 +69,10 @@ fn next_alike(cache: &[u16], from: usize, path: &[u16]) -> usize
     let count = cache.len() / PLACE;
     let mut i = from;
     while i < count {
-        let units = places::unit(cache, i, 0) as usize;
-        if ROOM < units {
+        if may_match(cache, i, path) {
             return i;
         }
-        if path.len() < units {
-            i += 1;
-            continue;
-        }
-        if units < 2 {
-            return i;
-        }
-        let next = past_unlike(cache, i, units - 2, path);
-        if next == count {
-            return next;
-        }
-        if places::unit(cache, next, 0) as usize == units {
-            return next;
-        }
-        i = next;
+        i += 1;
     }
     i
 }
@@ -126,84 +89,8 @@ fn longer_match(cache: &[u16], i: usize, path: &[u16], units: usize) -> bool
     matching::matches(prefix, path)
 }
 
-// The first place from `from` on whose prefix may be the whole path by the path's last two units, or the number of places.
-fn next_end(cache: &[u16], from: usize, path: &[u16]) -> usize
-    requires { ⌜ (from ≤ length (now cache) / 2336) × ((2 ≤ length (now path)) × (length (now path) ≤ 256)) ⌝ }
-    ensures { λ r. ⌜ (from ≤ r) × ((r ≤ length (now (cache .entry)) / 2336) × NoMatch (now (path .entry)) (now (cache .entry)) (length (now (path .entry)) - 1) from r) ⌝ }
-{
-    let k = path.len() - 2;
-    let last = two_units(path, k);
-    let count = cache.len() / PLACE;
-    let mut i = from;
-    while i < count {
-        if !apart(cache, i, k, last) {
-            return i;
-        }
-        i += 1;
-    }
-    i
-}
-
-// Whether `apart` holds of eight places from place i on. Nothing branches between them, so that they are compared at once.
-fn eight_apart(cache: &[u16], i: usize, k: usize, last: u32) -> bool
-    requires { ⌜ (i + 8 ≤ length (now cache) / 2336) × (k + 2 ≤ 256) ⌝ }
-    ensures { λ r. ⌜ (r ≡ true → Apart (now (cache .entry)) k last i (i + 8)) ⌝ }
-{
-    let a = apart(cache, i, k, last) & apart(cache, i + 1, k, last);
-    let b = apart(cache, i + 2, k, last) & apart(cache, i + 3, k, last);
-    let c = apart(cache, i + 4, k, last) & apart(cache, i + 5, k, last);
-    let d = apart(cache, i + 6, k, last) & apart(cache, i + 7, k, last);
-    (a & b) & (c & d)
-}
-
-// The first of all such places; eight a turn.
-fn next_whole(cache: &[u16], path: &[u16]) -> usize
-    requires { ⌜ (2 ≤ length (now path)) × (length (now path) ≤ 256) ⌝ }
-    ensures { λ r. ⌜ (r ≤ length (now (cache .entry)) / 2336) × NoMatch (now (path .entry)) (now (cache .entry)) (length (now (path .entry)) - 1) 0 r ⌝ }
-{
-    let k = path.len() - 2;
-    let last = two_units(path, k);
-    let count = cache.len() / PLACE;
-    let mut i = 0;
-    while 8 <= count - i {
-        if !eight_apart(cache, i, k, last) {
-            return next_end(cache, i, path);
-        }
-        i += 8;
-    }
-    next_end(cache, i, path)
-}
-
-// The place of a prefix that is the whole path, which no match is longer than; looked for where the first entry has the path's length. Of each place that
-// is passed over only two units are read.
-fn find_whole(cache: &[u16], path: &[u16]) -> Found
-    ensures { λ r. ⌜ ((i : ℕ) → r ≡ At i → longestMatch (now (path .entry)) (decode referrals (now (cache .entry))) ≡ At i) ⌝ }
-{
-    let units = path.len();
-    if cache.len() < PLACE {
-        return Found::Nothing;
-    }
-    if places::unit(cache, 0, 0) as usize != units {
-        return Found::Nothing;
-    }
-    if units < 2 {
-        return Found::Nothing;
-    }
-    if ROOM < units {
-        return Found::Nothing;
-    }
-    let i = next_whole(cache, path);
-    if i == cache.len() / PLACE {
-        return Found::Nothing;
-    }
-    if !longer_match(cache, i, path, units - 1) {
-        return Found::Nothing;
-    }
-    Found::At(i)
-}
-
-// The longest match, all places compared by their lengths and last units.
-fn find_longest(cache: &[u16], path: &[u16]) -> Found
+// The place of the entry whose prefix is the longest that matches the path.
+pub fn find(cache: &[u16], path: &[u16]) -> Found
     ensures { λ r. ⌜ r ≡ longestMatch (now (path .entry)) (decode referrals (now (cache .entry))) ⌝ }
 {
     let count = cache.len() / PLACE;
@@ -219,19 +106,13 @@ fn find_longest(cache: &[u16], path: &[u16]) -> Found
             best = Found::At(next);
             units = places::text(cache, next, 0).len();
         }
+        // none is longer than the path
+        if units == path.len() {
+            return best;
+        }
         i = next + 1;
     }
     best
-}
-
-// The place of the entry whose prefix is the longest that matches the path.
-pub fn find(cache: &[u16], path: &[u16]) -> Found
-    ensures { λ r. ⌜ r ≡ longestMatch (now (path .entry)) (decode referrals (now (cache .entry))) ⌝ }
-{
-    let Found::At(i) = find_whole(cache, path) else {
-        return find_longest(cache, path);
-    };
-    Found::At(i)
 }
 
 // Whether place i is used and its key is an equal name.

@@ -51,14 +51,13 @@ pub fn matches(prefix: &[u16], path: &[u16]) -> bool
     ensures { λ r. ⌜ r ≡ matches (now (prefix .entry)) (now (path .entry)) ⌝ }
 {
     let n = prefix.len();
-    if n == path.len() {
-        return unc::same_name(prefix, path);
-    }
     if path.len() < n {
         return false;
     }
-    if path[n] != BACKSLASH {
-        return false;
+    if n < path.len() {
+        if path[n] != BACKSLASH {
+            return false;
+        }
     }
     unc::same_name(prefix, &path[..n])
 }

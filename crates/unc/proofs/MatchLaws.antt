@@ -82,6 +82,10 @@ module _ (p s : List ℕ) where
   unfolding atEnd
   matches-whole e h = h ∙ sym (matches-units p s ∙ rw (e, take-length, drop-length) (and-true _))
 
+  -- the whole path as a part of it
+  pub matches-all : length p ≡ length s → {r : Bool} → r ≡ sameName p (take (length p) s) → r ≡ matches p s
+  matches-all e h = matches-whole e (h ∙ ap (sameName p) (rw (e, take-length)))
+
   pub matches-part : length p < length s → getD s (length p) 0 ≡ 92 → {r : Bool} → r ≡ sameName p (take (length p) s) → r ≡ matches p s
   unfolding atEnd
   matches-part h e f = f ∙ sym (matches-units p s ∙ rw (drop-cons s (length p) 0 h, eq-eqb _ _ e) (and-true _))

@@ -1,0 +1,59 @@
+-- Compares the last units of a prefix.
+use mathlib.Core.Bool.{true≢false}
+use native.Mathlib.Omega.{arith}
+use Rattle.lookup.proofs.FindLaws.{units-none}
+use Rattle.lookup.proofs.EndLaws.{ends-apart}
+use borrow.Author.Needs.{needs}
+use Rattle.lookup.proofs.may_match.Statement.{statement}
+use Rattle.lookup.proofs.may_match.Tie as tie
+
+unit-requires : tie.Need-unit-requires
+unit-requires c κs = search needs
+
+cast-units : tie.Need-cast-units
+cast-units c = search needs
+
+returns : tie.Need-returns
+returns c = λ e. absurd (true≢false e)
+
+returns-2 : tie.Need-returns-2
+returns-2 c = units-none _ _ _ (omega arith) (c .before .before .unit .ensures)
+
+returns-3 : tie.Need-returns-3
+returns-3 c = λ e. absurd (true≢false e)
+
+room-requires : tie.Need-room-requires
+room-requires c κs = search needs
+
+four-units-requires : tie.Need-four-units-requires
+four-units-requires c κs = search needs
+
+sub-smaller : tie.Need-sub-smaller
+sub-smaller c = search needs
+
+smaller-requires : tie.Need-smaller-requires
+smaller-requires c κs = search needs
+
+four-units-requires-2 : tie.Need-four-units-requires-2
+four-units-requires-2 c κs = search needs
+
+returns-4 : tie.Need-returns-4
+returns-4 c =
+    ends-apart _ _ _ (omega arith) (c .before .before .before .before .before .before .before .unit .ensures) (c .before .before .before .room .ensures .0) (omega arith) (omega arith)
+    (omega arith) (c .before .smaller .ensures) (c .before .before .four-units .ensures) (c .four-units2 .ensures)
+
+pub may-match-spec : {M : Type 1} → statement M
+may-match-spec =
+    tie.close
+    (tie.spec
+    unit-requires
+    cast-units
+    returns
+    returns-2
+    returns-3
+    room-requires
+    four-units-requires
+    sub-smaller
+    smaller-requires
+    four-units-requires-2
+    returns-4)

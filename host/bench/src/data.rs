@@ -37,6 +37,61 @@ pub fn referrals(places: usize, shape: Shape) -> Vec<u16> {
     cache
 }
 
+/// How a path lies to the entries of a cache.
+#[derive(Clone, Copy)]
+pub enum Lies {
+    Below,
+    Equal,
+    Beside,
+}
+
+const ROOTS: [&str; 3] = [r"\corp.example\dfs", r"\corp.example\public", r"\nas01\data"];
+const NAMES: [&str; 12] = ["docs", "Tools", "Projects", "home", "Finance", "hr", "archive-2019", "archive-2020", "x", "Reports", "quarterly", "site b"];
+
+struct Random(u64);
+
+impl Random {
+    fn below(&mut self, n: usize) -> usize {
+        self.0 = self.0.wrapping_mul(6364136223846793005).wrapping_add(1442695040888963407);
+        (self.0 >> 33) as usize % n
+    }
+
+    /// Components to go down by.
+    fn down(&mut self, count: usize) -> String {
+        (0..count).map(|_| format!(r"\{}{}", NAMES[self.below(NAMES.len())], ["", "07", "12", "2"][self.below(4)])).collect()
+    }
+}
+
+/// A cache of 32 entries of three namespaces, of various lengths and some below others, and 512 paths, of which each eighth is in capitals.
+pub fn mixed(lies: Lies) -> (Vec<u16>, Vec<Vec<u16>>) {
+    let mut r = Random(1);
+    let mut prefixes: Vec<String> = vec![];
+    while prefixes.len() < 32 {
+        let count = r.below(4);
+        let prefix = ROOTS[r.below(ROOTS.len())].to_string() + &r.down(count);
+        if !prefixes.contains(&prefix) {
+            prefixes.push(prefix);
+        }
+    }
+    let mut cache = vec![0; prefixes.len() * PLACE];
+    for (place, prefix) in cache.chunks_mut(PLACE).zip(&prefixes) {
+        put(place, 0, &units(prefix));
+        put(place, 1, &units(prefix));
+        (place[9], place[22]) = (1, 300);
+    }
+    let paths = (0..512).map(|i| {
+        let (count, prefix) = (r.below(4), &prefixes[r.below(prefixes.len())]);
+        let path = match lies {
+            Lies::Below => prefix.clone() + &r.down(1 + count),
+            Lies::Equal => prefix.clone(),
+            Lies::Beside => prefix.replacen(r"\", r"\old", 1) + &r.down(count),
+        };
+        units(&if i % 8 == 0 { path.to_uppercase() } else { path })
+    });
+    let paths = paths.collect();
+    (cache, paths)
+}
+
 /// A domain cache of full places; the first domain is "corp", of the second no DC is known.
 pub fn domains(places: usize) -> Vec<u16> {
     let mut cache = vec![0; places * PLACE];

@@ -8,7 +8,7 @@ mod data;
 mod look_up;
 mod plain;
 
-use data::{damaged, domains, path, referrals, reply, Shape};
+use data::{damaged, domains, path, referrals, reply, Lies, Shape};
 use plain::replies::{Found, SAYS};
 use std::collections::BTreeSet;
 use std::hint::black_box;
@@ -143,6 +143,16 @@ fn compare_caches() {
             }
         }
     }
+    for (_, cache, paths) in sought() {
+        assert!(in_order(&cache));
+        for p in &paths {
+            let found = find(&cache, p);
+            for (name, plain) in WAYS {
+                assert_eq!(found, plain(&cache, p), "{name}");
+            }
+            compared += 1;
+        }
+    }
     println!("order tests and look-ups compared: {compared}");
 }
 
@@ -155,54 +165,71 @@ fn order_tests(goals: &mut Goals) {
     }
 }
 
-/// The model's look-up, which is the goal in each shape (decision 93), and plain ones that make the tests of the proved one.
-const WAYS: [(&str, fn(&[u16], &[u16]) -> Option<usize>); 5] = [
-    ("the model's", look_up::longest),
-    ("the same tests, names by the C library", plain::caches::find),
-    ("the same tests, names in blocks", plain::caches::find_in_blocks),
-    ("equal prefix in a pass of its own", plain::caches::find_equal_pass),
-    ("the same tests, every unit folded", plain::caches::find_folding),
-];
+/// The model's look-up, which is the goal in each row (decision 93), and one that is tuned to prefixes of one length.
+const WAYS: [(&str, fn(&[u16], &[u16]) -> Option<usize>); 2] = [("the model's", look_up::longest), ("tuned to prefixes of one length", plain::caches::find)];
+
+/// Caches of 32 entries, each with the paths that are looked up in it one after the other.
+fn sought() -> [(&'static str, Vec<u16>, Vec<Vec<u16>>); 5] {
+    let mixed = |what, lies| {
+        let (cache, paths) = data::mixed(lies);
+        (what, cache, paths)
+    };
+    [
+        ("one path, itself a prefix, prefixes of 256 units", referrals(32, LONG), vec![looked_up(LONG)]),
+        ("one path, below a prefix, prefixes of 30 units", referrals(32, USUAL), vec![looked_up(USUAL)]),
+        mixed("512 paths below mixed prefixes", Lies::Below),
+        mixed("512 paths equal to mixed prefixes", Lies::Equal),
+        mixed("512 paths beside mixed prefixes", Lies::Beside),
+    ]
+}
 
 /// Nanoseconds of a look-up: the proved one, then the plain ones.
 type Times = [f64; WAYS.len() + 1];
 
-// In each shape.
-fn look_ups() -> [Times; 2] {
-    SHAPES.map(|(_, shape)| {
-        let (cache, p) = (&referrals(32, shape)[..], &looked_up(shape)[..]);
-        let mut proved = || { black_box(find(black_box(cache), black_box(p))); };
-        let mut plain = WAYS.map(|(_, way)| move || { black_box(way(black_box(cache), black_box(p))); });
+// In each row.
+fn look_ups() -> Vec<Times> {
+    sought().map(|(_, cache, paths)| {
+        // one path after the other, as each function comes to it
+        let calling = |find: fn(&[u16], &[u16]) -> Option<usize>| {
+            let (cache, paths, mut next) = (&cache[..], &paths[..], 0);
+            move || {
+                next = if next + 1 < paths.len() { next + 1 } else { 0 };
+                black_box(find(black_box(cache), black_box(&paths[next])));
+            }
+        };
+        let (mut proved, mut plain) = (calling(find), WAYS.map(|(_, way)| calling(way)));
         let mut calls: Vec<&mut dyn FnMut()> = vec![&mut proved];
         calls.extend(plain.iter_mut().map(|c| c as &mut dyn FnMut()));
         least(&mut calls).try_into().unwrap()
     })
+    .into()
 }
 
-// The goal is the model's look-up in each shape; the bound is of each plain one over both, since one may be tuned to a shape.
-fn hold_look_ups(goals: &mut Goals, builds: &[[Times; 2]]) {
-    let least = |k: usize, way: usize| builds.iter().map(|b| b[k][way]).fold(f64::MAX, f64::min);
-    let proved = [least(0, 0), least(1, 0)];
-    println!("look-up in 32 entries, least of {} builds; {}, then {}, then both", builds.len(), SHAPES[0].0, SHAPES[1].0);
-    println!("  proved: {}, {}, {}", shown(proved[0]), shown(proved[1]), shown(proved[0] + proved[1]));
-    for (way, (name, _)) in WAYS.iter().enumerate() {
-        let plain = [least(0, way + 1), least(1, way + 1)];
-        let ratio = (proved[0] + proved[1]) / (plain[0] + plain[1]);
-        println!("  plain, {name}: {}, {}, {}; ratios {:.2}, {:.2}, {ratio:.2}", shown(plain[0]), shown(plain[1]), shown(plain[0] + plain[1]), proved[0] / plain[0], proved[1] / plain[1]);
-        goals.hold(format!("look-up over both, against plain, {name}"), ratio, LOOK_UP, LOOK_UP * MARGIN);
-    }
-    for (k, (shape, _)) in SHAPES.iter().enumerate() {
-        goals.hold(format!("look-up, {shape}, against the model's"), proved[k] / least(k, 1), LOOK_UP, LOOK_UP * MARGIN);
+fn hold_look_ups(goals: &mut Goals, builds: &[Vec<Times>]) {
+    println!("look-up in 32 entries, least of {} builds", builds.len());
+    for (row, (what, ..)) in sought().iter().enumerate() {
+        let least = |way: usize| builds.iter().map(|b| b[row][way]).fold(f64::MAX, f64::min);
+        print!("  {what}: proved {}", shown(least(0)));
+        for (way, (name, _)) in WAYS.iter().enumerate() {
+            print!("; {name} {}, ratio {:.2}", shown(least(way + 1)), least(0) / least(way + 1));
+        }
+        println!();
+        goals.hold(format!("look-up, {what}, against the model's"), least(0) / least(1), LOOK_UP, LOOK_UP * MARGIN);
     }
 }
 
 // The times of other builds, as `bench look-ups` printed them.
-fn other_builds(file: &str) -> Vec<[Times; 2]> {
+fn other_builds(file: &str) -> Vec<Vec<Times>> {
     let text = std::fs::read_to_string(file).unwrap();
-    let ns: Vec<f64> = text.lines().filter_map(|l| l.strip_prefix("ns ")).flat_map(|l| l.split(' ').map(|n| n.parse().unwrap())).collect();
-    let n = WAYS.len() + 1;
-    assert!(!ns.is_empty() && ns.len() % (2 * n) == 0, "{file} has the times of no other build");
-    ns.chunks_exact(2 * n).map(|b| [b[..n].try_into().unwrap(), b[n..].try_into().unwrap()]).collect()
+    let builds = text.lines().filter_map(|l| l.strip_prefix("ns ")).map(|l| {
+        let ns: Vec<f64> = l.split(' ').map(|n| n.parse().unwrap()).collect();
+        let rows: Vec<Times> = ns.chunks(WAYS.len() + 1).map(|row| row.try_into().unwrap()).collect();
+        assert_eq!(rows.len(), sought().len(), "{file} has the times of other rows");
+        rows
+    });
+    let builds: Vec<_> = builds.collect();
+    assert!(!builds.is_empty(), "{file} has the times of no other build");
+    builds
 }
 
 struct Start<'a> {

@@ -1,5 +1,5 @@
 //! The order test and the look-ups.
-use super::names::{good_name, path_components, same, BACKSLASH};
+use super::names::{good_name, path_components, same, same_alike, BACKSLASH};
 use dfsc::PLACE_UNITS as PLACE;
 
 pub const HEAD: usize = 32;
@@ -102,10 +102,9 @@ fn while_all(cache: &[u16], test: impl Fn(&[u16]) -> bool) -> usize {
     i + rest.chunks_exact(PLACE).take_while(|p| test(p)).count()
 }
 
-/// The place whose prefix is the longest that matches the path. Places of one length, one after another, are told apart by their last two units: those of
-/// the path are read once for all of them.
-#[inline]
-fn find_with(cache: &[u16], path: &[u16], same: impl Fn(&[u16], &[u16]) -> bool) -> Option<usize> {
+/// The place whose prefix is the longest that matches the path, for caches whose prefixes have one length: places of one length, one after another, are told
+/// apart by their last two units; those of the path are read once for all of them.
+pub fn find(cache: &[u16], path: &[u16]) -> Option<usize> {
     let count = cache.len() / PLACE;
     let (mut best, mut units, mut i) = (None, 0, 0);
     while i < count {
@@ -124,7 +123,7 @@ fn find_with(cache: &[u16], path: &[u16], same: impl Fn(&[u16], &[u16]) -> bool)
                 continue;
             }
         }
-        if n > units && (n == path.len() || path[n] == BACKSLASH) && same(&cache[i * PLACE + HEAD..][..n], &path[..n]) {
+        if n > units && (n == path.len() || path[n] == BACKSLASH) && same_alike(&cache[i * PLACE + HEAD..][..n], &path[..n]) {
             if n == path.len() {
                 return Some(i);
             }
@@ -134,33 +133,6 @@ fn find_with(cache: &[u16], path: &[u16], same: impl Fn(&[u16], &[u16]) -> bool)
         i += 1;
     }
     best
-}
-
-#[inline(never)]
-pub fn find(cache: &[u16], path: &[u16]) -> Option<usize> {
-    find_with(cache, path, super::names::same_alike)
-}
-
-pub fn find_in_blocks(cache: &[u16], path: &[u16]) -> Option<usize> {
-    find_with(cache, path, super::names::same_in_blocks)
-}
-
-pub fn find_folding(cache: &[u16], path: &[u16]) -> Option<usize> {
-    find_with(cache, path, super::names::same_folding)
-}
-
-/// A prefix that is the whole path in a pass of its own, which looks at lengths last; the others after it.
-pub fn find_equal_pass(cache: &[u16], path: &[u16]) -> Option<usize> {
-    let n = path.len();
-    if (2..=ROOM).contains(&n) {
-        let last = last_two(path);
-        let equal = |p: &[u16]| !unlike(last_two(&p[HEAD..HEAD + n]), last) && p[0] as usize == n && super::names::same_alike(&p[HEAD..HEAD + n], path);
-        let i = while_all(cache, |p| !equal(p));
-        if i < cache.len() / PLACE {
-            return Some(i);
-        }
-    }
-    find(cache, path)
 }
 
 /// The place whose key is equal.

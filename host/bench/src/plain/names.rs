@@ -38,35 +38,6 @@ pub fn same_alike(a: &[u16], b: &[u16]) -> bool {
     equal(a, b) || same_units_called(a, b)
 }
 
-// Whether all units are the same: a loop without an exit, of which the compiler makes vector instructions.
-#[inline]
-fn equal_block(a: &[u16], b: &[u16]) -> bool {
-    a.iter().zip(b).fold(0, |differ, (x, y)| differ | (x ^ y)) == 0
-}
-
-// Names of one length, of N units or more: the last N units first, then N at a time.
-#[inline]
-fn equal_blocks<const N: usize>(a: &[u16], b: &[u16]) -> bool {
-    let last = a.len() - N;
-    equal_block(&a[last..], &b[last..]) && (0..last).step_by(N).all(|next| equal_block(&a[next..next + N], &b[next..next + N]))
-}
-
-/// Equal names: 32 or 16 units at a time, then unit by unit.
-#[inline(never)]
-pub fn same_in_blocks(a: &[u16], b: &[u16]) -> bool {
-    let equal = || match a.len() {
-        32.. => equal_blocks::<32>(a, b),
-        16.. => equal_blocks::<16>(a, b),
-        _ => false,
-    };
-    a.len() == b.len() && (equal() || same_units(a, b))
-}
-
-/// Equal names, each unit folded before it is compared.
-pub fn same_folding(a: &[u16], b: &[u16]) -> bool {
-    a.len() == b.len() && a.iter().zip(b).all(|(x, y)| folded(*x) == folded(*y))
-}
-
 /// Whether the component that ends before `to` and begins at `from` is none, "." or "..".
 #[inline]
 fn bad_component(text: &[u16], from: usize, to: usize) -> bool {

@@ -1,5 +1,5 @@
 -- Laws of the search for the longest match: what the last units of prefixes tell, and places that are passed over.
-use mathlib.Core.Path.{_≡_, refl, sym, ap, ap₂, _∙_}
+use mathlib.Core.Path.{_≡_, refl, sym, ap, ap₂, subst, _∙_}
 use mathlib.Core.Bool.{false}
 use mathlib.Core.List.{List}
 use mathlib.Core.Logic.{_⊎_, inl, inr}
@@ -65,8 +65,10 @@ module _ (raw path : List ℕ) where
   none-one : {n i : ℕ} → longerMatch path n (placeOf referrals (placeAt i raw)) ≡ false → NoMatch path raw n i (i + 1)
   none-one {n} {i} h = record { at = λ j u v. let e : j ≡ i = omega arith in rw e h }
 
-  pub none-more : {n i j : ℕ} → NoMatch path raw n i j → longerMatch path n (placeOf referrals (placeAt j raw)) ≡ false → NoMatch path raw n i (j + 1)
-  none-more p h = none-join p (none-one h)
+  -- one place more
+  pub none-next : {n i j k next : ℕ} → NoMatch path raw n i j → longerMatch path n (placeOf referrals (placeAt k raw)) ≡ false → k ≡ j → next ≡ k + 1
+      → NoMatch path raw n i next
+  none-next {n} {i} p h e f = rw f (none-join (subst (NoMatch path raw n i) (sym e) p) (none-one h))
 
   -- a place whose last units are not those of the path
   pub ends-apart : (i : ℕ) → i < length raw / 2336 → {u start at a b : ℕ} {room : List ℕ} → u ≡ unitAt 0 (placeAt i raw) → room ≡ roomAt 0 (placeAt i raw)

@@ -61,13 +61,28 @@ fn may_match(cache: &[u16], i: usize, path: &[u16]) -> bool
     (four_units(room, start) ^ four_units(path, smaller(start, path.len() - END))) & LOW_BITS == 0
 }
 
-// The first place from `from` on whose prefix may match, or the number of places.
+// The first place from `from` on whose prefix may match, or the number of places. Four places a turn, which is faster.
 fn next_alike(cache: &[u16], from: usize, path: &[u16]) -> usize
     requires { ⌜ from ≤ length (now cache) / 2336 ⌝ }
     ensures { λ r. ⌜ (from ≤ r) × ((r ≤ length (now (cache .entry)) / 2336) × NoMatch (now (path .entry)) (now (cache .entry)) 0 from r) ⌝ }
 {
     let count = cache.len() / PLACE;
     let mut i = from;
+    while 4 <= count - i {
+        if may_match(cache, i, path) {
+            return i;
+        }
+        if may_match(cache, i + 1, path) {
+            return i + 1;
+        }
+        if may_match(cache, i + 2, path) {
+            return i + 2;
+        }
+        if may_match(cache, i + 3, path) {
+            return i + 3;
+        }
+        i += 4;
+    }
     while i < count {
         if may_match(cache, i, path) {
             return i;

@@ -1,5 +1,6 @@
 -- Laws of names and paths.
 pub mod NameLaws
+pub mod UnitLaws
 pub mod WithinLaws
 pub mod PieceLaws
 pub mod SpanLaws

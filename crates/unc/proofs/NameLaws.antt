@@ -51,7 +51,7 @@ same-unit a b e f = rw (e, f)
 pub record Alone (u : ℕ) : Type 0 where
   pub only : (a : ℕ) → sameUnit a u ≡ true → a ≡ u
 
-alone-of : (u : ℕ) → folded u ≡ u → ((a : ℕ) → 65 ≤ a → a ≤ 90 → a + 32 ≡ u → ⊥) → Alone u
+pub alone-of : (u : ℕ) → folded u ≡ u → ((a : ℕ) → 65 ≤ a → a ≤ 90 → a + 32 ≡ u → ⊥) → Alone u
 unfolding sameUnit
 alone-of u e h = record { only = λ a k. at a (eqb-true (folded a) (folded u) k) (lt-or-le a 65) (lt-or-le 90 a) }
   where

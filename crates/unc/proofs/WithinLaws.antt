@@ -6,14 +6,15 @@ use mathlib.Core.Logic.{_⊎_, inl, inr}
 use Prim.Native.Nat.{ℕ, zero, suc, _+_, _≤_, _<_, _%_}
 use native.Mathlib.Nat.{le-of-suc-le-suc}
 use native.Mathlib.Omega.{arith}
-use lib.Bits.{bitOr, bitXor, or-add-and, xor-add-and, and-le-l, and-le-r}
+use lib.Bits.{bitOr}
 use lib.Dec.{eqb}
 use lib.ListN.{length, getD}
-use borrow.Author.Tests.{eqb-true}
+use borrow.Author.Tests.{eqb-true, eq-eqb}
 use Rattle.laws.proofs.Choices.{and-left, and-right, and-both}
 use Rattle.laws.proofs.Orders.{told, lt-or-le}
 use Rattle.unc.specs.Names.{folded, sameUnit, sameName, SameWithin}
 use Rattle.unc.proofs.NameLaws.{folded-below, folded-above, folded-letter, sameUnit-refl}
+use Rattle.unc.proofs.UnitLaws.{or-none, or-both}
 
 pub sameName-at : (s t : List ℕ) → sameName s t ≡ true → (k : ℕ) → k < length s → sameUnit (getD s k 0) (getD t k 0) ≡ true
 unfolding sameName
@@ -29,12 +30,6 @@ sameName-by [] (b ∷ t) e h = absurd (omega arith)
 sameName-by (a ∷ s) [] e h = absurd (omega arith)
 sameName-by (a ∷ s) (b ∷ t) e h = and-both (h zero (omega arith)) (sameName-by s t (omega arith) (λ k u. h (suc k) (omega arith)))
 
-or-none : (a b : ℕ) → bitOr a b ≡ 0 → (a ≡ 0) × (b ≡ 0)
-or-none a b e = (omega (arith, or-add-and a b, and-le-r a b), omega (arith, or-add-and a b, and-le-l a b))
-
-xor-none : (a b : ℕ) → bitXor a b ≡ 0 → a ≡ b
-xor-none a b e = omega (arith, xor-add-and a b, and-le-l a b, and-le-r a b)
-
 module _ (s t : List ℕ) where
   pub within-none : (n m : ℕ) → m ≤ n → SameWithin s t n m
   within-none n m h = record { at = λ k u v. absurd (omega arith) }
@@ -46,6 +41,10 @@ module _ (s t : List ℕ) where
       at : (k : ℕ) → i ≤ k → k < n → (k < l) ⊎ (l ≤ k) → sameUnit (getD s k 0) (getD t k 0) ≡ true
       at k u v (inl w) = p .at k u (omega arith)
       at k u v (inr w) = q .at k w v
+
+  -- a part of a part
+  within-part : {i j l n : ℕ} → SameWithin s t i n → i ≤ j → l ≤ n → SameWithin s t j l
+  within-part p u v = record { at = λ k x y. p .at k (omega arith) (omega arith) }
 
   within-unit : (i : ℕ) → sameUnit (getD s i 0) (getD t i 0) ≡ true → SameWithin s t i (i + 1)
   within-unit i h = record { at = λ k u v. let z : k ≡ i = omega arith in rw z h }
@@ -60,33 +59,40 @@ module _ (s t : List ℕ) where
   pub within-all : {n : ℕ} → SameWithin s t n (length s) → n ≤ 0 → length s ≡ length t → sameName s t ≡ true
   within-all p u e = sameName-by s t e (λ k v. p .at k (omega arith) v)
 
-  pub unlike-at : (i : ℕ) {r : Bool} → r ≡ sameUnit (getD s i 0) (getD t i 0) → r ≡ false → i < length s → sameName s t ≡ false
-  unlike-at i e h u = go (told (sameName s t))
+  -- a part that is not equal
+  pub unlike-within : {from to : ℕ} {r : Bool} → (SameWithin s t from to → r ≡ true) → r ≡ false → to ≤ length s → sameName s t ≡ false
+  unlike-within {from} {to} h e u = go (told (sameName s t))
     where
       go : (sameName s t ≡ true) ⊎ (sameName s t ≡ false) → sameName s t ≡ false
-      go (inl k) = absurd (true≢false (sym (sameName-at s t k i u) ∙ (sym e ∙ h)))
+      go (inl k) = absurd (true≢false (sym (h (record { at = λ i v w. sameName-at s t k i (omega arith) })) ∙ e))
       go (inr k) = k
 
-  -- a block of units, whose differences are joined by "or"
-  pub block-more : (at k differ : ℕ) → (differ ≡ 0 → SameWithin s t at (at + k))
-      → bitOr differ (bitXor (getD s (at + k) 0) (getD t (at + k) 0)) ≡ 0 → SameWithin s t at (at + (k + 1))
-  block-more at k differ h e =
-      let z : (differ ≡ 0) × (bitXor (getD s (at + k) 0) (getD t (at + k) 0) ≡ 0) = or-none differ _ e in
-      record { at = λ j u v. go j u v (lt-or-le j (at + k)) z }
-    where
-      go : (j : ℕ) → at ≤ j → j < at + (k + 1) → (j < at + k) ⊎ (at + k ≤ j) → (differ ≡ 0) × (bitXor (getD s (at + k) 0) (getD t (at + k) 0) ≡ 0)
-          → sameUnit (getD s j 0) (getD t j 0) ≡ true
-      go j u v (inl w) z = h (z .0) .at j u w
-      go j u v (inr w) z = let i : j ≡ at + k = omega arith in let x : getD s (at + k) 0 ≡ getD t (at + k) 0 = xor-none _ _ (z .1) in rw (i, x) (sameUnit-refl _)
+  pub unlike-at : (i : ℕ) {r : Bool} → r ≡ sameUnit (getD s i 0) (getD t i 0) → r ≡ false → i < length s → sameName s t ≡ false
+  unlike-at i e h u = unlike-within {from = i} {to = i + 1} (λ p. e ∙ p .at i (omega arith) (omega arith)) h (omega arith)
+
+  -- a block of units, whose differences are joined by "or": `d` is the difference of the units at its end
+  pub block-more : (at k : ℕ) {differ d : ℕ} → (differ ≡ 0 → SameWithin s t at (at + k)) → (d ≡ 0 → sameUnit (getD s (at + k) 0) (getD t (at + k) 0) ≡ true)
+      → bitOr differ d ≡ 0 → SameWithin s t at (at + (k + 1))
+  block-more at k {differ} {d} h g e =
+      let z : (differ ≡ 0) × (d ≡ 0) = or-none differ d e in
+      let p : SameWithin s t (at + k) (at + k + 1) = within-unit (at + k) (g (z .1)) in
+      record { at = λ j u v. within-join (h (z .0)) p (omega arith) .at j u (omega arith) }
+
+  pub block-less : (at k : ℕ) {differ d : ℕ} → (SameWithin s t at (at + k) → differ ≡ 0) → (sameUnit (getD s (at + k) 0) (getD t (at + k) 0) ≡ true → d ≡ 0)
+      → SameWithin s t at (at + (k + 1)) → bitOr differ d ≡ 0
+  block-less at k h g p = or-both (h (within-part p (omega arith) (omega arith))) (g (p .at (at + k) (omega arith) (omega arith)))
 
   pub block-end : (at k n differ : ℕ) → (differ ≡ 0 → SameWithin s t at (at + k)) → n ≤ k → eqb differ 0 ≡ true → SameWithin s t at (at + n)
-  block-end at k n differ h l e = record { at = λ j u v. h (eqb-true differ 0 e) .at j u (omega arith) }
+  block-end at k n differ h l e = within-part (h (eqb-true differ 0 e)) (omega arith) (omega arith)
+
+  pub block-told : (at k n differ : ℕ) → (SameWithin s t at (at + k) → differ ≡ 0) → k ≤ n → SameWithin s t at (at + n) → eqb differ 0 ≡ true
+  block-told at k n differ h l p = eq-eqb differ 0 (h (within-part p (omega arith) (omega arith)))
 
   -- the first units up to `next`, and the last ones from `last` on
   pub all-within : {next last n : ℕ} → SameWithin s t 0 next → SameWithin s t last n → last ≤ next → length s ≤ n → length s ≡ length t → sameName s t ≡ true
   all-within p q u v e = sameName-by s t e (λ k w. within-join p q u .at k (omega arith) (omega arith))
 
--- equal units have the same five low bits
+-- equal units have the same five low differ
 folded-low : (u : ℕ) → folded u % 32 ≡ u % 32
 folded-low u = go (lt-or-le u 65) (lt-or-le 90 u)
   where

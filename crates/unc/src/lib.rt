@@ -83,18 +83,53 @@ fn equal_blocks(a: &[u16], b: &[u16], n: usize) -> bool
     true
 }
 
-// Whether two names of one length, of 16 units or more, are the same, unfolded.
-fn equal_units(a: &[u16], b: &[u16]) -> bool
-    requires { ⌜ length (now a) ≡ length (now b) ⌝ }
-    ensures { λ r. ⌜ (r ≡ true → sameName (now (a .entry)) (now (b .entry)) ≡ true) ⌝ }
+// The bits in which two units differ as they are compared: 0 where they are equal. A small letter differs from its capital in bit 5 only.
+fn unlike(a: u16, b: u16) -> u16
+    ensures { λ r. ⌜ (r ≡ 0 → sameUnit a b ≡ true) × (sameUnit a b ≡ true → r ≡ 0) ⌝ }
 {
-    if 32 <= a.len() {
-        return equal_blocks(a, b, 32);
+    let bits = a ^ b;
+    let small = a | 32;
+    if small < 97 {
+        return bits;
     }
-    if 16 <= a.len() {
-        return equal_blocks(a, b, 16);
+    if 122 < small {
+        return bits;
     }
-    false
+    bits & 65503
+}
+
+// Whether the n units from `at` on are equal. The loop has no exit, so that it runs over many units at a time.
+fn same_block(a: &[u16], b: &[u16], at: usize, n: usize) -> bool
+    requires { ⌜ (at + n ≤ length (now a)) × (at + n ≤ length (now b)) ⌝ }
+    ensures { λ r. ⌜ (r ≡ true → SameWithin (now (a .entry)) (now (b .entry)) at (at + n)) × (SameWithin (now (a .entry)) (now (b .entry)) at (at + n) → r ≡ true) ⌝ }
+{
+    let mut differ: u16 = 0;
+    let mut k = 0;
+    while k < n {
+        differ = differ | unlike(a[at + k], b[at + k]);
+        k += 1;
+    }
+    differ == 0
+}
+
+// Whether two names of one length, of n units or more, are equal: the last n units first, since paths of one namespace begin alike; then n at a time, where
+// the last of these may have been compared.
+fn same_blocks(a: &[u16], b: &[u16], n: usize) -> bool
+    requires { ⌜ (length (now a) ≡ length (now b)) × ((0 < n) × (n ≤ length (now a))) ⌝ }
+    ensures { λ r. ⌜ r ≡ sameName (now (a .entry)) (now (b .entry)) ⌝ }
+{
+    let last = a.len() - n;
+    if !same_block(a, b, last, n) {
+        return false;
+    }
+    let mut next = 0;
+    while next < last {
+        if !same_block(a, b, next, n) {
+            return false;
+        }
+        next += n;
+    }
+    true
 }
 
 // Whether two names of one length are equal, unit by unit from the last on.
@@ -124,10 +159,16 @@ pub fn same_name(a: &[u16], b: &[u16]) -> bool
     if a.len() != b.len() {
         return false;
     }
-    if equal_units(a, b) {
-        return true;
+    if a.len() < 8 {
+        return same_units(a, b);
     }
-    same_units(a, b)
+    // most names that are equal are equal unfolded, which takes fewer steps
+    if 32 <= a.len() {
+        if equal_blocks(a, b, 32) {
+            return true;
+        }
+    }
+    same_blocks(a, b, 8)
 }
 
 // Whether a unit may stand in a component.

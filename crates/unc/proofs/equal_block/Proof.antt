@@ -3,6 +3,7 @@ use mathlib.Core.Path.{_≡_}
 use native.Mathlib.Omega.{arith}
 use borrow.Author.Needs.{needs}
 use Rattle.unc.specs.Names.{SameWithin}
+use Rattle.unc.proofs.UnitLaws.{xor-same}
 use Rattle.unc.proofs.WithinLaws.{within-none, block-more, block-end}
 use Rattle.unc.proofs.equal_block.Statement.{statement}
 use Rattle.unc.proofs.equal_block.Tie as tie
@@ -41,7 +42,7 @@ loop-less : tie.Need-loop-less Inv-loop μ-loop
 loop-less c = search needs
 
 loop-again : tie.Need-loop-again Inv-loop μ-loop
-loop-again c = (search needs, block-more _ _ _ _ _ (c .before .before .before .loop .inv .1))
+loop-again c = (search needs, block-more _ _ _ _ (c .before .before .before .loop .inv .1) (xor-same _ _))
 
 returns : tie.Need-returns Inv-loop μ-loop
 returns c = block-end _ _ _ _ _ _ (c .before .loop .inv .1) (omega arith)

@@ -7,18 +7,32 @@ use Rattle.unc.proofs.same_name.Tie as tie
 returns : tie.Need-returns
 returns c = sym (sameName-unlike _ _ (c .if1 .taken))
 
-equal-units-requires : tie.Need-equal-units-requires
-equal-units-requires c κs = search needs
-
-returns-2 : tie.Need-returns-2
-returns-2 c = sym (c .before .equal-units .ensures (c .if2 .taken))
-
 same-units-requires : tie.Need-same-units-requires
 same-units-requires c κs = search needs
 
+returns-2 : tie.Need-returns-2
+returns-2 c = search needs
+
+equal-blocks-requires : tie.Need-equal-blocks-requires
+equal-blocks-requires c κs = search needs
+
 returns-3 : tie.Need-returns-3
-returns-3 c = search needs
+returns-3 c = sym (c .before .equal-blocks .ensures (c .if4 .taken))
+
+same-blocks-requires : tie.Need-same-blocks-requires
+same-blocks-requires c κs = search needs
+
+returns-4 : tie.Need-returns-4
+returns-4 c = search needs
 
 pub same-name-spec : {M : Type 1} → statement M
 same-name-spec =
-    tie.close (tie.spec returns equal-units-requires returns-2 same-units-requires returns-3)
+    tie.close
+    (tie.spec
+    returns
+    same-units-requires
+    returns-2
+    equal-blocks-requires
+    returns-3
+    same-blocks-requires
+    returns-4)

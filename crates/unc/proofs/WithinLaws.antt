@@ -92,7 +92,7 @@ module _ (s t : List ℕ) where
   pub all-within : {next last n : ℕ} → SameWithin s t 0 next → SameWithin s t last n → last ≤ next → length s ≤ n → length s ≡ length t → sameName s t ≡ true
   all-within p q u v e = sameName-by s t e (λ k w. within-join p q u .at k (omega arith) (omega arith))
 
--- equal units have the same five low differ
+-- equal units have the same five low bits
 folded-low : (u : ℕ) → folded u % 32 ≡ u % 32
 folded-low u = go (lt-or-le u 65) (lt-or-le 90 u)
   where

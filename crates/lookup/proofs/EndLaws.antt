@@ -1,4 +1,4 @@
--- Laws of the search for the longest match: what the last units of prefixes tell, and places that are passed over.
+-- Laws of the search for the longest match: what the last units of prefixes tell, and where it may end.
 use mathlib.Core.Path.{_≡_, refl, sym, ap, ap₂, subst, _∙_}
 use mathlib.Core.Bool.{false}
 use mathlib.Core.List.{List}
@@ -16,8 +16,8 @@ use Rattle.places.specs.Layout.{placeAt, unitAt, roomAt}
 use Rattle.caches.specs.Memory.{referrals, placeOf, decode}
 use Rattle.lookup.specs.declared.Found.{Found}
 use Rattle.lookup.specs.Lookup.{longerMatch, longestFrom}
-use Rattle.lookup.specs.Ends.{LowBits, NoMatch}
-use Rattle.lookup.proofs.FindLaws.{place-unlike, no-longer, units-over, units-unlike, find-miss, find-end}
+use Rattle.lookup.specs.Ends.{LowBits}
+use Rattle.lookup.proofs.FindLaws.{no-longer, units-unlike, find-miss, find-end}
 
 -- where the low bits are the same, nothing differs in them
 low-same : (a b : ℕ) → a % 32 ≡ b % 32 → bitAnd (bitXor a b) 31 ≡ 0
@@ -52,54 +52,19 @@ four-same {s} {t} {k} {l} {a} {b} p q same =
     first-same = let e : k + 0 ≡ k = omega arith in let f : l + 0 ≡ l = omega arith in rw (← e, ← f) (same 0 (omega arith))
 
 module _ (raw path : List ℕ) where
-  pub none-yet : {n : ℕ} (i : ℕ) → NoMatch path raw n i i
-  none-yet i = record { at = λ j u v. absurd (omega arith) }
-
-  pub none-join : {n i j l : ℕ} → NoMatch path raw n i j → NoMatch path raw n j l → NoMatch path raw n i l
-  none-join {n} {i} {j} {l} p q = record { at = λ m u v. at m u v (lt-or-le m j) }
-    where
-      at : (m : ℕ) → i ≤ m → m < l → (m < j) ⊎ (j ≤ m) → longerMatch path n (placeOf referrals (placeAt m raw)) ≡ false
-      at m u v (inl w) = p .at m u w
-      at m u v (inr w) = q .at m w v
-
-  none-one : {n i : ℕ} → longerMatch path n (placeOf referrals (placeAt i raw)) ≡ false → NoMatch path raw n i (i + 1)
-  none-one {n} {i} h = record { at = λ j u v. let e : j ≡ i = omega arith in rw e h }
-
-  -- one place more
-  pub none-next : {n i j k next : ℕ} → NoMatch path raw n i j → longerMatch path n (placeOf referrals (placeAt k raw)) ≡ false → k ≡ j → next ≡ k + 1
-      → NoMatch path raw n i next
-  none-next {n} {i} p h e f = rw f (none-join (subst (NoMatch path raw n i) (sym e) p) (none-one h))
-
   -- a place whose last units are not those of the path
-  pub ends-apart : (i : ℕ) → i < length raw / 2336 → {u start at a b : ℕ} {room : List ℕ} → u ≡ unitAt 0 (placeAt i raw) → room ≡ roomAt 0 (placeAt i raw)
-      → start + 4 ≡ u → start ≤ 252 → 4 ≤ length path → at ≡ min start (length path - 4) → LowBits room start a → LowBits path at b
-      → eqb (bitAnd (bitXor a b) 8725857424048159) 0 ≡ false → longerMatch path 0 (placeOf referrals (placeAt i raw)) ≡ false
-  ends-apart i fits {u} {start} {at} eu er es short long e p q h = go (lt-or-le (length path) u)
-    where
-      go : (length path < u) ⊎ (u ≤ length path) → longerMatch path 0 (placeOf referrals (placeAt i raw)) ≡ false
-      go (inl over) = units-over raw path i fits eu (omega arith) over
-      go (inr l) =
-          units-unlike raw path i fits eu er (omega arith) refl (λ same. not-both (eq-eqb _ _ (four-same p q (λ d v.
-          let z : at + d ≡ start + d = omega arith in rw z (within-low _ _ (start + d) (omega arith) (omega arith) same)))) h)
-
-  -- places that are passed over leave the best as it is
-  find-passed : (d i : ℕ) (best : Found) {m : ℕ} (n : ℕ) → m ≤ n → NoMatch path raw m i (i + d) → i + d ≤ length raw / 2336
-      → longestFrom path i best n (drop i (decode referrals raw)) ≡ longestFrom path (i + d) best n (drop (i + d) (decode referrals raw))
-  find-passed zero i best n l p u = let e : i ≡ i + 0 = omega arith in ap (λ (j : ℕ). longestFrom path j best n (drop j (decode referrals raw))) e
-  find-passed (suc d) i best n l p u =
-      let e : i + 1 + d ≡ i + suc d = omega arith in
-      find-miss raw path i best n (place-unlike (placeAt i raw) path n l (p .at i (omega arith) (omega arith))) refl refl refl (omega arith)
-      ∙ (find-passed d (i + 1) best n l (record { at = λ j v w. p .at j (omega arith) (omega arith) }) (omega arith)
-      ∙ ap (λ (j : ℕ). longestFrom path j best n (drop j (decode referrals raw))) e)
-
-  pub find-past : (i j : ℕ) (best : Found) {m : ℕ} (n : ℕ) → i ≤ j → j ≤ length raw / 2336 → NoMatch path raw m i j → m ≤ n
-      → longestFrom path i best n (drop i (decode referrals raw)) ≡ longestFrom path j best n (drop j (decode referrals raw))
-  find-past i j best n h u p l =
-      let e : i + (j - i) ≡ j = omega arith in
-      find-passed (j - i) i best n l (rw e p) (rw e u) ∙ ap (λ (m : ℕ). longestFrom path m best n (drop m (decode referrals raw))) e
+  pub ends-apart : (i : ℕ) → i < length raw / 2336 → {u start a b : ℕ} {room : List ℕ} → u ≡ unitAt 0 (placeAt i raw) → room ≡ roomAt 0 (placeAt i raw)
+      → length path ≤ 256 → start + 4 ≡ min u (length path) → LowBits room start a → LowBits path start b → eqb (bitAnd (bitXor a b) 8725857424048159) 0 ≡ false
+      → longerMatch path 0 (placeOf referrals (placeAt i raw)) ≡ false
+  ends-apart i fits {start = start} eu er short e p q h =
+      units-unlike raw path i fits eu er (λ units within same.
+      not-both (eq-eqb _ _ (four-same p q (λ d v. within-low _ _ (start + d) (omega arith) (omega arith) same))) h)
 
   -- none is longer than the path
+  find-over : (d i : ℕ) (best : Found) (n : ℕ) → length path ≤ n → i + d ≡ length raw / 2336 → longestFrom path i best n (drop i (decode referrals raw)) ≡ best
+  find-over zero i best n l e = find-end raw path i best n (omega arith)
+  find-over (suc d) i best n l e =
+      find-miss raw path i best n refl (no-longer (placeAt i raw) path n l) refl refl (omega arith) ∙ find-over d (i + 1) best n l (omega arith)
+
   pub find-whole : (i : ℕ) (best : Found) (n : ℕ) → n ≡ length path → i ≤ length raw / 2336 → longestFrom path i best n (drop i (decode referrals raw)) ≡ best
-  find-whole i best n e u =
-      find-past i (length raw / 2336) best n u (omega arith) (record { at = λ j v w. no-longer (placeAt j raw) path n (omega arith) }) (omega arith)
-      ∙ find-end raw path (length raw / 2336) best n (omega arith)
+  find-whole i best n e u = find-over (length raw / 2336 - i) i best n (omega arith) (omega arith)

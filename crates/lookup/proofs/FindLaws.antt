@@ -18,7 +18,7 @@ use Rattle.laws.proofs.Listed.{drop-listed, drop-listed-end, map-listed}
 use Rattle.unc.specs.Names.{sameUnit, sameName, SameWithin}
 use Rattle.unc.specs.Paths.{matches}
 use Rattle.unc.proofs.WithinLaws.{sameName-at}
-use Rattle.unc.proofs.MatchLaws.{matches-longer, matches-same}
+use Rattle.unc.proofs.MatchLaws.{matches-longer, matches-same, matches-within}
 use Rattle.places.specs.Layout.{placeCount, placeAt, unitAt, roomAt, textAt}
 use Rattle.places.proofs.LayoutLaws.{length-room}
 use Rattle.lookup.specs.declared.Found.{Found}
@@ -65,8 +65,8 @@ module _ (p : List ℕ) where
     place-longer e h f = longer (textAt 0 p) path n (rw (← e) h) (f ∙ ap (λ (t : List ℕ). matches t path) e) ∙ sym (longer-place path n)
 
     -- what is no match of more than m units is none of more than n
-    pub place-unlike : {m : ℕ} → m ≤ n → longerMatch path m (placeOf referrals p) ≡ false → false ≡ longerMatch path n (placeOf referrals p)
-    place-unlike {m} le h = go (lt-or-le n (length (textAt 0 p)))
+    pub place-unlike : {m : ℕ} → longerMatch path m (placeOf referrals p) ≡ false → m ≤ n → false ≡ longerMatch path n (placeOf referrals p)
+    place-unlike {m} h le = go (lt-or-le n (length (textAt 0 p)))
       where
         go : (n < length (textAt 0 p)) ⊎ (length (textAt 0 p) ≤ n) → false ≡ longerMatch path n (placeOf referrals p)
         go (inl l) = longer (textAt 0 p) path n l (sym (longer (textAt 0 p) path m (omega arith) refl ∙ (sym (longer-place path m) ∙ h))) ∙ sym (longer-place path n)
@@ -93,10 +93,6 @@ module _ (raw path : List ℕ) (i : ℕ) (fits : i < length raw / 2336) where
   pub units-none : {u : ℕ} → u ≡ unitAt 0 (placeAt i raw) → ltb 0 u ≡ false → longerMatch path 0 (placeOf referrals (placeAt i raw)) ≡ false
   units-none {u} e h = sym (place-shorter (placeAt i raw) path 0 refl (omega (arith, text-units, ltb-false 0 u h)))
 
-  -- a prefix that is longer than the path
-  pub units-over : {u : ℕ} → u ≡ unitAt 0 (placeAt i raw) → u ≤ 256 → length path < u → longerMatch path 0 (placeOf referrals (placeAt i raw)) ≡ false
-  units-over e short h = longer-place (placeAt i raw) path 0 ∙ and-no-right (ltb 0 (length prefix)) (matches-longer prefix path (omega (arith, text-units)))
-
   module _ {u : ℕ} {room : List ℕ} (eu : u ≡ unitAt 0 (placeAt i raw)) (er : room ≡ roomAt 0 (placeAt i raw)) where
     text-unit : (k : ℕ) → k < u → getD prefix k 0 ≡ getD room k 0
     unfolding textAt
@@ -110,11 +106,13 @@ module _ (raw path : List ℕ) (i : ℕ) (fits : i < length raw / 2336) where
             let z = text-units in
             rw (← text-unit k (omega arith), ← getD-take (length prefix) path k 0 v) (sameName-at prefix (take (length prefix) path) (matches-same prefix path h) k v)
 
-    pub units-unlike : {n : ℕ} → u ≤ 256 → u ≡ n → (SameWithin room path 0 n → ⊥) → longerMatch path 0 (placeOf referrals (placeAt i raw)) ≡ false
-    units-unlike {n} short e unlike = longer-place (placeAt i raw) path 0 ∙ go (told (matches prefix path))
+    -- a prefix that has no more units than the path, and not its first ones
+    pub units-unlike : (length prefix ≡ min u 256 → length prefix ≤ length path → SameWithin room path 0 (length prefix) → ⊥)
+        → longerMatch path 0 (placeOf referrals (placeAt i raw)) ≡ false
+    units-unlike unlike = longer-place (placeAt i raw) path 0 ∙ go (told (matches prefix path))
       where
         go : (matches prefix path ≡ true) ⊎ (matches prefix path ≡ false) → (ltb 0 (length prefix) && matches prefix path) ≡ false
-        go (inl matched) = let z : length prefix ≡ n = omega (arith, text-units) in absurd (unlike (rw (← z) (first-units matched)))
+        go (inl matched) = absurd (unlike (rw eu text-units) (matches-within prefix path matched) (first-units matched))
         go (inr unmatched) = and-no-right (ltb 0 (length prefix)) unmatched
 
 -- the loop that finds the longest match

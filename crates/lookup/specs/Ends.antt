@@ -1,12 +1,8 @@
 -- Words of the search for the longest match: what the last units of prefixes tell.
 use Prim.Native.Nat.{ℕ, _+_, _/_, _%_, _≤_, _<_}
 use mathlib.Core.Path.{_≡_}
-use mathlib.Core.Bool.{false}
 use mathlib.Core.List.{List}
 use lib.ListN.{getD}
-use Rattle.places.specs.Layout.{placeAt}
-use Rattle.caches.specs.Memory.{referrals, placeOf}
-use Rattle.lookup.specs.Lookup.{longerMatch}
 
 -- a number of four units has the five low bits of the units from k on
 pub record LowBits (s : List ℕ) (k four : ℕ) : Type 0 where
@@ -14,7 +10,3 @@ pub record LowBits (s : List ℕ) (k four : ℕ) : Type 0 where
   pub second : four / 65536 % 32 ≡ getD s (k + 1) 0 % 32
   pub third : four / 4294967296 % 32 ≡ getD s (k + 2) 0 % 32
   pub fourth : four / 281474976710656 % 32 ≡ getD s (k + 3) 0 % 32
-
--- no place from a number up to another has a prefix of more than n units that matches
-pub record NoMatch (path raw : List ℕ) (n from to : ℕ) : Type 0 where
-  pub at : (i : ℕ) → from ≤ i → i < to → longerMatch path n (placeOf referrals (placeAt i raw)) ≡ false

@@ -7,7 +7,7 @@ ghost use Rattle.places.specs.Layout.{placeAt, unitAt, roomAt};
 ghost use Rattle.caches.specs.Memory.{referrals, domains, placeOf, decode, encode, inOrder};
 ghost use Rattle.lookup.specs.Lookup.{longerMatch, longestMatch, withKey, entryAt, age, expired, firstFreeFrom, placeAge, oldest, newPlace, targetPath, targetOpens, dcName, targetHinted, dcHinted};
 ghost use Rattle.lookup.specs.Keys.{keyIs, keyPlace};
-ghost use Rattle.lookup.specs.Ends.{LowBits, NoMatch};
+ghost use Rattle.lookup.specs.Ends.{LowBits};
 use places::PLACE;
 use places::ROOM;
 
@@ -41,55 +41,24 @@ fn smaller(a: usize, b: usize) -> usize
 }
 
 // Whether the prefix of place i may match by its last four units. Paths of one namespace begin alike, so that their ends tell most of them apart. A prefix that
-// is longer than the path is compared with the path's end: it does not match anyway, and a test for it would often be guessed wrong.
+// is longer than the path is compared where the path ends: it does not match anyway, and a test for it would often be guessed wrong.
 fn may_match(cache: &[u16], i: usize, path: &[u16]) -> bool
     requires { ⌜ i < length (now cache) / 2336 ⌝ }
     ensures { λ r. ⌜ (r ≡ false → longerMatch (now (path .entry)) 0 (placeOf referrals (placeAt i (now (cache .entry)))) ≡ false) ⌝ }
 {
-    let units = places::unit(cache, i, 0) as usize;
     if path.len() < END {
         return true;
     }
+    if ROOM < path.len() {
+        return true;
+    }
+    let units = places::unit(cache, i, 0) as usize;
     if units < END {
         return 0 < units;
     }
-    if ROOM < units {
-        return true;
-    }
+    let start = smaller(units, path.len()) - END;
     let room = places::room(cache, i, 0);
-    let start = units - END;
-    (four_units(room, start) ^ four_units(path, smaller(start, path.len() - END))) & LOW_BITS == 0
-}
-
-// The first place from `from` on whose prefix may match, or the number of places. Four places a turn, which is faster.
-fn next_alike(cache: &[u16], from: usize, path: &[u16]) -> usize
-    requires { ⌜ from ≤ length (now cache) / 2336 ⌝ }
-    ensures { λ r. ⌜ (from ≤ r) × ((r ≤ length (now (cache .entry)) / 2336) × NoMatch (now (path .entry)) (now (cache .entry)) 0 from r) ⌝ }
-{
-    let count = cache.len() / PLACE;
-    let mut i = from;
-    while 4 <= count - i {
-        if may_match(cache, i, path) {
-            return i;
-        }
-        if may_match(cache, i + 1, path) {
-            return i + 1;
-        }
-        if may_match(cache, i + 2, path) {
-            return i + 2;
-        }
-        if may_match(cache, i + 3, path) {
-            return i + 3;
-        }
-        i += 4;
-    }
-    while i < count {
-        if may_match(cache, i, path) {
-            return i;
-        }
-        i += 1;
-    }
-    i
+    (four_units(room, start) ^ four_units(path, start)) & LOW_BITS == 0
 }
 
 // Whether the prefix of place i has more units than `units` and matches the path.
@@ -97,6 +66,9 @@ fn longer_match(cache: &[u16], i: usize, path: &[u16], units: usize) -> bool
     requires { ⌜ i < length (now cache) / 2336 ⌝ }
     ensures { λ r. ⌜ r ≡ longerMatch (now (path .entry)) units (placeOf referrals (placeAt i (now (cache .entry)))) ⌝ }
 {
+    if !may_match(cache, i, path) {
+        return false;
+    }
     let prefix = places::text(cache, i, 0);
     if prefix.len() <= units {
         return false;
@@ -113,19 +85,15 @@ pub fn find(cache: &[u16], path: &[u16]) -> Found
     let mut units = 0;
     let mut i = 0;
     while i < count {
-        let next = next_alike(cache, i, path);
-        if next == count {
-            return best;
+        if longer_match(cache, i, path, units) {
+            best = Found::At(i);
+            units = places::text(cache, i, 0).len();
+            // none is longer than the path
+            if units == path.len() {
+                return best;
+            }
         }
-        if longer_match(cache, next, path, units) {
-            best = Found::At(next);
-            units = places::text(cache, next, 0).len();
-        }
-        // none is longer than the path
-        if units == path.len() {
-            return best;
-        }
-        i = next + 1;
+        i += 1;
     }
     best
 }

@@ -1,7 +1,7 @@
 // Units and names on lent units: document 01, "Paths".
 ghost use mathlib.Core.Path.{_≡_};
 ghost use mathlib.Core.Bool.{true};
-ghost use Prim.Native.Nat.{_+_, _≤_, _<_};
+ghost use Prim.Native.Nat.{_+_, _-_, _≤_, _<_};
 ghost use lib.ListN.{length, drop};
 ghost use Rattle.unc.specs.Names.{folded, sameUnit, sameName, SameWithin, plain, nothingOrDots, goodComponent, goodName};
 ghost use Rattle.unc.specs.Paths.{plainLength};
@@ -63,24 +63,41 @@ fn equal_block(a: &[u16], b: &[u16], at: usize, n: usize) -> bool
     differ == 0
 }
 
-// Whether two names of one length, of n units or more, are the same, unfolded: the last n units first, since paths of one namespace begin alike; then n at a
-// time, where the last of these may have been compared.
+// The place of a block of n units that ends at `left`, or of the first block where there are fewer.
+fn block_start(left: usize, n: usize) -> usize
+    ensures { λ r. ⌜ r ≡ left - n ⌝ }
+{
+    if left < n { 0 } else { left - n }
+}
+
+// Whether two names of one length, of n units or more, are the same, unfolded: n at a time from the last on, since paths of one namespace begin alike.
 fn equal_blocks(a: &[u16], b: &[u16], n: usize) -> bool
     requires { ⌜ (length (now a) ≡ length (now b)) × ((0 < n) × (n ≤ length (now a))) ⌝ }
     ensures { λ r. ⌜ (r ≡ true → sameName (now (a .entry)) (now (b .entry)) ≡ true) ⌝ }
 {
-    let last = a.len() - n;
-    if !equal_block(a, b, last, n) {
-        return false;
-    }
-    let mut next = 0;
-    while next < last {
-        if !equal_block(a, b, next, n) {
+    let mut left = a.len();
+    while 0 < left {
+        let at = block_start(left, n);
+        if !equal_block(a, b, at, n) {
             return false;
         }
-        next += n;
+        left = at;
     }
     true
+}
+
+// Whether two names of one length, of 16 units or more, are the same, unfolded, as most names are that are equal.
+fn equal_units(a: &[u16], b: &[u16]) -> bool
+    requires { ⌜ length (now a) ≡ length (now b) ⌝ }
+    ensures { λ r. ⌜ (r ≡ true → sameName (now (a .entry)) (now (b .entry)) ≡ true) ⌝ }
+{
+    if 32 <= a.len() {
+        return equal_blocks(a, b, 32);
+    }
+    if 16 <= a.len() {
+        return equal_blocks(a, b, 16);
+    }
+    false
 }
 
 // The bits in which two units differ as they are compared: 0 where they are equal. A small letter differs from its capital in bit 5 only.
@@ -112,22 +129,18 @@ fn same_block(a: &[u16], b: &[u16], at: usize, n: usize) -> bool
     differ == 0
 }
 
-// Whether two names of one length, of n units or more, are equal: the last n units first, since paths of one namespace begin alike; then n at a time, where
-// the last of these may have been compared.
+// Whether two names of one length, of n units or more, are equal: n at a time from the last on.
 fn same_blocks(a: &[u16], b: &[u16], n: usize) -> bool
     requires { ⌜ (length (now a) ≡ length (now b)) × ((0 < n) × (n ≤ length (now a))) ⌝ }
     ensures { λ r. ⌜ r ≡ sameName (now (a .entry)) (now (b .entry)) ⌝ }
 {
-    let last = a.len() - n;
-    if !same_block(a, b, last, n) {
-        return false;
-    }
-    let mut next = 0;
-    while next < last {
-        if !same_block(a, b, next, n) {
+    let mut left = a.len();
+    while 0 < left {
+        let at = block_start(left, n);
+        if !same_block(a, b, at, n) {
             return false;
         }
-        next += n;
+        left = at;
     }
     true
 }
@@ -162,11 +175,8 @@ pub fn same_name(a: &[u16], b: &[u16]) -> bool
     if a.len() < 8 {
         return same_units(a, b);
     }
-    // most names that are equal are equal unfolded, which takes fewer steps
-    if 32 <= a.len() {
-        if equal_blocks(a, b, 32) {
-            return true;
-        }
+    if equal_units(a, b) {
+        return true;
     }
     same_blocks(a, b, 8)
 }

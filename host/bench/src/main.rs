@@ -186,23 +186,24 @@ fn sought() -> [(&'static str, Vec<u16>, Vec<Vec<u16>>); 5] {
 /// Nanoseconds of a look-up: the proved one, then the plain ones.
 type Times = [f64; WAYS.len() + 1];
 
+// Looks up one path after the other.
+fn in_turn<'a>(cache: &'a [u16], paths: &'a [Vec<u16>], find: impl Fn(&[u16], &[u16]) -> Option<usize> + 'a) -> impl FnMut() + 'a {
+    let mut next = 0;
+    move || {
+        next = if next + 1 < paths.len() { next + 1 } else { 0 };
+        black_box(find(black_box(cache), black_box(&paths[next])));
+    }
+}
+
 // In each row.
 fn look_ups() -> Vec<Times> {
-    sought().map(|(_, cache, paths)| {
-        // one path after the other, as each function comes to it
-        let calling = |find: fn(&[u16], &[u16]) -> Option<usize>| {
-            let (cache, paths, mut next) = (&cache[..], &paths[..], 0);
-            move || {
-                next = if next + 1 < paths.len() { next + 1 } else { 0 };
-                black_box(find(black_box(cache), black_box(&paths[next])));
-            }
-        };
-        let (mut proved, mut plain) = (calling(find), WAYS.map(|(_, way)| calling(way)));
+    let times = sought().map(|(_, cache, paths)| {
+        let (mut proved, mut plain) = (in_turn(&cache, &paths, find), WAYS.map(|(_, way)| in_turn(&cache, &paths, way)));
         let mut calls: Vec<&mut dyn FnMut()> = vec![&mut proved];
         calls.extend(plain.iter_mut().map(|c| c as &mut dyn FnMut()));
         least(&mut calls).try_into().unwrap()
-    })
-    .into()
+    });
+    times.into()
 }
 
 fn hold_look_ups(goals: &mut Goals, builds: &[Vec<Times>]) {

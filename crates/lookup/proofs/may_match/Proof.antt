@@ -7,20 +7,26 @@ use borrow.Author.Needs.{needs}
 use Rattle.lookup.proofs.may_match.Statement.{statement}
 use Rattle.lookup.proofs.may_match.Tie as tie
 
+returns : tie.Need-returns
+returns c = λ e. absurd (true≢false e)
+
+returns-2 : tie.Need-returns-2
+returns-2 c = λ e. absurd (true≢false e)
+
 unit-requires : tie.Need-unit-requires
 unit-requires c κs = search needs
 
 cast-units : tie.Need-cast-units
 cast-units c = search needs
 
-returns : tie.Need-returns
-returns c = λ e. absurd (true≢false e)
-
-returns-2 : tie.Need-returns-2
-returns-2 c = units-none _ _ _ (omega arith) (c .before .before .unit .ensures)
-
 returns-3 : tie.Need-returns-3
-returns-3 c = λ e. absurd (true≢false e)
+returns-3 c = units-none _ _ _ (omega arith) (c .before .unit .ensures)
+
+smaller-requires : tie.Need-smaller-requires
+smaller-requires c κs = search needs
+
+sub-start : tie.Need-sub-start
+sub-start c = search needs
 
 room-requires : tie.Need-room-requires
 room-requires c κs = search needs
@@ -28,32 +34,26 @@ room-requires c κs = search needs
 four-units-requires : tie.Need-four-units-requires
 four-units-requires c κs = search needs
 
-sub-smaller : tie.Need-sub-smaller
-sub-smaller c = search needs
-
-smaller-requires : tie.Need-smaller-requires
-smaller-requires c κs = search needs
-
 four-units-requires-2 : tie.Need-four-units-requires-2
 four-units-requires-2 c κs = search needs
 
 returns-4 : tie.Need-returns-4
 returns-4 c =
-    ends-apart _ _ _ (omega arith) (c .before .before .before .before .before .before .before .unit .ensures) (c .before .before .before .room .ensures .0) (omega arith) (omega arith)
-    (omega arith) (c .before .smaller .ensures) (c .before .before .four-units .ensures) (c .four-units2 .ensures)
+    ends-apart _ _ _ (omega arith) (c .before .before .before .before .before .unit .ensures) (c .before .before .room .ensures .0) (omega arith) (omega arith)
+    (c .before .four-units .ensures) (c .four-units2 .ensures)
 
 pub may-match-spec : {M : Type 1} → statement M
 may-match-spec =
     tie.close
     (tie.spec
-    unit-requires
-    cast-units
     returns
     returns-2
+    unit-requires
+    cast-units
     returns-3
+    smaller-requires
+    sub-start
     room-requires
     four-units-requires
-    sub-smaller
-    smaller-requires
     four-units-requires-2
     returns-4)

@@ -1,23 +1,27 @@
-use Prim.Native.Nat.{_-_, _≤_}
+-- Compares block after block, from the last on. The invariant: the units from `left` on are equal.
+use Prim.Native.Nat.{_≤_}
 use lib.ListN.{length}
 use mathlib.Core.Path.{sym}
 use mathlib.Core.Bool.{true≢false}
-use native.Mathlib.Omega.{arith}
 use borrow.Author.Tests.{not-false}
+use native.Mathlib.Omega.{arith}
 use Rattle.unc.specs.Names.{SameWithin}
-use Rattle.unc.proofs.WithinLaws.{within-none, within-join, all-within}
+use Rattle.unc.proofs.WithinLaws.{within-none, within-join, within-all}
 use borrow.Author.Needs.{needs}
 use Rattle.unc.proofs.equal_blocks.Statement.{statement}
 use Rattle.unc.proofs.equal_blocks.Tie as tie
 
 abbrev Inv-loop : tie.InvT-loop
-Inv-loop a b n last next₀ next = (next ≤ length a) × SameWithin a b 0 next
+Inv-loop a b n left₀ left = (left ≤ length a) × SameWithin a b left (length a)
 
 abbrev μ-loop : tie.MeasureT-loop
-μ-loop a b n last next₀ next = length a - next
+μ-loop a b n left₀ left = left
 
-sub-last : tie.Need-sub-last Inv-loop μ-loop
-sub-last c = search needs
+loop-holds : tie.Need-loop-holds Inv-loop μ-loop
+loop-holds c = (search needs, within-none _ _ _ _ (omega arith))
+
+block-start-requires : tie.Need-block-start-requires Inv-loop μ-loop
+block-start-requires c κs = search needs
 
 equal-block-requires : tie.Need-equal-block-requires Inv-loop μ-loop
 equal-block-requires c κs = search needs
@@ -25,26 +29,14 @@ equal-block-requires c κs = search needs
 returns : tie.Need-returns Inv-loop μ-loop
 returns c = λ e. absurd (true≢false (sym e))
 
-loop-holds : tie.Need-loop-holds Inv-loop μ-loop
-loop-holds c = (search needs, within-none _ _ _ _ (omega arith))
-
-equal-block-requires-2 : tie.Need-equal-block-requires-2 Inv-loop μ-loop
-equal-block-requires-2 c κs = search needs
-
-returns-2 : tie.Need-returns-2 Inv-loop μ-loop
-returns-2 c = λ e. absurd (true≢false (sym e))
-
-add-next : tie.Need-add-next Inv-loop μ-loop
-add-next c = search needs
-
 loop-less : tie.Need-loop-less Inv-loop μ-loop
 loop-less c = search needs
 
 loop-again : tie.Need-loop-again Inv-loop μ-loop
-loop-again c = (search needs, within-join _ _ (c .before .before .before .loop .inv .1) (c .before .equal-block2 .ensures (not-false _ (c .if2 .left))) (omega arith))
+loop-again c = (search needs, within-join _ _ (c .before .equal-block .ensures (not-false _ (c .if1 .left))) (c .before .before .before .before .loop .inv .1) (omega arith))
 
-returns-3 : tie.Need-returns-3 Inv-loop μ-loop
-returns-3 c = λ e. all-within _ _ (c .before .loop .inv .1) (c .before .before .before .equal-block .ensures (not-false _ (c .before .before .if1 .left))) (omega arith) (omega arith) (omega arith)
+returns-2 : tie.Need-returns-2 Inv-loop μ-loop
+returns-2 c = λ e. within-all _ _ (c .before .loop .inv .1) (omega arith) (omega arith)
 
 pub equal-blocks-spec : {M : Type 1} → statement M
 equal-blocks-spec =
@@ -52,13 +44,10 @@ equal-blocks-spec =
     (tie.spec
     Inv-loop
     μ-loop
-    sub-last
+    loop-holds
+    block-start-requires
     equal-block-requires
     returns
-    loop-holds
-    equal-block-requires-2
-    returns-2
-    add-next
     loop-less
     loop-again
-    returns-3)
+    returns-2)

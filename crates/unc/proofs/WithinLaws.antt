@@ -88,10 +88,6 @@ module _ (s t : List ℕ) where
   pub block-told : (at k n differ : ℕ) → (SameWithin s t at (at + k) → differ ≡ 0) → k ≤ n → SameWithin s t at (at + n) → eqb differ 0 ≡ true
   block-told at k n differ h l p = eq-eqb differ 0 (h (within-part p (omega arith) (omega arith)))
 
-  -- the first units up to `next`, and the last ones from `last` on
-  pub all-within : {next last n : ℕ} → SameWithin s t 0 next → SameWithin s t last n → last ≤ next → length s ≤ n → length s ≡ length t → sameName s t ≡ true
-  all-within p q u v e = sameName-by s t e (λ k w. within-join p q u .at k (omega arith) (omega arith))
-
 -- equal units have the same five low bits
 folded-low : (u : ℕ) → folded u % 32 ≡ u % 32
 folded-low u = go (lt-or-le u 65) (lt-or-le 90 u)

@@ -86,20 +86,6 @@ fn equal_blocks(a: &[u16], b: &[u16], n: usize) -> bool
     true
 }
 
-// Whether two names of one length, of 16 units or more, are the same, unfolded, as most names are that are equal.
-fn equal_units(a: &[u16], b: &[u16]) -> bool
-    requires { ⌜ length (now a) ≡ length (now b) ⌝ }
-    ensures { λ r. ⌜ (r ≡ true → sameName (now (a .entry)) (now (b .entry)) ≡ true) ⌝ }
-{
-    if 32 <= a.len() {
-        return equal_blocks(a, b, 32);
-    }
-    if 16 <= a.len() {
-        return equal_blocks(a, b, 16);
-    }
-    false
-}
-
 // The bits in which two units differ as they are compared: 0 where they are equal. A small letter differs from its capital in bit 5 only.
 fn unlike(a: u16, b: u16) -> u16
     ensures { λ r. ⌜ (r ≡ 0 → sameUnit a b ≡ true) × (sameUnit a b ≡ true → r ≡ 0) ⌝ }
@@ -175,8 +161,11 @@ pub fn same_name(a: &[u16], b: &[u16]) -> bool
     if a.len() < 8 {
         return same_units(a, b);
     }
-    if equal_units(a, b) {
-        return true;
+    // most names that are equal are the same, unfolded
+    if 16 <= a.len() {
+        if equal_blocks(a, b, 16) {
+            return true;
+        }
     }
     same_blocks(a, b, 8)
 }

@@ -13,11 +13,11 @@ same-units-requires c κs = search needs
 returns-2 : tie.Need-returns-2
 returns-2 c = search needs
 
-equal-units-requires : tie.Need-equal-units-requires
-equal-units-requires c κs = search needs
+equal-blocks-requires : tie.Need-equal-blocks-requires
+equal-blocks-requires c κs = search needs
 
 returns-3 : tie.Need-returns-3
-returns-3 c = sym (c .before .equal-units .ensures (c .if3 .taken))
+returns-3 c = sym (c .before .equal-blocks .ensures (c .if4 .taken))
 
 same-blocks-requires : tie.Need-same-blocks-requires
 same-blocks-requires c κs = search needs
@@ -32,7 +32,7 @@ same-name-spec =
     returns
     same-units-requires
     returns-2
-    equal-units-requires
+    equal-blocks-requires
     returns-3
     same-blocks-requires
     returns-4)

@@ -104,7 +104,7 @@ fn pair(what: &str, mut proved: impl FnMut(), mut plain: impl FnMut()) -> (f64, 
 const LONG: Shape = Shape { units: 256, targets: 8 };
 const USUAL: Shape = Shape { units: 30, targets: 4 };
 
-// The last prefix: each of the others is compared up to its last two units.
+// The last prefix, or a path below it: the prefixes differ in their last two units.
 fn looked_up(shape: Shape) -> Vec<u16> {
     let mut p = path(shape.units, 31);
     if shape.units < 250 {
@@ -206,17 +206,24 @@ fn look_ups() -> Vec<Times> {
     times.into()
 }
 
+// The goal is the model's look-up, over all rows together and in each; the bound too.
 fn hold_look_ups(goals: &mut Goals, builds: &[Vec<Times>]) {
     println!("look-up in 32 entries, least of {} builds", builds.len());
-    for (row, (what, ..)) in sought().iter().enumerate() {
-        let least = |way: usize| builds.iter().map(|b| b[row][way]).fold(f64::MAX, f64::min);
-        print!("  {what}: proved {}", shown(least(0)));
-        for (way, (name, _)) in WAYS.iter().enumerate() {
-            print!("; {name} {}, ratio {:.2}", shown(least(way + 1)), least(0) / least(way + 1));
+    let mut all = [0.0; WAYS.len() + 1];
+    let mut row = |what: &str, times: Times| {
+        print!("  {what}: proved {}", shown(times[0]));
+        for ((name, _), plain) in WAYS.iter().zip(&times[1..]) {
+            print!("; {name} {}, ratio {:.2}", shown(*plain), times[0] / plain);
         }
         println!();
-        goals.hold(format!("look-up, {what}, against the model's"), least(0) / least(1), LOOK_UP, LOOK_UP * MARGIN);
+        goals.hold(format!("look-up, {what}, against the model's"), times[0] / times[1], LOOK_UP, LOOK_UP * MARGIN);
+    };
+    for (k, (what, ..)) in sought().iter().enumerate() {
+        let times: Times = std::array::from_fn(|way| builds.iter().map(|b| b[k][way]).fold(f64::MAX, f64::min));
+        row(what, times);
+        all.iter_mut().zip(times).for_each(|(sum, time)| *sum += time);
     }
+    row("all of these", all);
 }
 
 // The times of other builds, as `bench look-ups` printed them.

@@ -62,8 +62,8 @@ impl Random {
     }
 }
 
-/// A cache of 32 entries of three namespaces, of various lengths and some below others, and 512 paths, of which each eighth is in capitals.
-pub fn mixed(lies: Lies) -> (Vec<u16>, Vec<Vec<u16>>) {
+/// A cache of 32 entries of three namespaces, of various lengths and some below others, and 512 paths, one of so many in capitals.
+pub fn mixed(lies: Lies, capitals: usize) -> (Vec<u16>, Vec<Vec<u16>>) {
     let mut r = Random(1);
     let mut prefixes: Vec<String> = vec![];
     while prefixes.len() < 32 {
@@ -86,7 +86,7 @@ pub fn mixed(lies: Lies) -> (Vec<u16>, Vec<Vec<u16>>) {
             Lies::Equal => prefix.clone(),
             Lies::Beside => prefix.replacen(r"\", r"\old", 1) + &r.down(count),
         };
-        units(&if i % 8 == 0 { path.to_uppercase() } else { path })
+        units(&if i % capitals == 0 { path.to_uppercase() } else { path })
     });
     let paths = paths.collect();
     (cache, paths)

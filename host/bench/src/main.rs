@@ -169,17 +169,18 @@ fn order_tests(goals: &mut Goals) {
 const WAYS: [(&str, fn(&[u16], &[u16]) -> Option<usize>); 2] = [("the model's", look_up::longest), ("tuned to prefixes of one length", plain::caches::find)];
 
 /// Caches of 32 entries, each with the paths that are looked up in it one after the other.
-fn sought() -> [(&'static str, Vec<u16>, Vec<Vec<u16>>); 5] {
-    let mixed = |what, lies| {
-        let (cache, paths) = data::mixed(lies);
+fn sought() -> [(&'static str, Vec<u16>, Vec<Vec<u16>>); 6] {
+    let mixed = |what, lies, capitals| {
+        let (cache, paths) = data::mixed(lies, capitals);
         (what, cache, paths)
     };
     [
         ("one path, itself a prefix, prefixes of 256 units", referrals(32, LONG), vec![looked_up(LONG)]),
         ("one path, below a prefix, prefixes of 30 units", referrals(32, USUAL), vec![looked_up(USUAL)]),
-        mixed("512 paths below mixed prefixes", Lies::Below),
-        mixed("512 paths equal to mixed prefixes", Lies::Equal),
-        mixed("512 paths beside mixed prefixes", Lies::Beside),
+        mixed("512 paths below mixed prefixes, an eighth in capitals", Lies::Below, 8),
+        mixed("512 paths below mixed prefixes, a third in capitals", Lies::Below, 3),
+        mixed("512 paths equal to mixed prefixes, an eighth in capitals", Lies::Equal, 8),
+        mixed("512 paths beside mixed prefixes, an eighth in capitals", Lies::Beside, 8),
     ]
 }
 

@@ -79,14 +79,14 @@ pub fn mixed(lies: Lies, capitals: usize) -> (Vec<u16>, Vec<Vec<u16>>) {
         put(place, 1, &units(prefix));
         (place[9], place[22]) = (1, 300);
     }
-    let paths = (0..512).map(|i| {
+    let paths = (0..512).map(|_| {
         let (count, prefix) = (r.below(4), &prefixes[r.below(prefixes.len())]);
         let path = match lies {
             Lies::Below => prefix.clone() + &r.down(1 + count),
             Lies::Equal => prefix.clone(),
             Lies::Beside => prefix.replacen(r"\", r"\old", 1) + &r.down(count),
         };
-        units(&if i % capitals == 0 { path.to_uppercase() } else { path })
+        units(&if r.below(capitals) == 0 { path.to_uppercase() } else { path })
     });
     let paths = paths.collect();
     (cache, paths)

@@ -1,15 +1,13 @@
 -- Laws of the search for the longest match: what the last units of prefixes tell, and where it may end.
-use mathlib.Core.Path.{_≡_, refl, sym, ap, ap₂, subst, _∙_}
+use mathlib.Core.Path.{_≡_, refl, sym, ap, ap₂, _∙_}
 use mathlib.Core.Bool.{false}
 use mathlib.Core.List.{List}
-use mathlib.Core.Logic.{_⊎_, inl, inr}
 use Prim.Native.Nat.{ℕ, zero, suc, _+_, _-_, _*_, _/_, _%_, _≤_, _<_, min}
 use native.Mathlib.Omega.{arith}
 use lib.Bits.{bitAnd, bitXor, and-mask, and-block, xor-mod, xor-shr, xor-self}
 use lib.Dec.{eqb}
 use lib.ListN.{length, getD, drop}
 use borrow.Author.Tests.{eq-eqb}
-use Rattle.laws.proofs.Orders.{lt-or-le}
 use Rattle.laws.proofs.Tests.{not-both}
 use Rattle.unc.proofs.WithinLaws.{within-low}
 use Rattle.places.specs.Layout.{placeAt, unitAt, roomAt}

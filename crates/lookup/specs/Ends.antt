@@ -1,5 +1,5 @@
--- Words of the search for the longest match: what the last units of prefixes tell.
-use Prim.Native.Nat.{ℕ, _+_, _/_, _%_, _≤_, _<_}
+-- A word of the search for the longest match: what the last units of a prefix tell.
+use Prim.Native.Nat.{ℕ, _+_, _/_, _%_}
 use mathlib.Core.Path.{_≡_}
 use mathlib.Core.List.{List}
 use lib.ListN.{getD}

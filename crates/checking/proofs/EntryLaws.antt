@@ -1,6 +1,6 @@
 -- Laws of the lines of an entry: that they pass the tests line by line is that they list an entry that a listing can say.
 use mathlib.Core.Path.{_≡_, refl, sym, ap, subst, _∙_}
-use mathlib.Core.Bool.{Bool, true, false, true≢false, _&&_, _||_, not}
+use mathlib.Core.Bool.{Bool, true, false, true≢false, _&&_, not}
 use mathlib.Core.List.{List, [], _∷_, _++_, map}
 use mathlib.Core.Logic.{_⊎_, inl, inr}
 use Prim.Native.Nat.{ℕ, zero, suc, _+_, _-_, _≤_, _<_}
@@ -12,7 +12,7 @@ use borrow.Author.Tests.{ne-eqb, leb-true, le-leb, ltb-true, lt-ltb}
 use Rattle.laws.specs.Choice.{choose}
 use Rattle.laws.specs.Lists.{every}
 use Rattle.laws.specs.Listed.{sameList}
-use Rattle.laws.proofs.Choices.{choose-yes, choose-no, and-both, and-left, and-right, and-yes-left}
+use Rattle.laws.proofs.Choices.{choose-yes, choose-no, and-both, and-left, and-right, and-yes-left, or-told}
 use Rattle.laws.proofs.Listed.{sameList-true, same-sameList}
 use Rattle.laws.proofs.Orders.{told}
 use Rattle.places.specs.Layout.{flagUnit}
@@ -124,10 +124,6 @@ pub flag-good : (key : List ℕ) (b : Bool) → isNumberLine key 1 (numberLine k
 flag-good key b = number-good key 1 (flagUnit b) (let z = flag-small b in omega arith) (flag-small b)
 
 -- the line of the kind
-or-told : (a b : Bool) → (a || b) ≡ true → (a ≡ true) ⊎ (b ≡ true)
-or-told true b h = inl refl
-or-told false b h = inr h
-
 kind-word : (b : Bool) → sameList (kindWord b) (kindWord true) ≡ b
 unfolding kindWord sameList
 kind-word true = refl

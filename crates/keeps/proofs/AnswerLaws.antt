@@ -26,7 +26,7 @@ use Rattle.referral.specs.Replies.{malformed, nothing, says, readReferral}
 use Rattle.referral.proofs.SaysLaws.{Sound, says-sound}
 use Rattle.namelists.specs.NameLists.{readDcs}
 use Rattle.namelists.proofs.SaysLaws.{says-dcs}
-use Rattle.storing.specs.Stored.{fresh, prefixed, stored, isInterlink}
+use Rattle.storing.specs.Stored.{fresh, prefixed, isInterlink}
 use Rattle.steps.specs.Steps.{Caches, Core, Question, Called, ends, Turn, waits, withHit, withReferrals, nameAsked, inUse, referralInUse, nextPlace, onward, doubled, failedHost, failed, referralFails, hintSet, emptyEnd, dcsIn, dcAnswer, coversNothing, storedTurn, referralAnswer, referralSucceeds, referralAnswered, ioFails, ioWith, ioAnswered, severity, isOneOf, nextTargetStatuses, step6, step8, linkRequest}
 use Rattle.steps.specs.Steps.{bufferOverflow, pathNotFound, pathNotCovered, mostSize}
 use Rattle.steps.specs.Rested.{askingOf, nextOf, triedOf}

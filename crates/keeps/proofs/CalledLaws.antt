@@ -1,6 +1,6 @@
 -- What the steps call for is in form.
 use mathlib.Core.Path.{_≡_, refl, sym, subst}
-use mathlib.Core.Bool.{Bool, true, false, _&&_, _||_, not}
+use mathlib.Core.Bool.{Bool, true, false, _&&_, not}
 use mathlib.Core.List.{List, []}
 use mathlib.Core.Logic.{_⊎_, inl, inr}
 use mathlib.Core.Option.{Option, none, some}
@@ -10,7 +10,7 @@ use lib.ListN.{length, getD}
 use lib.Dec.{leb, eqb}
 use borrow.Author.Tests.{le-leb, leb-true}
 use Rattle.laws.specs.Choice.{choose}
-use Rattle.laws.proofs.Choices.{and-both, eqb-refl}
+use Rattle.laws.proofs.Choices.{and-both, or-right, eqb-refl}
 use Rattle.unc.specs.Paths.{components, firstOf, matches, isSysvol, replaced, normalisedCount}
 use Rattle.caches.specs.Entries.{Referral, Domain, Place}
 use Rattle.caches.specs.Order.{goodPrefix, goodReferral}
@@ -51,10 +51,6 @@ picked P false x y f g = g refl
 
 pub chosen : {A : Type 0} (P : A → Type 0) (b : Bool) (x y : A) → P x → P y → P (choose b x y)
 chosen P b x y f g = picked P b x y (λ t. f) (λ t. g)
-
-pub or-right : (a : Bool) {b : Bool} → b ≡ true → (a || b) ≡ true
-or-right true h = refl
-or-right false h = h
 
 -- ends
 module _ (path : List ℕ) where

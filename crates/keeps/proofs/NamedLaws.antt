@@ -1,6 +1,6 @@
 -- An event changes no place but those that it names.
 use mathlib.Core.Path.{_≡_, refl, sym, ap, _∙_, subst}
-use mathlib.Core.Bool.{Bool, true, false, _||_, true≢false}
+use mathlib.Core.Bool.{Bool, false, _||_}
 use mathlib.Core.List.{List, [], _∷_}
 use mathlib.Core.Option.{Option, none, some}
 use Prim.Native.Nat.{ℕ, zero, suc, _+_}
@@ -9,6 +9,7 @@ use lib.Seq.{getD-set-other}
 use lib.Dec.{eqb, leb, ltb}
 use borrow.Author.Tests.{eqb-false}
 use Rattle.laws.specs.Choice.{choose}
+use Rattle.laws.proofs.Choices.{or-none}
 use Rattle.unc.specs.Paths.{components}
 use Rattle.caches.specs.Entries.{Referral, Place, free, used}
 use Rattle.caches.specs.Memory.{referrals, domains}
@@ -26,10 +27,6 @@ use Rattle.steps.specs.declared.Kind.the-variants.{Dc, Root, Link, Sysvol, Io}
 use Rattle.keeps.specs.Named.{isAt, usesPrefix, usesDomain, storesAt, stores, Elsewhere}
 use Rattle.keeps.proofs.CalledLaws.{chosen}
 use Rattle.keeps.proofs.HintLaws.{kindTo, target-none, target-at, dc-none, dc-at, dcs-none, dcs-at}
-
-or-none : (a b : Bool) → (a || b) ≡ false → (a ≡ false) × (b ≡ false)
-or-none true b h = absurd (true≢false h)
-or-none false b h = (refl, h)
 
 -- a hint changes no key and no age, and frees no place: a reply goes where it would have gone
 module _ (h : ℕ) where

@@ -11,7 +11,7 @@ use borrow.Author.Tests.{leb-true}
 use Rattle.unc.specs.Names.{goodName}
 use Rattle.unc.specs.Paths.{goodPath, normalised, pathUnits}
 use Rattle.caches.specs.Memory.{referrals, domains, encode, inOrder}
-use Rattle.steps.specs.Steps.{Caches, Core, waits, Turn, Resting, turned, started, inUse}
+use Rattle.steps.specs.Steps.{Caches, Core, Turn, Resting, turned, started, inUse}
 use Rattle.steps.specs.Rested.{cachesOf, coreOf}
 use Rattle.questions.specs.Questions.{restFits}
 use Rattle.walks.specs.Walks.{goodLimit, goodSettings, bootIn, inForm, walkOf, textsAfter}

@@ -9,7 +9,7 @@ use native.Mathlib.Omega.{arith}
 use lib.ListN.{length, getD, take}
 use lib.Dec.{leb, ltb, eqb}
 use borrow.Author.Tests.{lt-ltb, ltb-true}
-use Rattle.laws.proofs.Choices.{choose-no, and-both}
+use Rattle.laws.proofs.Choices.{choose-no, and-both, or-right}
 use Rattle.unc.specs.Paths.{components, firstOf, isSysvol, pathUnits}
 use Rattle.caches.specs.Entries.{Referral, Domain}
 use Rattle.caches.specs.Order.{goodReferral, goodDomain, goodDCHint}
@@ -32,7 +32,7 @@ use Rattle.keeps.specs.Keeps.{GoodCaches}
 use Rattle.keeps.proofs.PrefixLaws.{first-matches}
 use Rattle.keeps.proofs.CacheLaws.{held-is, place-good, Equal, prefixed-or}
 use Rattle.keeps.proofs.FoundLaws.{Under, under-path}
-use Rattle.keeps.proofs.CalledLaws.{picked, chosen, or-right}
+use Rattle.keeps.proofs.CalledLaws.{picked, chosen}
 use Rattle.keeps.proofs.HintLaws.{kindTo}
 
 -- the question that is called for, if one is, uses an entry that is there

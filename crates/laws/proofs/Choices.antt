@@ -1,9 +1,10 @@
 -- Laws of a choice by a test, and of tests joined by "and".
 use mathlib.Core.Path.{_≡_, refl, ap, sym, _∙_}
-use mathlib.Core.Bool.{Bool, true, false, _&&_, not, true≢false}
+use mathlib.Core.Bool.{Bool, true, false, _&&_, _||_, true≢false}
+use mathlib.Core.Logic.{_⊎_, inl, inr}
 use Prim.Native.Nat.{ℕ}
 use lib.Dec.{eqb}
-use borrow.Author.Tests.{eqb-true, eq-eqb, ne-eqb, eqb-false}
+use borrow.Author.Tests.{eqb-true, eq-eqb}
 use Rattle.laws.specs.Choice.{choose}
 
 module _ {ℓ} {A : Type ℓ} where
@@ -35,6 +36,18 @@ and-no-left b p = rw p
 pub and-no-right : (a : Bool) {b : Bool} → b ≡ false → (a && b) ≡ false
 and-no-right true q = q
 and-no-right false q = refl
+
+pub or-told : (a b : Bool) → (a || b) ≡ true → (a ≡ true) ⊎ (b ≡ true)
+or-told true b h = inl refl
+or-told false b h = inr h
+
+pub or-right : (a : Bool) {b : Bool} → b ≡ true → (a || b) ≡ true
+or-right true h = refl
+or-right false h = h
+
+pub or-none : (a b : Bool) → (a || b) ≡ false → (a ≡ false) × (b ≡ false)
+or-none true b h = absurd (true≢false h)
+or-none false b h = (refl, h)
 
 -- a test of equal numbers
 pub eqb-refl : (n : ℕ) → eqb n n ≡ true

@@ -1,14 +1,14 @@
 -- Laws of a piece written over a list (`pasted`), of a part, and of a text in a room.
-use mathlib.Core.Path.{_≡_, refl, sym, ap, _∙_, subst}
+use mathlib.Core.Path.{_≡_, refl, sym, ap, _∙_}
 use mathlib.Core.List.{List, [], _∷_, _++_, append-assoc, append-nil}
-use Prim.Native.Nat.{ℕ, zero, suc, _+_, _-_, _≤_, _<_, min}
+use Prim.Native.Nat.{ℕ, _+_, _-_, _≤_, _<_}
 use native.Mathlib.Nat.{add-zero, zero-add, add-assoc, add-sub-of-le}
 use native.Mathlib.Numerals.{add-one}
 use native.Mathlib.Omega.{arith}
-use lib.ListN.{length, getD, take, drop, set, replicate, length-append, length-take, length-drop, length-set, length-replicate, take-append-drop, getD-replicate, List·getD-append}
-use lib.Seq.{ext-getD, getD-take, getD-drop, getD-append-add, set-split, drop-drop, take-add, getD-set-same, getD-set-other}
+use lib.ListN.{length, getD, take, drop, set, replicate, length-append, length-take, length-drop, length-replicate, take-append-drop, List·getD-append}
+use lib.Seq.{ext-getD, getD-take, getD-drop, getD-append-add, set-split, drop-drop}
 use Rattle.laws.specs.Lists.{pasted, part, roomed}
-use Rattle.laws.proofs.Orders.{Lies, low, within, high, lies, lt-or-le}
+use Rattle.laws.proofs.Orders.{Lies, low, within, high, lies}
 
 module _ {ℓ} {A : Type ℓ} where
   -- an element past the first list of two

@@ -77,8 +77,8 @@ fn start(
     requires { ⌜ 4931 ≤ length (now out) ⌝ }
     ensures { λ r. ⌜ Made (startMade s (lent walk (now (refs .entry)) (now (doms .entry)) (now (texts .entry)) (now (path .entry)) (now (boot .entry)) [])) r (now (refs .entry)) (now (doms .entry)) (now (texts .exit)) (now (out .entry)) (now (out .exit)) ⌝ }
 {
-    let n = hexes::least(s.path, path.len());
-    let b = hexes::least(s.boot, boot.len());
+    let n = rooms::least(s.path, path.len());
+    let b = rooms::least(s.boot, boot.len());
     let mut request = no_request();
     let o = resolve::start(
         refs,
@@ -123,7 +123,7 @@ fn answer_referral(
     requires { ⌜ 4931 ≤ length (now out) ⌝ }
     ensures { λ r. ⌜ Made (referralMade s (lent walk (now (refs .entry)) (now (doms .entry)) (now (texts .entry)) [] [] (now (reply .entry)))) r (now (refs .exit)) (now (doms .exit)) (now (texts .exit)) (now (out .entry)) (now (out .exit)) ⌝ }
 {
-    let n = hexes::least(s.reply, reply.len());
+    let n = rooms::least(s.reply, reply.len());
     let mut request = no_request();
     let o = resolve::answer_referral(
         refs,

@@ -1,22 +1,20 @@
 -- Laws of the line that is held.
-use mathlib.Core.Path.{_≡_, refl, sym, ap, _∙_}
+use mathlib.Core.Path.{_≡_, sym, ap, _∙_}
 use mathlib.Core.Bool.{Bool, true, false}
-use mathlib.Core.List.{List, [], _∷_, _++_}
-use mathlib.Core.Logic.{_⊎_, inl, inr}
-use Prim.Native.Nat.{ℕ, zero, suc, _+_, _-_, _≤_, _<_, min}
+use mathlib.Core.List.{List}
+use Prim.Native.Nat.{ℕ, suc, _+_, _-_, _≤_, _<_, min}
 use native.Mathlib.Nat.{add-zero}
 use native.Mathlib.Numerals.{add-one}
 use native.Mathlib.Omega.{arith}
-use lib.ListN.{length, take, drop, getD, length-take, length-drop, drop-of-length-le}
-use lib.Seq.{drop-cons, take-all}
-use Rattle.laws.specs.Choice.{choose}
+use lib.ListN.{length, take, drop, getD, length-take, drop-of-length-le}
+use lib.Seq.{drop-cons}
 use Rattle.laws.specs.Lists.{pasted}
 use Rattle.laws.proofs.Choices.{choose-yes, choose-no}
 use Rattle.laws.proofs.Pasting.{pasted-nil}
 use Rattle.hexes.specs.Hexes.{isHex}
-use Rattle.hexes.specs.Held.{oneMore, nextRest, restFrom, heldOf, heldAfter, lineAfter}
+use Rattle.hexes.specs.Held.{oneMore, nextRest, restFrom, heldAfter, lineAfter}
 use Rattle.hexes.specs.declared.Rest.{Rest}
-use Rattle.hexes.specs.declared.Rest.the-variants.{None, Even, Odd, Other}
+use Rattle.hexes.specs.declared.Rest.the-variants.{Other}
 use Rattle.hexes.specs.declared.Held.{Held}
 use Rattle.hexes.proofs.HexLaws.{take-least, drop-least}
 

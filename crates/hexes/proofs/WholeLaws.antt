@@ -1,6 +1,5 @@
 -- A line that is held piece by piece is held as if it had come at once.
 use mathlib.Core.Path.{_≡_, refl, sym, ap, _∙_}
-use mathlib.Core.Bool.{Bool, true, false, _&&_}
 use mathlib.Core.List.{List, [], _∷_, _++_, append-assoc}
 use mathlib.Core.Logic.{_⊎_, inl, inr}
 use Prim.Native.Nat.{ℕ, zero, suc, _+_, _-_, _≤_, _<_}
@@ -14,7 +13,6 @@ use Rattle.laws.proofs.Pasting.{pasted-nil}
 use Rattle.hexes.specs.Held.{nextRest, restFrom, heldOf, heldAfter, lineAfter}
 use Rattle.hexes.specs.declared.Rest.{Rest}
 use Rattle.hexes.specs.declared.Rest.the-variants.{None}
-use Rattle.hexes.specs.declared.Held.{Held}
 
 pub rest-append : (r : Rest) (s p : List ℕ) → restFrom r (s ++ p) ≡ restFrom (restFrom r s) p
 unfolding restFrom

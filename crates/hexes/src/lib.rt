@@ -1,7 +1,7 @@
 // The bytes of a line as they come, and hex digits in either case: document 01, "Examples to hold it to".
 ghost use mathlib.Core.Path.{_≡_};
 ghost use mathlib.Core.Bool.{true};
-ghost use Prim.Native.Nat.{_+_, _*_, _≤_, _<_, min};
+ghost use Prim.Native.Nat.{_+_, _*_, _≤_, _<_};
 ghost use lib.ListN.{length, take, getD};
 ghost use Rattle.laws.specs.Lists.{every, pasted};
 ghost use Rattle.hexes.specs.Hexes.{upper, isHex, hexValue, hexNumber, bytesOf};
@@ -98,22 +98,13 @@ pub fn number(s: &[u16]) -> u32
     16777216 * a + (65536 * b + (256 * c + d))
 }
 
-pub fn least(a: usize, b: usize) -> usize
-    ensures { λ r. ⌜ r ≡ min a b ⌝ }
-{
-    if a < b {
-        return a;
-    }
-    b
-}
-
 // The bytes that pairs of digits say, as many as the buffer holds; answers how many.
 pub fn put_bytes(s: &[u16], out: &mut [u8]) -> usize
     requires { ⌜ every isHex (now s) ≡ true ⌝ }
     ensures count { λ r. ⌜ r ≡ length (take (length (now (out .entry))) (bytesOf (now (s .entry)))) ⌝ }
     ensures bytes { λ r. ⌜ now (out .exit) ≡ pasted (now (out .entry)) 0 (take (length (now (out .entry))) (bytesOf (now (s .entry)))) ⌝ }
 {
-    let n = least(out.len(), s.len() / 2);
+    let n = rooms::least(out.len(), s.len() / 2);
     let mut i = 0;
     while i < n {
         out[i] = byte_at(s, 2 * i);
@@ -153,7 +144,7 @@ pub fn widen(src: &[u8], out: &mut [u16]) -> usize
     ensures count { λ r. ⌜ r ≡ length (take (length (now (out .entry))) (now (src .entry))) ⌝ }
     ensures units { λ r. ⌜ now (out .exit) ≡ pasted (now (out .entry)) 0 (take (length (now (out .entry))) (now (src .entry))) ⌝ }
 {
-    let n = least(out.len(), src.len());
+    let n = rooms::least(out.len(), src.len());
     let mut i = 0;
     while i < n {
         out[i] = src[i] as u16;
@@ -175,7 +166,7 @@ pub fn hold(part: &[u16], line: &mut [u16], held: Held) -> Held
             rest: rest_with(rest, part),
         };
     }
-    let n = least(line.len() - kept, part.len());
+    let n = rooms::least(line.len() - kept, part.len());
     rooms::copy_units(line, kept, &part[..n]);
     Held {
         kept: kept + n,

@@ -1,9 +1,16 @@
 // Writing units into lent memory: one unit, a piece, zeros, a text in its room. What lies outside the place that is named stays.
 ghost use mathlib.Core.Path.{_≡_};
 ghost use mathlib.Core.List.{List, [], _∷_};
-ghost use Prim.Native.Nat.{_+_, _-_, _≤_, _<_};
+ghost use Prim.Native.Nat.{_+_, _-_, _≤_, _<_, min};
 ghost use lib.ListN.{length, replicate};
 ghost use Rattle.laws.specs.Lists.{pasted, roomed};
+
+// The smaller of two lengths: what fits.
+pub fn least(a: usize, b: usize) -> usize
+    ensures { λ r. ⌜ r ≡ min a b ⌝ }
+{
+    if a < b { a } else { b }
+}
 
 pub fn put_unit(dst: &mut [u16], at: usize, v: u16)
     requires { ⌜ at < length (now dst) ⌝ }

@@ -96,7 +96,7 @@ fn take_line(
 ) -> Script
     ensures { λ r. ⌜ read r (now (path .exit)) (now (boot .exit)) (now (reply .exit)) ≡ takes s (keptOf (now (line .entry)) held) (held .rest) (now (path .entry)) (now (boot .entry)) (now (reply .entry)) ⌝ }
 {
-    let n = hexes::least(held.kept, line.len());
+    let n = rooms::least(held.kept, line.len());
     let rest = held.rest;
     if is_reply(s, &line[..n]) {
         return script::take_reply(s, &line[..n], rest, reply);
@@ -170,7 +170,7 @@ fn line_due(s: Script, line: &[u16], held: Held) -> Due
     if !is_status(last) {
         return Due::None;
     }
-    let n = hexes::least(held.kept, line.len());
+    let n = rooms::least(held.kept, line.len());
     let key = REPLY;
     if lines::has_key(&key, &line[..n]) {
         return Due::None;

@@ -1,5 +1,4 @@
 use Rattle.hexes.proofs.HexLaws.{is-low, is-decimal, is-between, is-letter}
-use native.Mathlib.Omega.{arith}
 use borrow.Author.Needs.{needs}
 use Rattle.hexes.proofs.is_hex.Statement.{statement}
 use Rattle.hexes.proofs.is_hex.Tie as tie

@@ -1,7 +1,7 @@
 use Rattle.hexes.proofs.HeldLaws.{rest-other, rest-digit}
 use Rattle.hexes.specs.Held.{oneMore}
 use borrow.Author.Tests.{not-true, not-false}
-use mathlib.Core.Path.{refl, sym, ap}
+use mathlib.Core.Path.{sym, ap}
 use borrow.Author.Needs.{needs}
 use Rattle.hexes.proofs.next_rest.Statement.{statement}
 use Rattle.hexes.proofs.next_rest.Tie as tie

@@ -1,5 +1,4 @@
 use Rattle.hexes.proofs.HexLaws.{number-said}
-use native.Mathlib.Omega.{arith}
 use denote.Ref.{now}
 use borrow.Author.Needs.{needs}
 use Rattle.hexes.proofs.number.Statement.{statement}

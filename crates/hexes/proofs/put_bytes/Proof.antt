@@ -3,7 +3,7 @@ use Rattle.hexes.specs.Hexes.{bytesOf}
 use Rattle.laws.proofs.Pasting.{pasted-nil}
 use Rattle.laws.specs.Lists.{pasted}
 use lib.ListN.{length, take}
-use Prim.Native.Nat.{ℕ, _-_, _≤_, min}
+use Prim.Native.Nat.{_-_, _≤_, min}
 use mathlib.Core.Path.{_≡_, sym, ap, _∙_}
 use native.Mathlib.Omega.{arith}
 use denote.Ref.{now}

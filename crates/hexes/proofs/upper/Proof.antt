@@ -1,5 +1,4 @@
 use Rattle.hexes.proofs.HexLaws.{upper-low, upper-letter, upper-high}
-use native.Mathlib.Omega.{arith}
 use borrow.Author.Needs.{needs}
 use Rattle.hexes.proofs.upper.Statement.{statement}
 use Rattle.hexes.proofs.upper.Tie as tie

@@ -3,8 +3,8 @@ use mathlib.Core.Path.{refl}
 use Rattle.laws.proofs.Pasting.{pasted-nil}
 use Rattle.laws.specs.Lists.{pasted}
 use lib.ListN.{length, take}
-use Prim.Native.Nat.{ℕ, _-_, _≤_, min}
-use mathlib.Core.Path.{_≡_, sym, ap, _∙_}
+use Prim.Native.Nat.{_-_, _≤_}
+use mathlib.Core.Path.{_≡_, sym}
 use native.Mathlib.Omega.{arith}
 use denote.Ref.{now}
 use borrow.Author.Needs.{needs}

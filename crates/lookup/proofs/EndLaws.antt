@@ -1,21 +1,23 @@
 -- Laws of the search for the longest match: what the last units of prefixes tell, and where it may end.
 use mathlib.Core.Path.{_≡_, refl, sym, ap, ap₂, _∙_}
-use mathlib.Core.Bool.{false}
+use mathlib.Core.Bool.{Bool, true, false}
 use mathlib.Core.List.{List}
 use Prim.Native.Nat.{ℕ, zero, suc, _+_, _-_, _*_, _/_, _%_, _≤_, _<_, min}
 use native.Mathlib.Omega.{arith}
 use lib.Bits.{bitAnd, bitXor, and-mask, and-block, xor-mod, xor-shr, xor-self}
 use lib.Dec.{eqb}
 use lib.ListN.{length, getD, drop}
-use borrow.Author.Tests.{eq-eqb}
+use borrow.Author.Tests.{eq-eqb, ne-eqb}
+use Rattle.laws.proofs.Choices.{choose-yes, choose-no}
 use Rattle.laws.proofs.Tests.{not-both}
 use Rattle.unc.proofs.WithinLaws.{within-low}
-use Rattle.places.specs.Layout.{placeAt, unitAt, roomAt}
+use Rattle.places.specs.Layout.{placeAt, unitAt, roomAt, textAt}
 use Rattle.caches.specs.Memory.{referrals, placeOf, decode}
 use Rattle.lookup.specs.declared.Found.{Found}
-use Rattle.lookup.specs.Lookup.{longerMatch, longestFrom}
-use Rattle.lookup.specs.Ends.{LowBits}
-use Rattle.lookup.proofs.FindLaws.{no-longer, units-unlike, find-miss, find-end}
+use Rattle.lookup.specs.Lookup.{longerMatch, longestFrom, longestMatch}
+use Rattle.lookup.specs.declared.Found.the-variants.{At, Nothing}
+use Rattle.lookup.specs.Ends.{LowBits, Passed, bestFound}
+use Rattle.lookup.proofs.FindLaws.{longer-units, no-longer, place-unlike, units-unlike, find-start, find-hit, find-miss, find-end}
 
 -- where the low bits are the same, nothing differs in them
 low-same : (a b : ℕ) → a % 32 ≡ b % 32 → bitAnd (bitXor a b) 31 ≡ 0
@@ -49,6 +51,15 @@ four-same {s} {t} {k} {l} {a} {b} p q same =
     first-same : getD s k 0 % 32 ≡ getD t l 0 % 32
     first-same = let e : k + 0 ≡ k = omega arith in let f : l + 0 ≡ l = omega arith in rw (← e, ← f) (same 0 (omega arith))
 
+-- the best so far
+pub best-none : (i : ℕ) {n : ℕ} → n ≡ 0 → Nothing ≡ bestFound i n
+unfolding bestFound
+best-none i e = sym (choose-yes Nothing (At i) (eq-eqb _ _ e))
+
+pub best-at : (i : ℕ) {n : ℕ} → (n ≡ 0 → ⊥) → At i ≡ bestFound i n
+unfolding bestFound
+best-at i h = sym (choose-no Nothing (At i) (ne-eqb _ _ h))
+
 module _ (raw path : List ℕ) where
   -- a place whose last units are not those of the path
   pub ends-apart : (i : ℕ) → i < length raw / 2336 → {u start a b : ℕ} {room : List ℕ} → u ≡ unitAt 0 (placeAt i raw) → room ≡ roomAt 0 (placeAt i raw)
@@ -57,6 +68,33 @@ module _ (raw path : List ℕ) where
   ends-apart i fits {start = start} eu er short e p q h =
       units-unlike raw path i fits eu er (λ units within same.
       not-both (eq-eqb _ _ (four-same p q (λ d v. within-low _ _ (start + d) (omega arith) (omega arith) same))) h)
+
+  -- places that are passed over
+  pub passed-none : {i j : ℕ} → j ≡ i → Passed raw path i j
+  passed-none e = rw e (record { same = λ best n. refl })
+
+  pub passed-on : {i j k : ℕ} → Passed raw path i j → Passed raw path j k → Passed raw path i k
+  passed-on p q = record { same = λ best n. p .same best n ∙ q .same best n }
+
+  pub passed-one : {h i j : ℕ} → Passed raw path h i → longerMatch path 0 (placeOf referrals (placeAt i raw)) ≡ false → i < length raw / 2336 → j ≡ i + 1
+      → Passed raw path h j
+  passed-one {i = i} p unmatched fits e =
+      passed-on p (rw e (record { same = λ best n. find-miss raw path i best n (place-unlike (placeAt i raw) path n unmatched (omega arith)) refl refl refl fits }))
+
+  -- the loop, with the best so far: at first none
+  pub find-begin : longestMatch path (decode referrals raw) ≡ longestFrom path 0 (bestFound 0 0) 0 (drop 0 (decode referrals raw))
+  find-begin = find-start raw path ∙ ap (λ (b : Found). longestFrom path 0 b 0 (drop 0 (decode referrals raw))) (best-none 0 refl)
+
+  module _ (i best n : ℕ) {best′ n′ : ℕ} {r : Bool} (e : r ≡ longerMatch path n (placeOf referrals (placeAt i raw))) where
+    pub find-better : {key : List ℕ} → r ≡ true → best′ ≡ i → key ≡ textAt 0 (placeAt i raw) → n′ ≡ length key → i < length raw / 2336
+        → longestFrom path i (bestFound best n) n (drop i (decode referrals raw)) ≡ longestFrom path (i + 1) (bestFound best′ n′) n′ (drop (i + 1) (decode referrals raw))
+    find-better {key} h p k q u =
+        let more : n < length key = rw k (longer-units (placeAt i raw) path n (sym e ∙ h)) in
+        find-hit raw path i (bestFound best n) n e h (sym (best-at best′ (λ z. absurd (omega arith))) ∙ ap At p) k q u
+
+    pub find-worse : r ≡ false → best′ ≡ best → n′ ≡ n → i < length raw / 2336
+        → longestFrom path i (bestFound best n) n (drop i (decode referrals raw)) ≡ longestFrom path (i + 1) (bestFound best′ n′) n′ (drop (i + 1) (decode referrals raw))
+    find-worse h p q u = find-miss raw path i (bestFound best n) n e h (ap₂ bestFound p q) q u
 
   -- none is longer than the path
   find-over : (d i : ℕ) (best : Found) (n : ℕ) → length path ≤ n → i + d ≡ length raw / 2336 → longestFrom path i best n (drop i (decode referrals raw)) ≡ best

@@ -9,10 +9,10 @@ use native.Mathlib.Omega.{arith}
 use lib.ListN.{length, getD, take, drop, length-take}
 use lib.Seq.{getD-take}
 use lib.Dec.{ltb, eqb}
-use borrow.Author.Tests.{eqb-true, eq-eqb, ne-eqb, le-ltb, lt-ltb, ltb-false}
+use borrow.Author.Tests.{eqb-true, eq-eqb, ne-eqb, le-ltb, lt-ltb, ltb-true, ltb-false}
 use Rattle.laws.specs.Choice.{choose}
 use Rattle.laws.specs.Listed.{listed}
-use Rattle.laws.proofs.Choices.{choose-yes, choose-no, and-no-right}
+use Rattle.laws.proofs.Choices.{choose-yes, choose-no, and-left, and-no-right}
 use Rattle.laws.proofs.Orders.{told, lt-or-le}
 use Rattle.laws.proofs.Listed.{drop-listed, drop-listed-end, map-listed}
 use Rattle.unc.specs.Names.{sameUnit, sameName, SameWithin}
@@ -63,6 +63,12 @@ module _ (p : List ℕ) where
 
     pub place-longer : {key : List ℕ} {r : Bool} → key ≡ textAt 0 p → n < length key → r ≡ matches key path → r ≡ longerMatch path n (placeOf referrals p)
     place-longer e h f = longer (textAt 0 p) path n (rw (← e) h) (f ∙ ap (λ (t : List ℕ). matches t path) e) ∙ sym (longer-place path n)
+
+    pub place-unmatched : {key : List ℕ} → key ≡ textAt 0 p → matches key path ≡ false → false ≡ longerMatch path n (placeOf referrals p)
+    place-unmatched e h = sym (longer-place path n ∙ and-no-right (ltb n (length (textAt 0 p))) (ap (λ (t : List ℕ). matches t path) (sym e) ∙ h))
+
+    pub longer-units : longerMatch path n (placeOf referrals p) ≡ true → n < length (textAt 0 p)
+    longer-units h = ltb-true n (length (textAt 0 p)) (and-left _ _ (sym (longer-place path n) ∙ h))
 
     -- what is no match of more than m units is none of more than n
     pub place-unlike : {m : ℕ} → longerMatch path m (placeOf referrals p) ≡ false → m ≤ n → false ≡ longerMatch path n (placeOf referrals p)

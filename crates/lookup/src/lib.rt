@@ -1,13 +1,13 @@
 // Looking up in the two lent caches: the longest match, an equal key, ages, the place of a new entry, its fields and hints.
 ghost use mathlib.Core.Path.{_≡_};
 ghost use mathlib.Core.Bool.{true, false};
-ghost use Prim.Native.Nat.{_+_, _/_, _≤_, _<_, min};
+ghost use Prim.Native.Nat.{_+_, _/_, _≤_, _<_};
 ghost use lib.ListN.{length};
 ghost use Rattle.places.specs.Layout.{placeAt, unitAt, roomAt};
 ghost use Rattle.caches.specs.Memory.{referrals, domains, placeOf, decode, encode, inOrder};
 ghost use Rattle.lookup.specs.Lookup.{longerMatch, longestMatch, withKey, entryAt, age, expired, firstFreeFrom, placeAge, oldest, newPlace, targetPath, targetOpens, dcName, targetHinted, dcHinted};
 ghost use Rattle.lookup.specs.Keys.{keyIs, keyPlace};
-ghost use Rattle.lookup.specs.Ends.{LowBits};
+ghost use Rattle.lookup.specs.Ends.{LowBits, Passed, bestFound};
 use places::PLACE;
 use places::ROOM;
 
@@ -16,6 +16,9 @@ const LOW_BITS: u64 = 8725857424048159;
 
 // Units that a prefix is told apart by.
 const END: usize = 4;
+
+// Places that are looked at in one turn of the search. It is a constant so that the compiler writes a turn out.
+const TURN: usize = 4;
 
 // The place of an entry, if there is one.
 pub enum Found {
@@ -34,31 +37,63 @@ fn four_units(s: &[u16], k: usize) -> u64
         + 281474976710656 * s[k + 3] as u64
 }
 
-fn smaller(a: usize, b: usize) -> usize
-    ensures { λ r. ⌜ r ≡ min a b ⌝ }
-{
-    if a < b { a } else { b }
-}
-
 // Whether the prefix of place i may match by its last four units. Paths of one namespace begin alike, so that their ends tell most of them apart. A prefix that
 // is longer than the path is compared where the path ends: it does not match anyway, and a test for it would often be guessed wrong.
 fn may_match(cache: &[u16], i: usize, path: &[u16]) -> bool
-    requires { ⌜ i < length (now cache) / 2336 ⌝ }
+    requires { ⌜ (i < length (now cache) / 2336) × ((4 ≤ length (now path)) × (length (now path) ≤ 256)) ⌝ }
     ensures { λ r. ⌜ (r ≡ false → longerMatch (now (path .entry)) 0 (placeOf referrals (placeAt i (now (cache .entry)))) ≡ false) ⌝ }
 {
-    if path.len() < END {
-        return true;
-    }
-    if ROOM < path.len() {
-        return true;
-    }
     let units = places::unit(cache, i, 0) as usize;
     if units < END {
         return 0 < units;
     }
-    let start = smaller(units, path.len()) - END;
+    let start = rooms::least(units, path.len()) - END;
     let room = places::room(cache, i, 0);
     (four_units(room, start) ^ four_units(path, start)) & LOW_BITS == 0
+}
+
+// Of the places of a turn, from i on, how many come before the first whose prefix may match.
+fn passed(cache: &[u16], i: usize, path: &[u16]) -> usize
+    requires { ⌜ (i + 4 ≤ length (now cache) / 2336) × ((4 ≤ length (now path)) × (length (now path) ≤ 256)) ⌝ }
+    ensures { λ r. ⌜ (r ≤ 4) × Passed (now (cache .entry)) (now (path .entry)) i (i + r) ⌝ }
+{
+    let mut k = 0;
+    while k < TURN {
+        if may_match(cache, i + k, path) {
+            return k;
+        }
+        k += 1;
+    }
+    k
+}
+
+// The first place from `from` on whose prefix may match, or the number of places. A path of less than four units, or longer than any prefix, is not tested.
+fn next_candidate(cache: &[u16], from: usize, path: &[u16]) -> usize
+    requires { ⌜ from ≤ length (now cache) / 2336 ⌝ }
+    ensures { λ r. ⌜ (from ≤ r) × ((r ≤ length (now (cache .entry)) / 2336) × Passed (now (cache .entry)) (now (path .entry)) from r) ⌝ }
+{
+    if path.len() < END {
+        return from;
+    }
+    if ROOM < path.len() {
+        return from;
+    }
+    let count = cache.len() / PLACE;
+    let mut i = from;
+    while i + TURN <= count {
+        let k = passed(cache, i, path);
+        if k < TURN {
+            return i + k;
+        }
+        i += TURN;
+    }
+    while i < count {
+        if may_match(cache, i, path) {
+            return i;
+        }
+        i += 1;
+    }
+    count
 }
 
 // Whether the prefix of place i has more units than `units` and matches the path.
@@ -66,14 +101,24 @@ fn longer_match(cache: &[u16], i: usize, path: &[u16], units: usize) -> bool
     requires { ⌜ i < length (now cache) / 2336 ⌝ }
     ensures { λ r. ⌜ r ≡ longerMatch (now (path .entry)) units (placeOf referrals (placeAt i (now (cache .entry)))) ⌝ }
 {
-    if !may_match(cache, i, path) {
+    let prefix = places::text(cache, i, 0);
+    if !matching::ends_component(prefix, path) {
         return false;
     }
-    let prefix = places::text(cache, i, 0);
     if prefix.len() <= units {
         return false;
     }
-    matching::matches(prefix, path)
+    unc::same_likely(prefix, &path[..prefix.len()])
+}
+
+// The place of the best, whose prefix has so many units: none while it has no unit.
+fn best_found(best: usize, units: usize) -> Found
+    ensures { λ r. ⌜ r ≡ bestFound best units ⌝ }
+{
+    if units == 0 {
+        return Found::Nothing;
+    }
+    Found::At(best)
 }
 
 // The place of the entry whose prefix is the longest that matches the path.
@@ -81,21 +126,25 @@ pub fn find(cache: &[u16], path: &[u16]) -> Found
     ensures { λ r. ⌜ r ≡ longestMatch (now (path .entry)) (decode referrals (now (cache .entry))) ⌝ }
 {
     let count = cache.len() / PLACE;
-    let mut best = Found::Nothing;
+    let mut best = 0;
     let mut units = 0;
     let mut i = 0;
     while i < count {
+        i = next_candidate(cache, i, path);
+        if i == count {
+            return best_found(best, units);
+        }
         if longer_match(cache, i, path, units) {
-            best = Found::At(i);
+            best = i;
             units = places::text(cache, i, 0).len();
             // none is longer than the path
             if units == path.len() {
-                return best;
+                return Found::At(best);
             }
         }
         i += 1;
     }
-    best
+    best_found(best, units)
 }
 
 // Whether place i is used and its key is an equal name.
@@ -195,18 +244,18 @@ fn oldest_place(cache: &[u16], clock: u32) -> usize
     ensures { λ r. ⌜ r ≡ oldest clock (decode referrals (now (cache .entry))) ⌝ }
 {
     let count = cache.len() / PLACE;
-    let mut best = 0;
+    let mut oldest = 0;
     let mut most = 0;
     let mut i = 0;
     while i < count {
         let seconds = place_age(cache, i, clock);
         if most < seconds {
-            best = i;
+            oldest = i;
             most = seconds;
         }
         i += 1;
     }
-    best
+    oldest
 }
 
 // The place that a new entry takes.

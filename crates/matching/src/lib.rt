@@ -1,8 +1,8 @@
 // Components of a path, prefix match, and the replaced path: document 01, "Paths".
 ghost use mathlib.Core.Path.{_≡_};
 ghost use mathlib.Core.Bool.{true, false};
-ghost use Prim.Native.Nat.{min};
-ghost use lib.ListN.{length};
+ghost use Prim.Native.Nat.{_≤_};
+ghost use lib.ListN.{length, take};
 ghost use Rattle.unc.specs.Names.{sameName};
 ghost use Rattle.unc.specs.Paths.{componentCount, firstOf, matches, isSysvol, replaced, written, roomWith};
 use unc::Written;
@@ -47,19 +47,27 @@ pub fn first_end(s: &[u16], k: usize) -> usize
     i
 }
 
-pub fn matches(prefix: &[u16], path: &[u16]) -> bool
-    ensures { λ r. ⌜ r ≡ matches (now (prefix .entry)) (now (path .entry)) ⌝ }
+// Whether a component of the path ends where a prefix of this length does: if so the prefix's units decide whether it matches.
+pub fn ends_component(prefix: &[u16], path: &[u16]) -> bool
+    ensures { λ r. ⌜ (r ≡ false → matches (now (prefix .entry)) (now (path .entry)) ≡ false) × (r ≡ true → (length (now (prefix .entry)) ≤ length (now (path .entry))) × (sameName (now (prefix .entry)) (take (length (now (prefix .entry))) (now (path .entry))) ≡ matches (now (prefix .entry)) (now (path .entry)))) ⌝ }
 {
     let n = prefix.len();
     if path.len() < n {
         return false;
     }
     if n < path.len() {
-        if path[n] != BACKSLASH {
-            return false;
-        }
+        return path[n] == BACKSLASH;
     }
-    unc::same_name(prefix, &path[..n])
+    true
+}
+
+pub fn matches(prefix: &[u16], path: &[u16]) -> bool
+    ensures { λ r. ⌜ r ≡ matches (now (prefix .entry)) (now (path .entry)) ⌝ }
+{
+    if !ends_component(prefix, path) {
+        return false;
+    }
+    unc::same_likely(prefix, &path[..prefix.len()])
 }
 
 // Whether the second component is SYSVOL or NETLOGON.
@@ -79,19 +87,13 @@ pub fn is_sysvol(path: &[u16]) -> bool
     unc::same_name(&path[a + 1..e], &netlogon)
 }
 
-fn smaller(a: usize, b: usize) -> usize
-    ensures { λ r. ⌜ r ≡ min a b ⌝ }
-{
-    if a < b { a } else { b }
-}
-
 // The path of steps 3 and 11 into a lent room, with zeros after it: the target, then what follows the first `k` units of the path, which
 // are the prefix's. The room's length is the most units that the path may have.
 pub fn replace(target: &[u16], k: usize, path: &[u16], room: &mut [u16]) -> Written
     ensures answer { λ r. ⌜ r ≡ written (length (now (room .entry))) (replaced (now (target .entry)) k (now (path .entry))) ⌝ }
     ensures room { λ r. ⌜ now (room .exit) ≡ roomWith (replaced (now (target .entry)) k (now (path .entry))) (now (room .entry)) ⌝ }
 {
-    let from = smaller(k, path.len());
+    let from = rooms::least(k, path.len());
     let units = target.len() + (path.len() - from);
     let n = room.len();
     if n < units {

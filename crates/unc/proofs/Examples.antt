@@ -1,6 +1,6 @@
 -- Document 01, "Examples to hold it to": those marked P that speak of paths, as closed computations on the definitions.
 use mathlib.Core.Path.{_≡_, refl}
-use mathlib.Core.Bool.{Bool, true, false}
+use mathlib.Core.Bool.{true, false}
 use mathlib.Core.List.{List, [], _∷_, _++_}
 use Prim.Native.Nat.{ℕ}
 use lib.ListN.{length, replicate}
@@ -8,7 +8,6 @@ use Rattle.laws.specs.Choice.{choose}
 use Rattle.laws.specs.Lists.{every}
 use Rattle.unc.specs.Names.{folded, sameUnit, sameName, plain, nothingOrDots, goodComponent}
 use Rattle.unc.specs.Paths.{before, pieces, components, componentCount, leads, withoutTrail, body, goodPath, normalised, formWithin, pathUnits, begins, matches, replaced}
-use Rattle.unc.specs.declared.Form.{Form}
 use Rattle.unc.specs.declared.Form.the-variants.{Bad, Long, Good}
 
 -- \corp\leak\s1

@@ -1,29 +1,24 @@
 -- Laws of a text's form as a path, of normalising and of the replaced path.
 use mathlib.Core.Path.{_≡_, refl, sym, ap, _∙_}
-use mathlib.Core.Bool.{Bool, true, false, _&&_, not, true≢false}
+use mathlib.Core.Bool.{Bool, true, false, not}
 use mathlib.Core.List.{List, [], _∷_, _++_}
 use mathlib.Core.Logic.{_⊎_, inl, inr, _≢_}
-use Prim.Native.Nat.{ℕ, zero, suc, _+_, _-_, _≤_, _<_, zero-le, min}
-use native.Mathlib.Numerals.{add-one}
+use Prim.Native.Nat.{ℕ, _+_, _-_, _≤_, _<_, zero-le, min}
 use native.Mathlib.Omega.{arith}
 use lib.Dec.{leb, eqb}
 use lib.ListN.{length, getD, take, drop, length-take, length-drop, length-append, List·getD-eq-default, drop-of-length-le}
 use lib.Seq.{drop-cons, take-all, take-length}
-use borrow.Author.Tests.{eqb-true, eqb-false, eq-eqb, ne-eqb, le-leb, lt-leb, leb-true, leb-false}
+use borrow.Author.Tests.{eq-eqb, ne-eqb, le-leb, lt-leb}
 use Rattle.laws.specs.Choice.{choose}
 use Rattle.laws.specs.Lists.{every, roomed, pasted}
-use Rattle.laws.proofs.Choices.{choose-yes, choose-no, and-left, and-right, and-both, and-no-left, and-no-right}
+use Rattle.laws.proofs.Choices.{choose-yes, choose-no, and-no-left, and-no-right}
 use Rattle.laws.proofs.Orders.{told, lt-or-le}
-use Rattle.laws.proofs.Every.{every-append}
-use Rattle.laws.proofs.Pasting.{room-in-two, length-pasted}
-use Rattle.unc.specs.Names.{goodComponent, backslash}
-use Rattle.unc.specs.Paths.{pieces, componentCount, components, leads, withoutTrail, body, goodPath, normalised, isNormalised, goodCount, formWithin, roomAfter, normalisedCount, pathUnits, replaced, matches, written, roomWith}
-use Rattle.unc.specs.declared.Form.{Form}
+use Rattle.laws.proofs.Pasting.{room-in-two}
+use Rattle.unc.specs.Names.{goodComponent}
+use Rattle.unc.specs.Paths.{pieces, componentCount, leads, withoutTrail, body, goodPath, normalised, isNormalised, goodCount, formWithin, roomAfter, normalisedCount, replaced, written, roomWith}
 use Rattle.unc.specs.declared.Form.the-variants.{Bad, Long, Good}
-use Rattle.unc.specs.declared.Written.{Written}
 use Rattle.unc.specs.declared.Written.the-variants.{Units, TooLong}
-use Rattle.unc.proofs.PieceLaws.{length-pieces, count-backslash, pieces-parted, pieces-append, parts}
-use Rattle.unc.proofs.MatchLaws.{atEnd, matches-end, matches-within}
+use Rattle.unc.proofs.PieceLaws.{length-pieces, count-backslash, parts}
 
 -- leading backslashes
 module _ (s : List ℕ) where

@@ -1,19 +1,19 @@
 -- Laws of prefix match.
 use mathlib.Core.Path.{_≡_, refl, sym, ap, _∙_}
-use mathlib.Core.Bool.{Bool, true, false, _&&_, true≢false, and-assoc, and-true}
-use mathlib.Core.List.{List, [], _∷_, _++_}
+use mathlib.Core.Bool.{Bool, true, false, _&&_, and-assoc, and-true}
+use mathlib.Core.List.{List, [], _∷_}
 use mathlib.Core.Logic.{_⊎_, inl, inr}
-use Prim.Native.Nat.{ℕ, zero, suc, _+_, _≤_, _<_}
+use Prim.Native.Nat.{ℕ, _≤_, _<_}
 use native.Mathlib.Omega.{arith}
 use lib.Dec.{eqb}
-use lib.ListN.{length, getD, take, drop, drop-of-length-le, length-take}
-use lib.Seq.{drop-cons, take-all, take-length, drop-length}
-use borrow.Author.Tests.{eqb-true, eq-eqb, ne-eqb}
+use lib.ListN.{length, getD, take, drop, length-take}
+use lib.Seq.{drop-cons, take-length, drop-length}
+use borrow.Author.Tests.{eq-eqb, ne-eqb}
 use Rattle.laws.proofs.Choices.{and-left, and-right, and-no-left, and-no-right}
 use Rattle.laws.proofs.Orders.{told}
 use Rattle.unc.specs.Names.{sameUnit, sameName}
 use Rattle.unc.specs.Paths.{pieces, begins, matches}
-use Rattle.unc.proofs.NameLaws.{Alone, alone-backslash, sameUnit-refl, sameUnit-sym, sameName-refl, sameName-sym, sameName-trans, sameName-length, sameName-unlike}
+use Rattle.unc.proofs.NameLaws.{alone-backslash, sameUnit-refl, sameUnit-sym, sameName-refl, sameName-sym, sameName-trans, sameName-length, sameName-unlike}
 use Rattle.unc.proofs.PieceLaws.{firstPiece, morePieces, pieces-some, pieces-nil, pieces-parted, pieces-longer, parts}
 
 -- A prefix matches exactly where its units are equal to the path's first ones and the path ends there or goes on with a backslash.

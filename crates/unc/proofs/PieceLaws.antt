@@ -1,21 +1,20 @@
 -- Laws of pieces, and of the loops over a path's text.
 use mathlib.Core.Path.{_≡_, refl, sym, ap, ap₂, _∙_, subst}
-use mathlib.Core.Bool.{Bool, true, false, _&&_, not, true≢false, and-assoc}
-use mathlib.Core.List.{List, [], _∷_, _++_, append-assoc}
+use mathlib.Core.Bool.{Bool, true, false, not, true≢false}
+use mathlib.Core.List.{List, [], _∷_, _++_}
 use mathlib.Core.Logic.{_⊎_, inl, inr, ⊎-elim}
 use Prim.Native.Nat.{ℕ, zero, suc, _+_, _-_, _≤_, _<_, zero-le}
-use native.Mathlib.Nat.{le-of-suc-le-suc, not-suc-le-zero, add-zero, zero-add, suc-add, add-suc, add-assoc}
+use native.Mathlib.Nat.{not-suc-le-zero, zero-add}
 use native.Mathlib.Numerals.{add-one}
 use native.Mathlib.Omega.{arith}
 use lib.Dec.{leb, eqb}
-use lib.ListN.{length, getD, take, drop, drop-of-length-le, length-append, length-take, length-drop}
+use lib.ListN.{length, getD, take, drop, drop-of-length-le, length-drop}
 use lib.Seq.{drop-cons, getD-drop, take-all, drop-drop}
-use borrow.Author.Tests.{eqb-true, eqb-false, eq-eqb, ne-eqb, le-leb, lt-leb, leb-true, leb-false}
+use borrow.Author.Tests.{eqb-true, eqb-false, eq-eqb, ne-eqb, le-leb, lt-leb}
 use Rattle.laws.specs.Choice.{choose}
 use Rattle.laws.specs.Lists.{every}
-use Rattle.laws.proofs.Choices.{choose-yes, choose-no, and-left, and-right, and-both, and-no-left, and-no-right, eqb-refl}
+use Rattle.laws.proofs.Choices.{choose-yes, choose-no, and-left, and-right, and-no-left, and-no-right}
 use Rattle.laws.proofs.Orders.{lt-or-le, told}
-use Rattle.laws.proofs.Every.{every-append, every-at}
 use Rattle.unc.specs.Names.{plain, nothingOrDots, goodComponent, goodName, backslash}
 use Rattle.unc.specs.Paths.{before, pieces, joined, components, componentCount, firstOf, plainLength, goodCount}
 

@@ -1,14 +1,14 @@
 -- Laws of components as spans of a path.
-use mathlib.Core.Path.{_≡_, refl, sym, ap, _∙_}
-use mathlib.Core.Bool.{Bool, true, false, _||_}
-use mathlib.Core.List.{List, [], _∷_}
+use mathlib.Core.Path.{_≡_, ap, _∙_}
+use mathlib.Core.Bool.{Bool, true, false}
+use mathlib.Core.List.{List, []}
 use Prim.Native.Nat.{ℕ, suc, _+_, _-_, _≤_, _<_}
 use native.Mathlib.Omega.{arith}
 use lib.ListN.{length, getD, take, drop}
 use lib.Seq.{getD-drop}
 use Rattle.unc.specs.Names.{sameName}
 use Rattle.unc.specs.Paths.{pieces, components, firstOf, isSysvol, sysvol, netlogon}
-use Rattle.unc.proofs.PieceLaws.{Spans, spans}
+use Rattle.unc.proofs.PieceLaws.{spans}
 
 -- component k (from 0), by the ends of the first k and k + 1 components
 module _ (k : ℕ) (s : List ℕ) (from : ℕ) (e : from ≡ length (firstOf k s)) where

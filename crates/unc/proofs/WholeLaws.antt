@@ -1,25 +1,23 @@
 -- Laws of normalised paths: normalising, prefix match by components, and the replaced path.
 use mathlib.Core.Path.{_≡_, refl, sym, ap, _∙_}
-use mathlib.Core.Bool.{Bool, true, false, _&&_, not, true≢false}
+use mathlib.Core.Bool.{true, not, true≢false}
 use mathlib.Core.List.{List, [], _∷_, _++_, append-nil}
 use mathlib.Core.Logic.{_⊎_, inl, inr}
-use Prim.Native.Nat.{ℕ, zero, suc, _+_, _-_, _≤_, _<_}
+use Prim.Native.Nat.{ℕ, suc, _+_, _-_, _≤_, _<_}
 use native.Mathlib.Omega.{arith}
 use lib.Dec.{eqb}
-use lib.ListN.{length, getD, take, drop, length-append, take-append-drop}
+use lib.ListN.{length, getD, take, drop, take-append-drop}
 use lib.Seq.{drop-cons, split-at, drop-length, drop-drop}
-use native.Mathlib.Numerals.{add-one}
-use borrow.Author.Tests.{eqb-true, eq-eqb}
+use borrow.Author.Tests.{eqb-true}
 use Rattle.laws.specs.Lists.{every}
-use Rattle.laws.proofs.Choices.{and-left, and-right, and-both}
+use Rattle.laws.proofs.Choices.{and-left, and-right}
 use Rattle.laws.proofs.Orders.{lt-or-le}
 use Rattle.laws.proofs.Every.{every-append}
-use Rattle.unc.specs.Names.{goodComponent, nothingOrDots, sameName}
+use Rattle.unc.specs.Names.{goodComponent, sameName}
 use Rattle.unc.specs.Paths.{pieces, components, componentCount, leads, withoutTrail, body, goodPath, normalised, isNormalised, begins, matches, replaced}
 use Rattle.unc.proofs.PieceLaws.{pieces-nil, pieces-parted, pieces-append, count-backslash, count-other, count-nil, bad-dots, parts}
 use Rattle.unc.proofs.NameLaws.{dots-none}
-use Rattle.unc.proofs.MatchLaws.{atEnd, matches-end, matches-within}
-use Rattle.laws.specs.Choice.{choose}
+use Rattle.unc.proofs.MatchLaws.{atEnd, matches-end}
 use Rattle.laws.proofs.Choices.{choose-no}
 use borrow.Author.Tests.{ne-eqb}
 use Rattle.unc.proofs.FormLaws.{leads-one, past-end}

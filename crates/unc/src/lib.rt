@@ -12,6 +12,11 @@ const SLASH: u16 = 47;
 
 const DOT: u16 = 46;
 
+// Units of a name that are compared at once, folded and as they stand.
+const BLOCK: usize = 8;
+
+const LONG_BLOCK: usize = 16;
+
 // The most units of a name.
 const NAME_UNITS: usize = 255;
 
@@ -49,41 +54,11 @@ pub fn same_unit(a: u16, b: u16) -> bool
     fold(a) == fold(b)
 }
 
-// Whether the n units from `at` on are the same, unfolded. The loop has no exit, so that it runs over many units at a time.
-fn equal_block(a: &[u16], b: &[u16], at: usize, n: usize) -> bool
-    requires { ⌜ (at + n ≤ length (now a)) × (at + n ≤ length (now b)) ⌝ }
-    ensures { λ r. ⌜ (r ≡ true → SameWithin (now (a .entry)) (now (b .entry)) at (at + n)) ⌝ }
-{
-    let mut differ: u16 = 0;
-    let mut k = 0;
-    while k < n {
-        differ = differ | (a[at + k] ^ b[at + k]);
-        k += 1;
-    }
-    differ == 0
-}
-
 // The place of a block of n units that ends at `left`, or of the first block where there are fewer.
 fn block_start(left: usize, n: usize) -> usize
     ensures { λ r. ⌜ r ≡ left - n ⌝ }
 {
     if left < n { 0 } else { left - n }
-}
-
-// Whether two names of one length, of n units or more, are the same, unfolded: n at a time from the last on, since paths of one namespace begin alike.
-fn equal_blocks(a: &[u16], b: &[u16], n: usize) -> bool
-    requires { ⌜ (length (now a) ≡ length (now b)) × ((0 < n) × (n ≤ length (now a))) ⌝ }
-    ensures { λ r. ⌜ (r ≡ true → sameName (now (a .entry)) (now (b .entry)) ≡ true) ⌝ }
-{
-    let mut left = a.len();
-    while 0 < left {
-        let at = block_start(left, n);
-        if !equal_block(a, b, at, n) {
-            return false;
-        }
-        left = at;
-    }
-    true
 }
 
 // The bits in which two units differ as they are compared: 0 where they are equal. A small letter differs from its capital in bit 5 only.
@@ -101,29 +76,39 @@ fn unlike(a: u16, b: u16) -> u16
     bits & 65503
 }
 
-// Whether the n units from `at` on are equal. The loop has no exit, so that it runs over many units at a time.
-fn same_block(a: &[u16], b: &[u16], at: usize, n: usize) -> bool
+// The bits in which two units differ, folded or as they stand. Where there are none the units are equal; folded, equal units have none.
+fn difference(a: u16, b: u16, folds: bool) -> u16
+    ensures { λ r. ⌜ (r ≡ 0 → sameUnit a b ≡ true) × (folds ≡ true → sameUnit a b ≡ true → r ≡ 0) ⌝ }
+{
+    if folds {
+        return unlike(a, b);
+    }
+    a ^ b
+}
+
+// Whether the n units from `at` on are equal, folded or as they stand. The loop has no exit, so that it runs over many units at a time.
+fn same_block(a: &[u16], b: &[u16], at: usize, n: usize, folds: bool) -> bool
     requires { ⌜ (at + n ≤ length (now a)) × (at + n ≤ length (now b)) ⌝ }
-    ensures { λ r. ⌜ (r ≡ true → SameWithin (now (a .entry)) (now (b .entry)) at (at + n)) × (SameWithin (now (a .entry)) (now (b .entry)) at (at + n) → r ≡ true) ⌝ }
+    ensures { λ r. ⌜ (r ≡ true → SameWithin (now (a .entry)) (now (b .entry)) at (at + n)) × (folds ≡ true → SameWithin (now (a .entry)) (now (b .entry)) at (at + n) → r ≡ true) ⌝ }
 {
     let mut differ: u16 = 0;
     let mut k = 0;
     while k < n {
-        differ = differ | unlike(a[at + k], b[at + k]);
+        differ = differ | difference(a[at + k], b[at + k], folds);
         k += 1;
     }
     differ == 0
 }
 
-// Whether two names of one length, of n units or more, are equal: n at a time from the last on.
-fn same_blocks(a: &[u16], b: &[u16], n: usize) -> bool
+// Whether two names of one length, of n units or more, are equal, folded or as they stand: n at a time from the last on, since paths of one namespace begin alike.
+fn same_blocks(a: &[u16], b: &[u16], n: usize, folds: bool) -> bool
     requires { ⌜ (length (now a) ≡ length (now b)) × ((0 < n) × (n ≤ length (now a))) ⌝ }
-    ensures { λ r. ⌜ r ≡ sameName (now (a .entry)) (now (b .entry)) ⌝ }
+    ensures { λ r. ⌜ (r ≡ true → sameName (now (a .entry)) (now (b .entry)) ≡ true) × (folds ≡ true → r ≡ sameName (now (a .entry)) (now (b .entry))) ⌝ }
 {
     let mut left = a.len();
     while 0 < left {
         let at = block_start(left, n);
-        if !same_block(a, b, at, n) {
+        if !same_block(a, b, at, n, folds) {
             return false;
         }
         left = at;
@@ -158,16 +143,26 @@ pub fn same_name(a: &[u16], b: &[u16]) -> bool
     if a.len() != b.len() {
         return false;
     }
-    if a.len() < 8 {
+    if a.len() < BLOCK {
         return same_units(a, b);
     }
-    // most names that are equal are the same, unfolded
-    if 16 <= a.len() {
-        if equal_blocks(a, b, 16) {
+    same_blocks(a, b, BLOCK, true)
+}
+
+// same_name for names of one length that are likely to be the same: as they stand first, which needs no folding.
+pub fn same_likely(a: &[u16], b: &[u16]) -> bool
+    requires { ⌜ length (now a) ≡ length (now b) ⌝ }
+    ensures { λ r. ⌜ r ≡ sameName (now (a .entry)) (now (b .entry)) ⌝ }
+{
+    if LONG_BLOCK <= a.len() {
+        if same_blocks(a, b, LONG_BLOCK, false) {
             return true;
         }
     }
-    same_blocks(a, b, 8)
+    if BLOCK <= a.len() {
+        return same_blocks(a, b, BLOCK, true);
+    }
+    same_units(a, b)
 }
 
 // Whether a unit may stand in a component.

@@ -6,8 +6,9 @@ use mathlib.Core.Path.{_≡_, refl, sym, _∙_}
 use native.Mathlib.Omega.{arith}
 use Rattle.caches.specs.Memory.{referrals, decode}
 use Rattle.lookup.specs.Lookup.{longestMatch, longestFrom}
-use Rattle.lookup.proofs.FindLaws.{find-start, find-hit, find-miss, find-end}
-use Rattle.lookup.proofs.EndLaws.{find-whole}
+use Rattle.lookup.specs.Ends.{bestFound}
+use Rattle.lookup.proofs.FindLaws.{find-hit, find-end}
+use Rattle.lookup.proofs.EndLaws.{find-begin, find-better, find-worse, find-whole}
 use borrow.Author.Needs.{needs}
 use Rattle.lookup.proofs.find.Statement.{statement}
 use Rattle.lookup.proofs.find.Tie as tie
@@ -15,13 +16,25 @@ use Rattle.lookup.proofs.find.Tie as tie
 abbrev Inv-loop : tie.InvT-loop
 Inv-loop cache path count best₀ units₀ i₀ best units i =
     (i ≤ length cache / 2336)
-    × (longestMatch path (decode referrals cache) ≡ longestFrom path i best units (drop i (decode referrals cache)))
+    × (longestMatch path (decode referrals cache) ≡ longestFrom path i (bestFound best units) units (drop i (decode referrals cache)))
 
 abbrev μ-loop : tie.MeasureT-loop
 μ-loop cache path count best₀ units₀ i₀ best units i = length cache / 2336 - i
 
 loop-holds : tie.Need-loop-holds Inv-loop μ-loop
-loop-holds c = (search needs, find-start _ _)
+loop-holds c = (search needs, find-begin _ _)
+
+next-candidate-requires : tie.Need-next-candidate-requires Inv-loop μ-loop
+next-candidate-requires c κs = search needs
+
+best-found-requires : tie.Need-best-found-requires Inv-loop μ-loop
+best-found-requires c κs = search needs
+
+returns : tie.Need-returns Inv-loop μ-loop
+returns c =
+    let n = c .before .before in
+    c .best-found .ensures
+    ∙ sym (n .before .before .loop .inv .1 ∙ (n .next-candidate .ensures .1 .1 .same _ _ ∙ find-end _ _ _ _ _ (omega arith)))
 
 longer-match-requires : tie.Need-longer-match-requires Inv-loop μ-loop
 longer-match-requires c κs = search needs
@@ -29,11 +42,14 @@ longer-match-requires c κs = search needs
 text-requires : tie.Need-text-requires Inv-loop μ-loop
 text-requires c κs = search needs
 
-returns : tie.Need-returns Inv-loop μ-loop
-returns c =
-    sym (c .before .before .before .before .before .loop .inv .1
-    ∙ (find-hit _ _ _ _ _ (c .before .before .before .longer-match .ensures) (c .before .before .if1 .taken) refl (c .before .text .ensures) refl (omega arith)
-    ∙ find-whole _ _ _ _ _ (c .if2 .taken) (omega arith)))
+returns-2 : tie.Need-returns-2 Inv-loop μ-loop
+returns-2 c =
+    let h = c .before .before .before in
+    let n = h .before .before in
+    sym (n .before .before .loop .inv .1
+    ∙ (n .next-candidate .ensures .1 .1 .same _ _
+    ∙ (find-hit _ _ _ _ _ (h .longer-match .ensures) (c .before .before .if2 .taken) refl (c .before .text .ensures) refl (omega arith)
+    ∙ find-whole _ _ _ _ _ (c .if3 .taken) (omega arith))))
 
 add-i : tie.Need-add-i Inv-loop μ-loop
 add-i c = search needs
@@ -42,17 +58,22 @@ loop-less : tie.Need-loop-less Inv-loop μ-loop
 loop-less c = search needs
 
 loop-again : tie.Need-loop-again Inv-loop μ-loop
-loop-again c = (
-  search needs,
-  c .before .before .before .loop .inv .1
-      ∙ ⊎-elim
-      (λ w. find-hit _ _ _ _ _ (c .before .longer-match .ensures) (w .0 .taken) (w .3) (w .1 .ensures) (w .4) (omega arith))
-      (λ w. find-miss _ _ _ _ _ (c .before .longer-match .ensures) (w .0 .left) (w .1) (w .2) (omega arith))
-      (c .if1 .came),
-)
+loop-again c =
+    let n = c .before .before .before in (
+      search needs,
+      n .before .before .loop .inv .1
+          ∙ (n .next-candidate .ensures .1 .1 .same _ _
+          ∙ ⊎-elim
+          (λ w. find-better _ _ _ _ _ (c .before .longer-match .ensures) (w .0 .taken) (w .3) (w .1 .ensures) (w .4) (omega arith))
+          (λ w. find-worse _ _ _ _ _ (c .before .longer-match .ensures) (w .0 .left) (w .1) (w .2) (omega arith))
+          (c .if2 .came)),
+    )
 
-returns-2 : tie.Need-returns-2 Inv-loop μ-loop
-returns-2 c = sym (c .before .loop .inv .1 ∙ find-end _ _ _ _ _ (omega arith))
+best-found-requires-2 : tie.Need-best-found-requires-2 Inv-loop μ-loop
+best-found-requires-2 c κs = search needs
+
+returns-3 : tie.Need-returns-3 Inv-loop μ-loop
+returns-3 c = c .best-found2 .ensures ∙ sym (c .before .before .loop .inv .1 ∙ find-end _ _ _ _ _ (omega arith))
 
 pub find-spec : {M : Type 1} → statement M
 find-spec =
@@ -61,10 +82,14 @@ find-spec =
     Inv-loop
     μ-loop
     loop-holds
+    next-candidate-requires
+    best-found-requires
+    returns
     longer-match-requires
     text-requires
-    returns
+    returns-2
     add-i
     loop-less
     loop-again
-    returns-2)
+    best-found-requires-2
+    returns-3)

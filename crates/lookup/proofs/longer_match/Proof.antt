@@ -1,38 +1,52 @@
--- Compares last units, then lengths, then matches a prefix.
+-- Looks where a prefix ends, compares lengths, then units.
 use denote.Ref.{now}
+use mathlib.Core.Path.{sym, _∙_}
+use lib.Seq.{length-take-le}
 use native.Mathlib.Omega.{arith}
-use borrow.Author.Tests.{not-true}
+use borrow.Author.Tests.{not-true, not-false}
 use Rattle.places.specs.Layout.{placeAt}
-use Rattle.lookup.proofs.FindLaws.{place-unlike, place-shorter, place-longer}
+use Rattle.lookup.proofs.FindLaws.{place-shorter, place-longer, place-unmatched}
 use borrow.Author.Needs.{needs}
 use Rattle.lookup.proofs.longer_match.Statement.{statement}
 use Rattle.lookup.proofs.longer_match.Tie as tie
 
-may-match-requires : tie.Need-may-match-requires
-may-match-requires c κs = search needs
+text-requires : tie.Need-text-requires
+text-requires c κs = search needs
+
+ends-component-requires : tie.Need-ends-component-requires
+ends-component-requires c κs = search needs
 
 returns : tie.Need-returns
 returns c =
-    let a = c .before .before .before .before .args in
-    place-unlike (placeAt (a .i) (now (a .cache))) _ _ (c .before .may-match .ensures (not-true _ (c .if1 .taken))) (omega arith)
-
-text-requires : tie.Need-text-requires
-text-requires c κs = search needs
+    let a = c .before .before .before .before .before .args in
+    place-unmatched (placeAt (a .i) (now (a .cache))) _ _ (c .before .before .text .ensures) (c .before .ends-component .ensures .0 (not-true _ (c .if1 .taken)))
 
 returns-2 : tie.Need-returns-2
 returns-2 c =
     let a = c .before .before .before .before .before .before .args in
-    place-shorter (placeAt (a .i) (now (a .cache))) _ _ (c .before .text .ensures) (omega arith)
+    place-shorter (placeAt (a .i) (now (a .cache))) _ _ (c .before .before .before .text .ensures) (omega arith)
 
-matches-requires : tie.Need-matches-requires
-matches-requires c κs = search needs
+slice-aggregate-same-likely : tie.Need-slice-aggregate-same-likely
+slice-aggregate-same-likely c = sym (length-take-le _ _ (c .before .before .before .ends-component .ensures .1 (not-false _ (c .before .before .if1 .left)) .0))
+
+same-likely-requires : tie.Need-same-likely-requires
+same-likely-requires c κs = sym (length-take-le _ _ (c .before .before .before .ends-component .ensures .1 (not-false _ (c .before .before .if1 .left)) .0))
 
 returns-3 : tie.Need-returns-3
 returns-3 c =
-    let a = c .before .before .before .before .before .before .before .args in
-    place-longer (placeAt (a .i) (now (a .cache))) _ _ (c .before .before .text .ensures) (omega arith) (c .matches .ensures)
+    let t = c .before .before .before .before .before in
+    let a = t .before .before .before .args in
+    let m = c .before .before .before .before .ends-component .ensures .1 (not-false _ (c .before .before .before .if1 .left)) in
+    place-longer (placeAt (a .i) (now (a .cache))) _ _ (t .text .ensures) (omega arith) (c .same-likely .ensures ∙ m .1)
 
 pub longer-match-spec : {M : Type 1} → statement M
 longer-match-spec =
     tie.close
-    (tie.spec may-match-requires returns text-requires returns-2 matches-requires returns-3)
+    (tie.spec
+    text-requires
+    ends-component-requires
+    returns
+    returns-2
+    slice-aggregate-same-likely
+    same-likely-requires
+    returns-3)

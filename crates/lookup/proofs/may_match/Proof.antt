@@ -1,5 +1,4 @@
 -- Compares the last units of a prefix.
-use mathlib.Core.Bool.{true≢false}
 use native.Mathlib.Omega.{arith}
 use Rattle.lookup.proofs.FindLaws.{units-none}
 use Rattle.lookup.proofs.EndLaws.{ends-apart}
@@ -7,23 +6,17 @@ use borrow.Author.Needs.{needs}
 use Rattle.lookup.proofs.may_match.Statement.{statement}
 use Rattle.lookup.proofs.may_match.Tie as tie
 
-returns : tie.Need-returns
-returns c = λ e. absurd (true≢false e)
-
-returns-2 : tie.Need-returns-2
-returns-2 c = λ e. absurd (true≢false e)
-
 unit-requires : tie.Need-unit-requires
 unit-requires c κs = search needs
 
 cast-units : tie.Need-cast-units
 cast-units c = search needs
 
-returns-3 : tie.Need-returns-3
-returns-3 c = units-none _ _ _ (omega arith) (c .before .unit .ensures)
+returns : tie.Need-returns
+returns c = units-none _ _ _ (omega arith) (c .before .unit .ensures)
 
-smaller-requires : tie.Need-smaller-requires
-smaller-requires c κs = search needs
+least-requires : tie.Need-least-requires
+least-requires c κs = search needs
 
 sub-start : tie.Need-sub-start
 sub-start c = search needs
@@ -37,8 +30,8 @@ four-units-requires c κs = search needs
 four-units-requires-2 : tie.Need-four-units-requires-2
 four-units-requires-2 c κs = search needs
 
-returns-4 : tie.Need-returns-4
-returns-4 c =
+returns-2 : tie.Need-returns-2
+returns-2 c =
     ends-apart _ _ _ (omega arith) (c .before .before .before .before .before .unit .ensures) (c .before .before .room .ensures .0) (omega arith) (omega arith)
     (c .before .four-units .ensures) (c .four-units2 .ensures)
 
@@ -46,14 +39,12 @@ pub may-match-spec : {M : Type 1} → statement M
 may-match-spec =
     tie.close
     (tie.spec
-    returns
-    returns-2
     unit-requires
     cast-units
-    returns-3
-    smaller-requires
+    returns
+    least-requires
     sub-start
     room-requires
     four-units-requires
     four-units-requires-2
-    returns-4)
+    returns-2)

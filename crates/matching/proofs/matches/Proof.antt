@@ -1,53 +1,38 @@
 -- Compares a prefix with the first units of the path.
 use denote.Ref.{now}
-use mathlib.Core.Path.{sym}
-use mathlib.Core.Logic.{⊎-elim}
+use mathlib.Core.Path.{sym, _∙_}
 use lib.ListN.{length}
 use lib.Seq.{length-take-le}
-use native.Mathlib.Omega.{arith}
-use Rattle.unc.proofs.MatchLaws.{matches-longer, matches-all, matches-part, matches-beside}
+use borrow.Author.Tests.{not-true, not-false}
 use borrow.Author.Needs.{needs}
 use Rattle.matching.proofs.matches.Statement.{statement}
 use Rattle.matching.proofs.matches.Tie as tie
 
+ends-component-requires : tie.Need-ends-component-requires
+ends-component-requires c κs = search needs
+
 returns : tie.Need-returns
-returns c = sym (matches-longer _ _ (c .if1 .taken))
+returns c = sym (c .before .ends-component .ensures .0 (not-true _ (c .if1 .taken)))
 
-mul-if3 : tie.Need-mul-if3
-mul-if3 c = search needs
+slice-aggregate-same-likely : tie.Need-slice-aggregate-same-likely
+slice-aggregate-same-likely c =
+    let a = c .before .before .before .before .before .args in
+    sym (length-take-le (length (now (a .prefix))) (now (a .path)) (c .before .before .ends-component .ensures .1 (not-false _ (c .before .if1 .left)) .0))
 
-shared-slice-read-if3 : tie.Need-shared-slice-read-if3
-shared-slice-read-if3 c = search needs
+same-likely-requires : tie.Need-same-likely-requires
+same-likely-requires c κs =
+    let a = c .before .before .before .before .before .args in
+    sym (length-take-le (length (now (a .prefix))) (now (a .path)) (c .before .before .ends-component .ensures .1 (not-false _ (c .before .if1 .left)) .0))
 
 returns-2 : tie.Need-returns-2
-returns-2 c =
-    let a = c .before .before .before .before .before .before .args in
-    sym (matches-beside (now (a .prefix)) (now (a .path)) (omega arith) (c .if3 .taken))
-
-slice-aggregate-same-name : tie.Need-slice-aggregate-same-name
-slice-aggregate-same-name c =
-    let a = c .before .before .before .before .before .args in
-    sym (length-take-le (length (now (a .prefix))) (now (a .path)) (omega arith))
-
-same-name-requires : tie.Need-same-name-requires
-same-name-requires c κs = search needs
-
-returns-3 : tie.Need-returns-3
-returns-3 c =
-    let a = c .before .before .before .before .before .before .args in
-    ⊎-elim
-    (λ w. matches-part (now (a .prefix)) (now (a .path)) (w .0 .taken) (w .2 .left) (c .same-name .ensures))
-    (λ w. matches-all (now (a .prefix)) (now (a .path)) (omega arith) (c .same-name .ensures))
-    (c .before .before .if2 .came)
+returns-2 c = c .same-likely .ensures ∙ c .before .before .before .ends-component .ensures .1 (not-false _ (c .before .before .if1 .left)) .1
 
 pub matches-spec : {M : Type 1} → statement M
 matches-spec =
     tie.close
     (tie.spec
+    ends-component-requires
     returns
-    mul-if3
-    shared-slice-read-if3
-    returns-2
-    slice-aggregate-same-name
-    same-name-requires
-    returns-3)
+    slice-aggregate-same-likely
+    same-likely-requires
+    returns-2)

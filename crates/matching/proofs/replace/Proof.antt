@@ -5,8 +5,8 @@ use borrow.Author.Needs.{needs}
 use Rattle.matching.proofs.replace.Statement.{statement}
 use Rattle.matching.proofs.replace.Tie as tie
 
-smaller-requires : tie.Need-smaller-requires
-smaller-requires c κs = search needs
+least-requires : tie.Need-least-requires
+least-requires c κs = search needs
 
 sub-units : tie.Need-sub-units
 sub-units c = search needs
@@ -17,7 +17,7 @@ add-units c = search needs
 returns : tie.Need-returns
 returns c =
     let a = c .before .before .before .before .before .args in
-    let l = length-replaced (now (a .target)) (now (a .path)) (a .k) _ (c .before .smaller .ensures) in
+    let l = length-replaced (now (a .target)) (now (a .path)) (a .k) _ (c .before .least .ensures) in
     (written-long _ (now (a .room)) (omega arith), roomWith-long _ (now (a .room)) (omega arith))
 
 copy-units-requires : tie.Need-copy-units-requires
@@ -47,7 +47,7 @@ same-length c = search needs
 returns-2 : tie.Need-returns-2
 returns-2 c =
     let a = c .before .before .before .before .before .before .before .before .before .before .before .before .before .before .args in
-    let e = c .before .before .before .before .before .before .before .before .before .before .smaller .ensures in
+    let e = c .before .before .before .before .before .before .before .before .before .before .least .ensures in
     let l = length-replaced (now (a .target)) (now (a .path)) (a .k) _ e in (
       written-fits _ (now (a .room)) l (omega arith),
       roomWith-fits _ (now (a .room)) l (omega arith)
@@ -58,7 +58,7 @@ pub replace-spec : {M : Type 1} → statement M
 replace-spec =
     tie.close
     (tie.spec
-    smaller-requires
+    least-requires
     sub-units
     add-units
     returns

@@ -1,5 +1,6 @@
 use Prim.Native.Nat.{_+_, _-_, _≤_}
 use mathlib.Core.Path.{_≡_, refl}
+use mathlib.Core.Bool.{true}
 use native.Mathlib.Omega.{arith}
 use borrow.Author.Needs.{needs}
 use Rattle.unc.specs.Names.{SameWithin}
@@ -8,34 +9,35 @@ use Rattle.unc.proofs.same_block.Statement.{statement}
 use Rattle.unc.proofs.same_block.Tie as tie
 
 abbrev Inv-loop : tie.InvT-loop
-Inv-loop a b at n differ₀ k₀ differ k = (k ≤ n) × ((differ ≡ 0 → SameWithin a b at (at + k)) × (SameWithin a b at (at + k) → differ ≡ 0))
+Inv-loop a b at n folds differ₀ k₀ differ k =
+    (k ≤ n) × ((differ ≡ 0 → SameWithin a b at (at + k)) × (folds ≡ true → SameWithin a b at (at + k) → differ ≡ 0))
 
 abbrev μ-loop : tie.MeasureT-loop
-μ-loop a b at n differ₀ k₀ differ k = n - k
+μ-loop a b at n folds differ₀ k₀ differ k = n - k
 
 loop-holds : tie.Need-loop-holds Inv-loop μ-loop
-loop-holds c = (search needs, (λ e. within-none _ _ _ _ (omega arith), λ p. refl))
+loop-holds c = (search needs, (λ e. within-none _ _ _ _ (omega arith), λ f p. refl))
 
-add-unlike : tie.Need-add-unlike Inv-loop μ-loop
-add-unlike c = search needs
+add-difference : tie.Need-add-difference Inv-loop μ-loop
+add-difference c = search needs
 
-mul-unlike : tie.Need-mul-unlike Inv-loop μ-loop
-mul-unlike c = search needs
+mul-difference : tie.Need-mul-difference Inv-loop μ-loop
+mul-difference c = search needs
 
-shared-slice-read-unlike : tie.Need-shared-slice-read-unlike Inv-loop μ-loop
-shared-slice-read-unlike c = search needs
+shared-slice-read-difference : tie.Need-shared-slice-read-difference Inv-loop μ-loop
+shared-slice-read-difference c = search needs
 
-add-unlike-2 : tie.Need-add-unlike-2 Inv-loop μ-loop
-add-unlike-2 c = search needs
+add-difference-2 : tie.Need-add-difference-2 Inv-loop μ-loop
+add-difference-2 c = search needs
 
-mul-unlike-2 : tie.Need-mul-unlike-2 Inv-loop μ-loop
-mul-unlike-2 c = search needs
+mul-difference-2 : tie.Need-mul-difference-2 Inv-loop μ-loop
+mul-difference-2 c = search needs
 
-shared-slice-read-unlike-2 : tie.Need-shared-slice-read-unlike-2 Inv-loop μ-loop
-shared-slice-read-unlike-2 c = search needs
+shared-slice-read-difference-2 : tie.Need-shared-slice-read-difference-2 Inv-loop μ-loop
+shared-slice-read-difference-2 c = search needs
 
-unlike-requires : tie.Need-unlike-requires Inv-loop μ-loop
-unlike-requires c κs = search needs
+difference-requires : tie.Need-difference-requires Inv-loop μ-loop
+difference-requires c κs = search needs
 
 add-k : tie.Need-add-k Inv-loop μ-loop
 add-k c = search needs
@@ -46,12 +48,12 @@ loop-less c = search needs
 loop-again : tie.Need-loop-again Inv-loop μ-loop
 loop-again c =
     let l = c .before .before .before .before .loop in
-    (search needs, (block-more _ _ _ _ (l .inv .1 .0) (c .unlike .ensures .0), block-less _ _ _ _ (l .inv .1 .1) (c .unlike .ensures .1)))
+    (search needs, (block-more _ _ _ _ (l .inv .1 .0) (c .difference .ensures .0), λ f. block-less _ _ _ _ (l .inv .1 .1 f) (c .difference .ensures .1 f)))
 
 returns : tie.Need-returns Inv-loop μ-loop
 returns c =
     let l = c .before .loop in
-    (block-end _ _ _ _ _ _ (l .inv .1 .0) (omega arith), block-told _ _ _ _ _ _ (l .inv .1 .1) (omega arith))
+    (block-end _ _ _ _ _ _ (l .inv .1 .0) (omega arith), λ f. block-told _ _ _ _ _ _ (l .inv .1 .1 f) (omega arith))
 
 pub same-block-spec : {M : Type 1} → statement M
 same-block-spec =
@@ -60,13 +62,13 @@ same-block-spec =
     Inv-loop
     μ-loop
     loop-holds
-    add-unlike
-    mul-unlike
-    shared-slice-read-unlike
-    add-unlike-2
-    mul-unlike-2
-    shared-slice-read-unlike-2
-    unlike-requires
+    add-difference
+    mul-difference
+    shared-slice-read-difference
+    add-difference-2
+    mul-difference-2
+    shared-slice-read-difference-2
+    difference-requires
     add-k
     loop-less
     loop-again

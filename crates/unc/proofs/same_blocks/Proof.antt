@@ -2,6 +2,7 @@
 use Prim.Native.Nat.{_≤_}
 use lib.ListN.{length}
 use mathlib.Core.Path.{sym}
+use mathlib.Core.Bool.{true≢false}
 use borrow.Author.Tests.{not-true, not-false}
 use native.Mathlib.Omega.{arith}
 use Rattle.unc.specs.Names.{SameWithin}
@@ -11,10 +12,10 @@ use Rattle.unc.proofs.same_blocks.Statement.{statement}
 use Rattle.unc.proofs.same_blocks.Tie as tie
 
 abbrev Inv-loop : tie.InvT-loop
-Inv-loop a b n left₀ left = (left ≤ length a) × SameWithin a b left (length a)
+Inv-loop a b n folds left₀ left = (left ≤ length a) × SameWithin a b left (length a)
 
 abbrev μ-loop : tie.MeasureT-loop
-μ-loop a b n left₀ left = left
+μ-loop a b n folds left₀ left = left
 
 loop-holds : tie.Need-loop-holds Inv-loop μ-loop
 loop-holds c = (search needs, within-none _ _ _ _ (omega arith))
@@ -26,7 +27,7 @@ same-block-requires : tie.Need-same-block-requires Inv-loop μ-loop
 same-block-requires c κs = search needs
 
 returns : tie.Need-returns Inv-loop μ-loop
-returns c = sym (unlike-within _ _ (c .before .same-block .ensures .1) (not-true _ (c .if1 .taken)) (omega arith))
+returns c = (λ e. absurd (true≢false (sym e)), λ f. sym (unlike-within _ _ (c .before .same-block .ensures .1 f) (not-true _ (c .if1 .taken)) (omega arith)))
 
 loop-less : tie.Need-loop-less Inv-loop μ-loop
 loop-less c = search needs
@@ -35,7 +36,9 @@ loop-again : tie.Need-loop-again Inv-loop μ-loop
 loop-again c = (search needs, within-join _ _ (c .before .same-block .ensures .0 (not-false _ (c .if1 .left))) (c .before .before .before .before .loop .inv .1) (omega arith))
 
 returns-2 : tie.Need-returns-2 Inv-loop μ-loop
-returns-2 c = sym (within-all _ _ (c .before .loop .inv .1) (omega arith) (omega arith))
+returns-2 c =
+    let all = within-all _ _ (c .before .loop .inv .1) (omega arith) (omega arith) in
+    (λ e. all, λ f. sym all)
 
 pub same-blocks-spec : {M : Type 1} → statement M
 same-blocks-spec =

@@ -1,4 +1,4 @@
-use mathlib.Core.Path.{sym}
+use mathlib.Core.Path.{refl, sym}
 use Rattle.unc.proofs.NameLaws.{sameName-unlike}
 use borrow.Author.Needs.{needs}
 use Rattle.unc.proofs.same_name.Statement.{statement}
@@ -13,17 +13,11 @@ same-units-requires c κs = search needs
 returns-2 : tie.Need-returns-2
 returns-2 c = search needs
 
-equal-blocks-requires : tie.Need-equal-blocks-requires
-equal-blocks-requires c κs = search needs
-
-returns-3 : tie.Need-returns-3
-returns-3 c = sym (c .before .equal-blocks .ensures (c .if4 .taken))
-
 same-blocks-requires : tie.Need-same-blocks-requires
 same-blocks-requires c κs = search needs
 
-returns-4 : tie.Need-returns-4
-returns-4 c = search needs
+returns-3 : tie.Need-returns-3
+returns-3 c = c .same-blocks .ensures .1 refl
 
 pub same-name-spec : {M : Type 1} → statement M
 same-name-spec =
@@ -32,7 +26,5 @@ same-name-spec =
     returns
     same-units-requires
     returns-2
-    equal-blocks-requires
-    returns-3
     same-blocks-requires
-    returns-4)
+    returns-3)

@@ -11,11 +11,9 @@ use Rattle.laws.proofs.Orders.{told}
 use Rattle.unc.specs.Paths.{components}
 use Rattle.texts.specs.Texts.{Standing}
 use Rattle.spans.specs.Spans.{spanned}
-use Rattle.caches.specs.Entries.{Domain}
 use Rattle.caches.specs.Memory.{domains, decode, encode, inOrder}
 use Rattle.caches.proofs.MemoryLaws.{encode-decode}
 use Rattle.lookup.specs.Lookup.{withKey}
-use Rattle.lookup.specs.declared.Found.{Found}
 use Rattle.lookup.specs.declared.Found.the-variants.{At}
 use Rattle.referral.specs.Replies as replies
 use Rattle.referral.specs.Found.{answered}
@@ -27,7 +25,6 @@ use Rattle.namelists.specs.declared.DcsFound.{DcsFound}
 use Rattle.storing.specs.Stored.{dcsStored}
 use Rattle.steps.specs.Steps.{Caches, Core, stops, asks, ends, Turn, ended, rests, goes, turned, withHit, withDomains, pathNotFound, emptyEnd, dcsIn, dcAnswer, step5}
 use Rattle.steps.specs.Rested.{cachesOf, coreOf, endedAt}
-use Rattle.steps.specs.declared.Kind.the-variants.{Dc}
 use Rattle.steps.specs.declared.End.{End}
 use Rattle.steps.specs.declared.End.the-variants as end
 use Rattle.steps.specs.declared.Rested.{Rested}

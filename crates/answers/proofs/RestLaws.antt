@@ -9,7 +9,6 @@ use lib.ListN.{length, getD, take, set, length-set}
 use lib.Dec.{leb}
 use borrow.Author.Tests.{le-leb, leb-true}
 use Rattle.laws.specs.Choice.{choose}
-use Rattle.laws.specs.Lists.{every}
 use Rattle.laws.proofs.Choices.{choose-yes, choose-no}
 use Rattle.laws.proofs.Orders.{told}
 use Rattle.laws.proofs.Every.{every-at}

@@ -14,7 +14,7 @@ use Rattle.laws.proofs.Pasting.{part-pasted}
 use Rattle.laws.proofs.Choices.{choose-yes, choose-no}
 use Rattle.hexes.proofs.HexLaws.{take-least}
 use Rattle.walks.specs.declared.Walk.{Walk}
-use Rattle.closing.specs.Closing.{Left, left}
+use Rattle.closing.specs.Closing.{left}
 use Rattle.closing.specs.declared.Outcome.{Outcome}
 use Rattle.resolve.specs.Calls.{Answered, answered, refusalNumber, startCall, ioCall, referralCall}
 use Rattle.spelling.specs.Spelling.{Put}

@@ -18,8 +18,8 @@ use Rattle.questions.proofs.NameLaws.{rest-fits, rest-out}
 use Rattle.answers.proofs.RestLaws.{rested-is, rooms-are, path-is}
 use Rattle.walks.specs.Walks.{inForm, bootIn, lent, walkOf, textsAfter}
 use Rattle.walks.specs.declared.Walk.{Walk}
-use Rattle.walks.proofs.FormLaws.{Formed, form-told, last-room}
-use Rattle.closing.specs.Closing.{Left, refused, closes, walkWith, closedRest}
+use Rattle.walks.proofs.FormLaws.{form-told, last-room}
+use Rattle.closing.specs.Closing.{refused, closes, walkWith, closedRest}
 use Rattle.closing.specs.declared.Verdict.the-variants.{Taken, ShortBuffer}
 
 -- the texts of a start

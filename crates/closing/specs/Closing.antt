@@ -1,6 +1,5 @@
 -- How a call ends: what it leaves of the walk, its texts and the output buffer.
 use Prim.Native.Nat.{ℕ, _-_}
-use mathlib.Core.Bool.{true, false}
 use mathlib.Core.List.{List, _++_}
 use lib.ListN.{length, take}
 use Rattle.laws.specs.Choice.{choose}

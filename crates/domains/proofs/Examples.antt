@@ -1,7 +1,6 @@
 -- Examples of domain replies: equal names, the order of the refusals, the request.
 use mathlib.Core.Path.{_≡_, refl}
-use mathlib.Core.List.{List, [], _∷_}
-use Prim.Native.Nat.{ℕ}
+use mathlib.Core.List.{[], _∷_}
 use lib.ListN.{replicate}
 use Rattle.laws.specs.Choice.{choose}
 use Rattle.unc.specs.Names.{folded, sameUnit, sameName}

@@ -1,15 +1,15 @@
 -- Document 01: "PathConsumed is not used." What is read of a reply is the same whatever its first two bytes are.
-use mathlib.Core.Path.{_≡_, refl, sym, ap, _∙_}
-use mathlib.Core.Bool.{Bool, true, false, _&&_}
-use mathlib.Core.List.{List, [], _∷_, map}
+use mathlib.Core.Path.{_≡_, refl, ap, _∙_}
+use mathlib.Core.Bool.{false, _&&_}
+use mathlib.Core.List.{List, _∷_, map}
 use Prim.Native.Nat.{ℕ, zero, suc, _+_, _≤_}
 use native.Mathlib.Numerals.{add-one}
 use native.Mathlib.Omega.{arith}
-use lib.ListN.{length, getD, take, drop}
+use lib.ListN.{take}
 use Rattle.laws.specs.Lists.{every}
 use Rattle.spans.specs.Bytes.{u16At, u32At, Text, textAt}
-use Rattle.namelists.specs.NameLists.{dcOf, domainOf, bytesPast, textsAt, dcNames, goodDcs, readDcs, domainAt, goodDomain, readDomains}
-use Rattle.referral.specs.Replies.{referralCount, headerFlag, versionAt, sizeAt, serverTypeAt, entryFlag, textOf, starts, entries, fits, pathOf, fixedLength, ttlAt, prefixAt, targetAt, goodFields, goodEntry, Target, Referral, laterTarget, keptTargets, referralIn, readAs, readReferral}
+use Rattle.namelists.specs.NameLists.{domainOf, bytesPast, textsAt, dcNames, goodDcs, readDcs, domainAt, goodDomain, readDomains}
+use Rattle.referral.specs.Replies.{referralCount, headerFlag, versionAt, sizeAt, serverTypeAt, entryFlag, textOf, starts, entries, fits, pathOf, fixedLength, ttlAt, prefixAt, targetAt, goodFields, goodEntry, laterTarget, keptTargets, referralIn, readAs, readReferral}
 
 module _ (a b c d : ℕ) (s : List ℕ) where
   abbrev one : List ℕ

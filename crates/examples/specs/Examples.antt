@@ -9,7 +9,7 @@ use lib.ListN.{length, take, replicate}
 use lib.Dec.{eqb}
 use Rattle.laws.specs.Choice.{choose}
 use Rattle.unc.specs.Paths.{matches, replaced}
-use Rattle.caches.specs.Entries.{Referral, Place, free, used}
+use Rattle.caches.specs.Entries.{Referral, free, used}
 use Rattle.caches.specs.Memory.{referrals, domains, encode}
 use Rattle.lookup.specs.Lookup.{age, expired}
 use Rattle.referral.specs.Request.{bytesOf, request}
@@ -19,7 +19,6 @@ use Rattle.steps.specs.Steps.{Caches, endNumber, bufferOverflow}
 use Rattle.steps.specs.declared.Next.{Next}
 use Rattle.steps.specs.declared.Next.the-variants.{Asks, Ends}
 use Rattle.steps.specs.declared.End.the-variants.{NotDfs}
-use Rattle.walks.specs.declared.Walk.{Walk}
 use Rattle.resolve.specs.Calls.{Answered, refusalNumber}
 use Rattle.limits.specs.Calls.{Held, Start, Calls, start, then, referral, run}
 

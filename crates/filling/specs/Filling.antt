@@ -2,13 +2,13 @@
 use Prim.Native.Nat.{ℕ, _+_, _-_, _≤_, _<_}
 use mathlib.Core.Path.{_≡_}
 use mathlib.Core.Bool.{true, false}
-use mathlib.Core.List.{List, [], _∷_, _++_, map}
+use mathlib.Core.List.{List, [], _++_, map}
 use lib.ListN.{length, getD, take, drop}
 use Rattle.places.specs.Layout.{changed, putUnit, putSettings}
-use Rattle.caches.specs.Entries.{Target, Referral, used}
+use Rattle.caches.specs.Entries.{Referral, used}
 use Rattle.caches.specs.Memory.{referralSettings, referralUnits}
 use Rattle.entries.specs.Writing.{addText, addTarget, addAll}
-use Rattle.listing.specs.Form.{linesText, targetLines, entryLines, listing}
+use Rattle.listing.specs.Form.{linesText, targetLines, listing}
 use Rattle.lines.specs.Lines.{lineLength}
 use Rattle.unspelling.specs.Reading.{unspelled, isSpelled, decimalOf, isDecimal}
 use Rattle.reading.specs.Entries.{entrySaid, entriesSaid}

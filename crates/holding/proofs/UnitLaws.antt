@@ -1,7 +1,7 @@
 -- Laws of calls over a walk in units.
 use mathlib.Core.Path.{_≡_, refl, sym, ap, _∙_}
 use mathlib.Core.Bool.{Bool, true, false, _&&_}
-use mathlib.Core.List.{List, [], _++_, append-nil}
+use mathlib.Core.List.{List, _++_, append-nil}
 use mathlib.Core.Logic.{_⊎_, inl, inr}
 use mathlib.Core.Option.{Option}
 use Prim.Native.Nat.{ℕ, _+_, _-_, _≤_, _<_, min}
@@ -14,11 +14,10 @@ use Rattle.laws.specs.Choice.{choose}
 use Rattle.laws.specs.Lists.{pasted}
 use Rattle.laws.specs.Listed.{sameList}
 use Rattle.laws.proofs.Choices.{choose-yes, choose-no, and-no-right}
-use Rattle.laws.proofs.Orders.{told, lt-or-le}
+use Rattle.laws.proofs.Orders.{lt-or-le}
 use Rattle.laws.proofs.Tests.{eq-or-ne}
 use Rattle.unc.specs.Paths.{goodPath, normalised, pathUnits}
 use Rattle.caches.specs.Memory.{referrals, domains, inOrder}
-use Rattle.referral.specs.Found.{bufferWith}
 use Rattle.referral.specs.declared.Asked.{Asked}
 use Rattle.referral.specs.declared.Asked.the-variants.{Bytes, TooShort}
 use Rattle.domains.specs.Domains as dom
@@ -39,7 +38,7 @@ use Rattle.closing.specs.declared.Verdict.{Verdict}
 use Rattle.closing.specs.declared.Verdict.the-variants.{Taken, BadPath, LongPath, BadSettings, NotInOrder, OutOfForm, ShortBuffer}
 use Rattle.shown.specs.Shown.{Given, given, partyCall, nameCall, pathCall, questionCall, endCall}
 use Rattle.shown.specs.declared.Shown.{Shown}
-use Rattle.holding.specs.Units.{noWalk, heldIn, walkIn, UnitsLeft, unitsLeft, headAfter, closedUnits, inUnits, startUnits, answerLeft, answerInUnits, referralUnits, ioUnits, shownResult, Seen, seen, asSeen, partySeen, nameSeen, questionSeen, pathSeen, endSeen}
+use Rattle.holding.specs.Units.{noWalk, heldIn, walkIn, unitsLeft, headAfter, closedUnits, inUnits, startUnits, answerLeft, answerInUnits, referralUnits, ioUnits, shownResult, seen, asSeen, partySeen, nameSeen, questionSeen, pathSeen, endSeen}
 
 -- the packed form and the texts, as parts of the units that are there
 module _ (units : List ℕ) {n : ℕ} (e : n ≡ min 32 (length units)) where

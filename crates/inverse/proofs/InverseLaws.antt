@@ -1,17 +1,16 @@
 -- Laws of values that are printed and read.
 use mathlib.Core.Path.{_≡_, refl, sym, ap, _∙_}
-use mathlib.Core.Bool.{Bool, true, false, _&&_}
-use mathlib.Core.List.{List, [], _∷_, _++_}
+use mathlib.Core.Bool.{true}
+use mathlib.Core.List.{List, [], _++_}
 use mathlib.Core.Logic.{_⊎_, inl, inr}
-use Prim.Native.Nat.{ℕ, zero, suc, _+_, _-_, _*_, _/_, _%_, _≤_, _<_}
+use Prim.Native.Nat.{ℕ, _+_, _-_, _*_, _/_, _%_, _≤_, _<_}
 use native.Mathlib.Omega.{arith}
-use lib.ListN.{length, take, drop}
+use lib.ListN.{length, take}
 use lib.Seq.{take-append-seam, drop-append-seam}
 use lib.Dec.{leb, ltb, eqb}
 use borrow.Author.Tests.{le-leb, lt-leb, lt-ltb, eq-eqb}
 use Rattle.laws.specs.Choice.{choose}
 use Rattle.laws.specs.Lists.{every, pasted}
-use Rattle.laws.specs.Listed.{sameList}
 use Rattle.laws.proofs.Choices.{choose-yes, choose-no, and-both}
 use Rattle.laws.proofs.Orders.{lt-or-le}
 use Rattle.laws.proofs.Listed.{same-sameList}
@@ -21,11 +20,10 @@ use Rattle.unspelling.proofs.UnspelledLaws.{unspelled-spelled}
 use Rattle.unspelling.proofs.NumberLaws.{decimal-says}
 use Rattle.unspelling.proofs.HexLaws.{digit-back, unit-hex}
 use Rattle.unspelling.specs.declared.Spelled.the-variants.{Units}
-use Rattle.unspelling.specs.declared.Number.{Number}
 use Rattle.unspelling.specs.declared.Number.the-variants.{Value}
 use Rattle.listing.specs.Form.{pathLine, numberLine}
 use Rattle.lines.specs.Lines.{valueOf, hasKey, numberSaid}
-use Rattle.hexes.specs.Hexes.{upper, isHex, hexValue, hexFrom, hexNumber}
+use Rattle.hexes.specs.Hexes.{isHex, hexValue, hexFrom, hexNumber}
 use Rattle.hexes.proofs.HexLaws.{upper-low}
 use Rattle.script.specs.Script.{statusKey, isText, textSaid, textRead, textTaken, statusSaid}
 use Rattle.printing.specs.Printed.{statusLine}

@@ -1,21 +1,20 @@
 -- A start and an answer, with a limit, against what they come to for the unlimited walk.
 use mathlib.Core.Path.{_≡_, refl, sym, ap, _∙_, subst}
 use mathlib.Core.Bool.{Bool, true, false, _&&_}
-use mathlib.Core.List.{List, []}
+use mathlib.Core.List.{List}
 use mathlib.Core.Option.{Option, none, some}
 use mathlib.Core.Logic.{_⊎_, inl, inr}
-use Prim.Native.Nat.{ℕ, suc, _+_, _-_, _≤_}
+use Prim.Native.Nat.{ℕ, _-_, _≤_}
 use native.Mathlib.Omega.{arith}
 use lib.ListN.{length}
 use lib.Dec.{leb, eqb}
-use borrow.Author.Tests.{le-leb}
 use Rattle.laws.specs.Choice.{choose}
-use Rattle.laws.proofs.Choices.{choose-yes, choose-no, and-left, and-right, and-both, and-yes-left}
+use Rattle.laws.proofs.Choices.{choose-yes, choose-no, and-left, and-right, and-yes-left}
 use Rattle.laws.proofs.Orders.{told}
 use Rattle.laws.proofs.Tests.{not-both}
 use Rattle.unc.specs.Names.{goodName}
 use Rattle.unc.specs.Paths.{goodPath, normalised, pathUnits, componentCount}
-use Rattle.caches.specs.Memory.{referrals, domains, decode, encode, inOrder}
+use Rattle.caches.specs.Memory.{referrals, domains, encode, inOrder}
 use Rattle.caches.proofs.MemoryLaws.{encode-decode}
 use Rattle.domains.specs.Domains.{goodSize}
 use Rattle.steps.specs.Steps.{Caches, Core, Turn, Resting, ends, started, fromStep2, turned}
@@ -26,7 +25,7 @@ use Rattle.walks.specs.Walks.{goodLimit, goodSettings, inForm, bootIn, walkOf, 
 use Rattle.walks.specs.declared.Walk.{Walk}
 use Rattle.turns.specs.Turns.{coreIn}
 use Rattle.closing.specs.Closing.{Left, refused, closes}
-use Rattle.resolve.specs.Calls.{Answered, refusedAnswer, startRest, startCall, answers, answerCall, referralCall, ioCall, restIn}
+use Rattle.resolve.specs.Calls.{Answered, startRest, startCall, answers, answerCall, referralCall, ioCall, restIn}
 use Rattle.closing.specs.declared.Verdict.{Verdict}
 use Rattle.closing.specs.declared.Verdict.the-variants.{Taken, BadPath, LongPath, BadSettings, NotInOrder, OutOfForm, ShortBuffer}
 use Rattle.limits.specs.Unlimited.{Opening, opens, refuses, restsAt}

@@ -1,23 +1,23 @@
 -- One call of a walk with a limit against the same call of the unlimited walk, by what the call comes to.
 use mathlib.Core.Path.{_≡_, refl, sym, ap, _∙_, subst}
-use mathlib.Core.Bool.{Bool, true, false}
-use mathlib.Core.List.{List, [], _∷_, _++_}
+use mathlib.Core.Bool.{true, false}
+use mathlib.Core.List.{List, [], _++_}
 use mathlib.Core.Logic.{_⊎_, inl, inr}
-use Prim.Native.Nat.{ℕ, zero, suc, _+_, _-_, _≤_, _<_}
+use Prim.Native.Nat.{ℕ, suc, _+_, _-_, _≤_}
 use native.Mathlib.Omega.{arith}
 use lib.ListN.{length, length-append}
 use Rattle.laws.proofs.Orders.{told}
-use Rattle.steps.specs.Steps.{Core, Called, Turn, Rest, waits, ended, Resting, rests, goes, turned}
+use Rattle.steps.specs.Steps.{Turn, ended, Resting, rests, turned}
 use Rattle.steps.specs.declared.End.the-variants.{LimitReached}
 use Rattle.questions.specs.Questions.{requestName, nameFits, restFits, withRequest}
 use Rattle.walks.specs.Walks.{inForm, bootIn}
 use Rattle.resolve.specs.Calls.{Answered}
 use Rattle.closing.specs.declared.Verdict.{Verdict}
 use Rattle.closing.specs.declared.Verdict.the-variants.{Taken, ShortBuffer}
-use Rattle.limits.specs.Unlimited.{Move, Opening, opens, refuses, Unlimited, Made, madeIn, restsAt, lastMove, callsOne, Rests, CallsForMore, Brings, number, comes, Call, short, taken, refused, CallsFor, Within, rests as within-rests}
+use Rattle.limits.specs.Unlimited.{Move, Opening, opens, refuses, madeIn, restsAt, lastMove, Rests, CallsForMore, Brings, number, comes, Call, short, taken, refused, CallsFor, Within, rests as within-rests}
 use Rattle.limits.specs.Calls.{seen, Moved, no-move, to-rest, to-limit, Same, same-number, same-rest}
 use Rattle.limits.proofs.Goes.{ToRest, Cut, rests-or-cut}
-use Rattle.limits.proofs.Once.{behind, as-many}
+use Rattle.limits.proofs.Once.{behind}
 
 -- the walk that a taken call leaves: in form, with the limit and the bootstrap DC that it was started with
 pub record Fine (l : ℕ) (boot : List ℕ) (o : Answered) : Type 0 where

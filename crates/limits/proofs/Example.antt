@@ -2,17 +2,17 @@
 use mathlib.Core.Path.{_≡_, refl, sym, ap, _∙_, subst}
 use mathlib.Core.Bool.{Bool, true, false, _&&_}
 use mathlib.Core.List.{List, [], _∷_}
-use Prim.Native.Nat.{ℕ, suc, _≤_}
+use Prim.Native.Nat.{ℕ}
 use native.Mathlib.Omega.{arith}
 use lib.ListN.{length, replicate, length-replicate}
 use lib.Dec.{eqb, leb}
 use borrow.Author.Tests.{eq-eqb}
 use Rattle.laws.specs.Choice.{choose}
-use Rattle.laws.proofs.Choices.{choose-yes, and-both}
+use Rattle.laws.proofs.Choices.{choose-yes}
 use Rattle.laws.specs.Lists.{every}
 use Rattle.unc.specs.Names.{folded, sameUnit, sameName, goodName, goodComponent, nothingOrDots, plain}
-use Rattle.unc.specs.Paths.{before, pieces, joined, components, componentCount, firstOf, begins, matches, isSysvol, replaced, pathUnits, normalised, normalisedCount, isNormalised, goodPath, leads, body, withoutTrail}
-use Rattle.caches.specs.Entries.{Target, Referral, Domain, Place, free, used}
+use Rattle.unc.specs.Paths.{before, pieces, components, componentCount, begins, matches, isSysvol, replaced, pathUnits, normalised, normalisedCount, isNormalised, goodPath, leads, body, withoutTrail}
+use Rattle.caches.specs.Entries.{free, used}
 use Rattle.caches.specs.Memory.{referrals, domains, encode, goodCache, goodPlace, keys}
 use Rattle.caches.specs.Order.{goodPrefix, goodTarget, goodReferral, firstOpensNone, distinct}
 use Rattle.lookup.specs.Lookup.{longerMatch, prefixUnits, longestFrom, longestMatch, age, expired, targetPath}

@@ -1,42 +1,41 @@
 -- A walk with a limit along a list of calls, against the unlimited walk.
 use mathlib.Core.Path.{_≡_, refl, sym, ap, _∙_, subst}
 use mathlib.Core.Bool.{Bool, true, false, _&&_}
-use mathlib.Core.List.{List, [], _∷_, _++_}
+use mathlib.Core.List.{List, [], _++_}
 use mathlib.Core.Option.{Option, none, some}
 use mathlib.Core.Logic.{_⊎_, inl, inr}
 use Prim.Native.Nat.{ℕ, suc, _+_, _-_, _≤_}
 use native.Mathlib.Omega.{arith}
 use lib.ListN.{length}
-use borrow.Author.Tests.{leb-true, le-leb}
+use borrow.Author.Tests.{leb-true}
 use Rattle.laws.specs.Choice.{choose}
-use Rattle.laws.proofs.Choices.{choose-yes, choose-no, and-left, and-right, and-both}
+use Rattle.laws.proofs.Choices.{choose-yes, choose-no, and-left, and-right}
 use Rattle.laws.proofs.Orders.{told}
 use Rattle.laws.proofs.Tests.{not-both}
 use Rattle.unc.specs.Names.{goodName}
 use Rattle.unc.specs.Paths.{normalised}
 use Rattle.caches.specs.Memory.{referrals, domains, inOrder}
 use Rattle.domains.specs.Domains.{goodSize}
-use Rattle.steps.specs.Steps.{started, Turn, Core, Rest, waits, ended, Question, Resting, turned}
+use Rattle.steps.specs.Steps.{started, Turn, Core, Rest, ended, Resting}
 use Rattle.steps.specs.Rested.{cachesOf, coreOf}
 use Rattle.steps.specs.declared.End.{End}
-use Rattle.steps.specs.declared.End.the-variants.{LimitReached}
 use Rattle.questions.specs.Questions.{requestName, nameFits}
 use Rattle.walks.specs.Walks.{goodLimit, inForm, bootIn}
 use Rattle.turns.specs.Turns.{coreIn}
 use Rattle.closing.specs.Closing.{Left, refused}
-use Rattle.resolve.specs.Calls.{Answered, refusedAnswer, restIn, referralEvent, ioEvent, referralCall, ioCall}
+use Rattle.resolve.specs.Calls.{Answered, refusedAnswer, restIn, referralEvent, ioEvent}
 use Rattle.closing.specs.declared.Verdict.{Verdict}
 use Rattle.closing.specs.declared.Verdict.the-variants.{Taken, ShortBuffer}
-use Rattle.keeps.specs.Keeps.{Proper, StartKeeps, AnswerKeeps}
+use Rattle.keeps.specs.Keeps.{Proper}
 use Rattle.keeps.proofs.RestLaws.{GoodTurn, turned-proper}
 use Rattle.keeps.proofs.EventLaws.{path-counted, started-proper, referral-good, io-good}
 use Rattle.keeps.proofs.BackLaws.{caches-good, form-proper, core-back, rest-back, boot-back, proper-form, form-settings}
 use Rattle.keeps.proofs.CallLaws.{start-keeps, referral-keeps, io-keeps}
-use Rattle.limits.specs.Unlimited.{Move, Opening, opens, refuses, Unlimited, Made, madeIn, restsAt, lastMove, Rests, CallsForMore, Brings, number, comes, Call, refused as call-refused, short, taken, CallsFor, Within}
+use Rattle.limits.specs.Unlimited.{Move, Opening, opens, refuses, Unlimited, Made, madeIn, restsAt, lastMove, Rests, CallsForMore, Brings, number, comes, Call, refused as call-refused, short, taken, CallsFor}
 use Rattle.limits.specs.Calls.{Held, Start, Answer, referral, io, Calls, start, then, run, answered, answerClock, answerOut, clockOf, outOf, seen, startOpening, eventOf, eventOpening, answerOpening, opening, before, Follows, begins, is-refused, is-taken, Comes, to-start, to-answer, Moved, Same, same-number, same-rest}
 use Rattle.limits.proofs.Once.{rest-once, as-many, cut-short}
-use Rattle.limits.proofs.Classify.{Fine, Followed, CutOff, never-both, opens-same, not-refused}
-use Rattle.limits.proofs.CallLaws.{Back, BackAfter, BackStart, Accepted, startTurn, Either, answer-either, start-either}
+use Rattle.limits.proofs.Classify.{Fine, opens-same, not-refused}
+use Rattle.limits.proofs.CallLaws.{Back, BackAfter, BackStart, Either, answer-either, start-either}
 use Rattle.limits.proofs.NoLimit.{NoLimit, started-no, referral-event-no, io-event-no}
 
 -- what a call brings the unlimited walk is determined

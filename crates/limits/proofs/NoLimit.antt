@@ -1,24 +1,20 @@
 -- No step calls for end 24: only the limit brings it.
-use mathlib.Core.Path.{_≡_, refl, sym, ap, _∙_, subst}
-use mathlib.Core.Bool.{Bool, true, false, _&&_, not}
-use mathlib.Core.List.{List, [], _∷_}
+use mathlib.Core.Path.{_≡_, refl, ap, subst}
+use mathlib.Core.Bool.{Bool, true, false}
+use mathlib.Core.List.{List}
 use mathlib.Core.Option.{Option, none, some}
-use mathlib.Core.Logic.{_⊎_, inl, inr}
-use Prim.Native.Nat.{ℕ, _+_}
+use Prim.Native.Nat.{ℕ}
 use native.Mathlib.Omega.{arith}
-use lib.ListN.{length}
 use Rattle.laws.specs.Choice.{choose}
 use Rattle.laws.proofs.Tests.{not-both}
 use Rattle.caches.specs.Entries.{Referral}
 use Rattle.referral.specs.Replies as replies
-use Rattle.referral.specs.Replies.{malformed, nothing, says, readReferral}
-use Rattle.namelists.specs.NameLists.{readDcs}
-use Rattle.steps.specs.Steps.{Caches, Core, Question, Called, stops, ends, asks, replaces, Turn, Rest, ended, nextPlace, onward, step2, step2With, step4, step7, started, fromStep2, failedHost, failed, referralFails, emptyEnd, dcAnswer, afterStore, storedTurn, referralAnswer, referralSucceeds, referralAnswered, ioFails, ioWith, ioAnswered, longest, withPath}
+use Rattle.referral.specs.Replies.{malformed, nothing, says}
+use Rattle.steps.specs.Steps.{Caches, Core, Question, Called, stops, ends, asks, replaces, Turn, Rest, ended, onward, step2, step2With, step4, step7, started, fromStep2, failedHost, failed, referralFails, emptyEnd, dcAnswer, afterStore, storedTurn, referralAnswer, referralSucceeds, referralAnswered, ioFails, ioWith, ioAnswered, longest, withPath}
 use Rattle.steps.specs.declared.Kind.{Kind}
 use Rattle.steps.specs.declared.Kind.the-variants.{Dc, Root, Link, Sysvol, Io}
 use Rattle.steps.specs.declared.End.{End}
 use Rattle.steps.specs.declared.End.the-variants.{Done, NotDfs, NoDc, Failed, LimitReached, Malformed, TooLong, Gone}
-use Rattle.walks.specs.Walks.{hasTried}
 use Rattle.resolve.specs.Calls.{referralEvent, ioEvent}
 use Rattle.keeps.proofs.CalledLaws.{picked}
 use Rattle.limits.specs.Unlimited.{Move, Makes, here, goes-on, Halts, at-end, is-put, try-long, path-long}

@@ -1,12 +1,11 @@
 -- The steps without a limit are determined, and where they come to rest they call for no further move.
-use mathlib.Core.Path.{_≡_, refl, sym, ap, _∙_, subst}
+use mathlib.Core.Path.{_≡_, refl, sym, ap, subst}
 use mathlib.Core.List.{List, [], _∷_, _++_}
-use mathlib.Core.Logic.{_⊎_, inl, inr}
-use Prim.Native.Nat.{ℕ, zero, suc, _+_, _-_, _≤_, _<_}
+use Prim.Native.Nat.{ℕ, zero, suc, _+_, _-_, _≤_}
 use native.Mathlib.Omega.{arith}
 use lib.ListN.{length}
 use Rattle.unc.specs.Paths.{pathUnits}
-use Rattle.steps.specs.Steps.{Caches, Core, Called, stops, asks, replaces, Rest}
+use Rattle.steps.specs.Steps.{Caches, Core, Called, replaces, Rest}
 use Rattle.limits.specs.Unlimited.{Move, replacement, Makes, here, goes-on, Halts, at-end, is-put, try-long, path-long, callsOne}
 
 -- a replacement that fits its room does not end

@@ -1,6 +1,6 @@
 -- Demand 3, proved: `limit-only-cuts`.
 use mathlib.Core.Path.{_≡_, refl, sym, ap, _∙_, subst}
-use mathlib.Core.Bool.{Bool, true, false}
+use mathlib.Core.Bool.{true, false}
 use mathlib.Core.List.{List, [], _∷_, _++_, append-assoc, map-append}
 use mathlib.Core.Option.{Option, none, some}
 use mathlib.Core.Logic.{_⊎_, inl, inr}
@@ -14,25 +14,23 @@ use Rattle.laws.proofs.Tests.{not-both}
 use Rattle.unc.specs.Paths.{pathUnits}
 use Rattle.referral.specs.Request.{request}
 use Rattle.steps.specs.Steps.{Core, Question, Called, stops, asks, replaces, Rest, waits, ended, Turn, Caches, withPath, withHit, hitAt, step2}
-use Rattle.steps.specs.declared.Kind.{Kind}
-use Rattle.steps.specs.declared.Kind.the-variants.{Dc, Root, Link, Sysvol, Io}
 use Rattle.steps.specs.declared.End.{End}
 use Rattle.steps.specs.declared.End.the-variants.{LimitReached, TooLong}
-use Rattle.questions.specs.Questions.{requestName, nameFits, withRequest}
+use Rattle.questions.specs.Questions.{requestName, nameFits}
 use Rattle.walks.specs.Walks.{goodLimit}
-use Rattle.closing.specs.Closing.{Left, refused}
-use Rattle.resolve.specs.Calls.{Answered, refusedAnswer}
+use Rattle.closing.specs.Closing.{refused}
+use Rattle.resolve.specs.Calls.{Answered}
 use Rattle.closing.specs.declared.Verdict.{Verdict}
 use Rattle.closing.specs.declared.Verdict.the-variants.{Taken, BadPath, LongPath, BadSettings, NotInOrder, OutOfForm, ShortBuffer}
 use Rattle.limits.specs.Unlimited.{Move, Opening, opens, refuses, Unlimited, Made, madeIn, restsAt, lastMove, callsOne, Halts, at-end, is-put, try-long, path-long, Rests, CallsForMore, Brings, number, comes, Call, refused as call-refused, short, taken, CallsFor, Within, refused as within-refused, rests as within-rests, replacement, Makes, here, goes-on}
 use Rattle.limits.specs.Calls.{Held, Start, Answer, Calls, start, then, run, answered, InList, the-start, an-answer, answerClock, answerOut, clockOf, outOf, seen, startOpening, answerOpening, opening, before, Follows, begins, is-refused, is-taken, Comes, to-start, to-answer, Moved, no-move, to-rest, to-limit, Same, same-number, same-rest}
 use Rattle.limits.specs.Limits.{MovesOf, SameIn, EndsIn, WaitsAfter, TooShort, CutBy, in-it, before-it, LimitOnlyCuts}
 use Rattle.limits.proofs.Goes.{ToRest, Cut, rests-or-cut}
-use Rattle.limits.proofs.Once.{behind, as-many, rest-once, goes-further}
-use Rattle.limits.proofs.Classify.{Fine, Followed, CutOff, never-both, opens-same, short-not, not-refused}
+use Rattle.limits.proofs.Once.{behind, as-many, goes-further}
+use Rattle.limits.proofs.Classify.{Fine, CutOff, never-both, opens-same, short-not, not-refused}
 use Rattle.limits.proofs.CallLaws.{Either}
 use Rattle.limits.proofs.NoLimit.{NoLimit, rests-no}
-use Rattle.limits.proofs.ListLaws.{one-walk, same-way, answer-identity, start-identity, same-comes, same-numbered, taken-opens, short-opens, one-cut, earlier, Agrees, at-start, Later, later, agrees, few, comes-either, comes-no, comes-few, comes-opening, seen-kept, fine-kept, event-ended, no-opening, start-goes-on, answer-goes-on}
+use Rattle.limits.proofs.ListLaws.{one-walk, same-way, answer-identity, start-identity, same-comes, same-numbered, taken-opens, short-opens, one-cut, earlier, at-start, Later, later, agrees, few, comes-either, comes-no, comes-few, comes-opening, seen-kept, fine-kept, event-ended, no-opening, start-goes-on, answer-goes-on}
 
 -- a rest that a move called for has brought is no end 24
 halts-move : {a : Called} {r : Rest} → Halts a r → callsOne a ≡ 1 → r ≡ ended LimitReached 0 [] → ⊥

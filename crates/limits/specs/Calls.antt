@@ -2,7 +2,7 @@
 -- what it is to the unlimited walk.
 use Prim.Native.Nat.{ℕ, suc, _+_}
 use mathlib.Core.Path.{_≡_}
-use mathlib.Core.Bool.{Bool, true, false, _&&_}
+use mathlib.Core.Bool.{false, _&&_}
 use mathlib.Core.List.{List, []}
 use mathlib.Core.Option.{Option, none, some}
 use lib.ListN.{length}
@@ -18,7 +18,6 @@ use Rattle.steps.specs.declared.End.the-variants.{LimitReached}
 use Rattle.walks.specs.declared.Walk.{Walk}
 use Rattle.questions.specs.Questions.{requestName, withRequest}
 use Rattle.turns.specs.Turns.{coreIn}
-use Rattle.closing.specs.Closing.{Left}
 use Rattle.resolve.specs.Calls.{Answered, startCall, referralCall, ioCall, restIn, referralEvent, ioEvent}
 use Rattle.closing.specs.declared.Verdict.{Verdict}
 use Rattle.closing.specs.declared.Verdict.the-variants.{Taken, BadPath, LongPath, BadSettings, NotInOrder, OutOfForm}

@@ -1,7 +1,7 @@
 -- Demand 3: "A limit only cuts a walk short", and document 01's paragraph on it ("Demand 3's list .."), as one claim about any list of calls.
 use Prim.Native.Nat.{ℕ, suc, _≤_, _<_}
 use mathlib.Core.Path.{_≡_}
-use mathlib.Core.Bool.{Bool, true, false}
+use mathlib.Core.Bool.{false}
 use mathlib.Core.List.{List, [], _∷_, _++_}
 use mathlib.Core.Logic.{_⊎_}
 use mathlib.Core.Option.{some}
@@ -13,10 +13,8 @@ use Rattle.steps.specs.Rested.{cachesOf, coreOf}
 use Rattle.steps.specs.declared.End.{End}
 use Rattle.steps.specs.declared.End.the-variants.{LimitReached, TooLong}
 use Rattle.questions.specs.Questions.{requestName}
-use Rattle.resolve.specs.Calls.{Answered}
-use Rattle.closing.specs.declared.Verdict.{Verdict}
 use Rattle.closing.specs.declared.Verdict.the-variants.{Taken, ShortBuffer}
-use Rattle.limits.specs.Unlimited.{Move, replacement, Makes, Halts, Opening, opens, Unlimited, Made, madeIn, restsAt, Rests, Brings, number, comes, Call, CallsFor, Within}
+use Rattle.limits.specs.Unlimited.{Move, replacement, Makes, Halts, Opening, opens, Unlimited, Made, madeIn, restsAt, Rests, Brings, Call, CallsFor, Within}
 use Rattle.limits.specs.Calls.{Held, Start, Answer, Calls, start, then, run, answered, InList, startOpening, eventOf, answerOpening, Follows, clockOf, outOf, seen, Comes, opening, before, Moved, Same}
 
 -- the moves that the last call of a list gives the walk with limit l

@@ -1,6 +1,6 @@
 -- Laws of lines that are read.
-use mathlib.Core.Path.{_≡_, refl, sym, ap, subst, _∙_}
-use mathlib.Core.Bool.{Bool, true, false, true≢false, _&&_}
+use mathlib.Core.Path.{_≡_, refl, sym, ap, _∙_}
+use mathlib.Core.Bool.{Bool, true, false, _&&_}
 use mathlib.Core.List.{List, [], _∷_, _++_}
 use mathlib.Core.Logic.{_⊎_, inl, inr}
 use Prim.Native.Nat.{ℕ, suc, _+_, _-_, _≤_, _<_}
@@ -8,13 +8,13 @@ use native.Mathlib.Numerals.{add-one}
 use native.Mathlib.Omega.{arith}
 use lib.ListN.{length, drop, take, getD, drop-of-length-le, length-take, length-drop}
 use lib.Seq.{drop-cons, take-all}
-use lib.Dec.{eqb, leb, ltb}
-use borrow.Author.Tests.{eq-eqb, ne-eqb, lt-leb, leb-true, eqb-true}
+use lib.Dec.{eqb, ltb}
+use borrow.Author.Tests.{eq-eqb, ne-eqb}
 use Rattle.laws.specs.Choice.{choose}
 use Rattle.laws.specs.Lists.{pasted, part}
 use Rattle.laws.specs.Listed.{sameList}
-use Rattle.laws.proofs.Choices.{choose-yes, choose-no, and-both, and-left, and-right, and-no-left, and-no-right, and-yes-left}
-use Rattle.laws.proofs.Listed.{sameList-true, same-sameList}
+use Rattle.laws.proofs.Choices.{choose-yes, choose-no, and-both, and-no-left, and-no-right, and-yes-left}
+use Rattle.laws.proofs.Listed.{sameList-true}
 use Rattle.laws.proofs.Tests.{refuted}
 use Rattle.laws.proofs.Pasting.{part-pasted}
 use Rattle.laws.proofs.Orders.{told}

@@ -1,16 +1,16 @@
 -- Laws of an entry's lines, put one after another, and counted.
 use mathlib.Core.Path.{_≡_, refl, sym, ap, _∙_}
-use mathlib.Core.Bool.{Bool, true, false}
-use mathlib.Core.List.{List, [], _∷_, _++_, append-nil}
-use Prim.Native.Nat.{ℕ, _+_, _≤_, _<_}
+use mathlib.Core.Bool.{Bool}
+use mathlib.Core.List.{List, [], _++_, append-nil}
+use Prim.Native.Nat.{ℕ, _+_, _≤_}
 use native.Mathlib.Omega.{arith}
-use lib.ListN.{length, length-append}
+use lib.ListN.{length}
 use Rattle.laws.specs.Lists.{pasted}
 use Rattle.places.specs.Layout.{textAt, flagAt, flagUnit, wideAt, unitAt}
 use Rattle.caches.specs.Memory.{referralOf}
 use Rattle.spelling.specs.Spelling.{spelled, decimal, Put}
-use Rattle.spelling.proofs.PutLaws.{Left, left-start, left-next, left-done, length-put}
-use Rattle.listing.specs.Form.{prefixKey, kindKey, interlinkKey, failbackKey, ttlKey, takenKey, hintKey, targetKey, kindWord, pathLine, numberLine, ended, linesText, targetLines, settingLines, countLines, entryText}
+use Rattle.spelling.proofs.PutLaws.{Left, left-start, left-next, left-done}
+use Rattle.listing.specs.Form.{prefixKey, kindKey, interlinkKey, failbackKey, ttlKey, takenKey, hintKey, kindWord, pathLine, numberLine, ended, linesText, targetLines, settingLines, countLines, entryText}
 use Rattle.listing.proofs.FormLaws.{left-fits, head-length, head-bound, entry-parts}
 
 pub put-same : {d : List ℕ} {n : ℕ} {p q o : List ℕ} {r : ℕ} → p ≡ q → Put d n p o r → Put d n q o r

@@ -2,7 +2,7 @@
 use mathlib.Core.Path.{_≡_, refl, sym, ap, _∙_}
 use mathlib.Core.Bool.{Bool, true, false}
 use mathlib.Core.List.{List, [], _∷_, _++_, append-assoc}
-use Prim.Native.Nat.{ℕ, suc, _+_, _*_, _≤_, _<_, min}
+use Prim.Native.Nat.{ℕ, _+_, _≤_, _<_}
 use native.Mathlib.Numerals.{add-one}
 use native.Mathlib.Omega.{arith}
 use lib.ListN.{length, drop, length-append, length-take}
@@ -10,16 +10,16 @@ use lib.Dec.{eqb}
 use Rattle.laws.specs.Choice.{choose}
 use Rattle.laws.specs.Lists.{pasted, part}
 use Rattle.laws.specs.Listed.{listed}
-use Rattle.laws.proofs.Listed.{drop-listed, drop-listed-end, length-listed}
+use Rattle.laws.proofs.Listed.{drop-listed, drop-listed-end}
 use Rattle.places.specs.Layout.{placeAt, placeCount, textAt, roomAt, listCount, flagUnit, unitAt}
-use Rattle.caches.specs.Entries.{Target, Referral, Place, free, used}
-use Rattle.caches.specs.Memory.{referrals, referralOf, targetOf, decode, placeOf}
+use Rattle.caches.specs.Entries.{Target, Referral}
+use Rattle.caches.specs.Memory.{referrals, referralOf, targetOf, decode}
 use Rattle.caches.proofs.MemoryLaws.{drop-decode, drop-decode-end, place-free, place-used}
 use Rattle.spelling.specs.Spelling.{spelled, decimalIn, decimal, Put}
 use Rattle.spelling.proofs.PutLaws.{Left, left-start, left-next, left-done, put-piece}
 use Rattle.spelling.proofs.SpellingLaws.{length-spelled}
 use Rattle.spelling.proofs.DecimalLaws.{length-decimal}
-use Rattle.listing.specs.Form.{prefixKey, kindKey, interlinkKey, failbackKey, ttlKey, takenKey, hintKey, targetKey, kindWord, pathLine, numberLine, ended, linesText, targetLines, settingLines, countLines, entryLines, entryText, listing}
+use Rattle.listing.specs.Form.{kindKey, targetKey, kindWord, pathLine, numberLine, ended, linesText, targetLines, settingLines, countLines, entryLines, entryText, listing}
 use Rattle.listing.specs.Listed.{textOf}
 
 -- the first piece of what is left fits

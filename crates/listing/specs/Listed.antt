@@ -1,6 +1,6 @@
 -- What listing a referral cache answers, and the buffer after it: document 01, "Numbers given back".
 use Prim.Native.Nat.{ℕ}
-use mathlib.Core.List.{List, []}
+use mathlib.Core.List.{List}
 use lib.ListN.{length}
 use lib.Dec.{leb}
 use Rattle.laws.specs.Choice.{choose}

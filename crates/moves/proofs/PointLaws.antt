@@ -25,7 +25,6 @@ use Rattle.steps.specs.Steps.{Core, asks, asking, hitAt, withHit, withPath, ste
 use Rattle.steps.specs.Rested.{cachesOf, coreOf, restedOf, endedAt, turning, step2In}
 use Rattle.steps.specs.declared.End.the-variants.{LimitReached}
 use Rattle.steps.specs.declared.End.the-variants as ends
-use Rattle.steps.specs.declared.End.{End}
 use Rattle.steps.specs.declared.Rested.{Rested}
 use Rattle.steps.specs.declared.Matched.{Matched}
 use Rattle.steps.specs.declared.Matched.the-variants.{Fresh, Refresh, Stale, Missed}

@@ -1,7 +1,7 @@
 -- Words of the functions that move: what they are given, and what they leave.
 use Prim.Native.Nat.{ℕ, _/_, _<_}
 use mathlib.Core.Path.{_≡_}
-use mathlib.Core.Bool.{Bool, true}
+use mathlib.Core.Bool.{true}
 use mathlib.Core.List.{List, []}
 use lib.Dec.{leb}
 use Rattle.laws.specs.Choice.{choose}

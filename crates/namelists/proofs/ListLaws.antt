@@ -20,7 +20,7 @@ use Rattle.spans.specs.declared.Span.{Span}
 use Rattle.spans.proofs.UnitLaws.{length-spanned, part-spanned}
 use Rattle.referral.specs.Replies.{isRead, readable, versionAt, fits, entryFlag, sizeAt}
 use Rattle.namelists.specs.NameLists.{bare, dcOf, domainOf, bytesPast, textsAt, dcNames, goodDcs, domainAt, goodDomain}
-use Rattle.referral.specs.Replies.{Reply, malformed, nothing, says}
+use Rattle.referral.specs.Replies.{Reply, malformed, nothing}
 use Rattle.referral.specs.Found.{inside, answered}
 use Rattle.namelists.specs.Found.{answerOf, denotedDcs, noDcs, Within}
 use Rattle.namelists.specs.declared.DcsFound.{DcsFound}

@@ -6,7 +6,7 @@ use mathlib.Core.Logic.{_⊎_, inl, inr}
 use Prim.Native.Nat.{ℕ, _+_, _*_, _/_, _%_, _≤_, _<_}
 use native.Mathlib.Numerals.{add-one}
 use native.Mathlib.Omega.{arith}
-use lib.ListN.{length, getD, drop, replicate, length-replicate, drop-of-length-le}
+use lib.ListN.{length, getD, drop, replicate, drop-of-length-le}
 use lib.Seq.{drop-cons}
 use lib.Dec.{eqb, leb}
 use borrow.Author.Tests.{eq-eqb, ne-eqb, le-leb, lt-leb}
@@ -17,8 +17,8 @@ use Rattle.laws.proofs.Choices.{choose-yes, choose-no}
 use Rattle.laws.proofs.Listed.{sameList-true, same-sameList}
 use Rattle.laws.proofs.Pasting.{pasted-whole}
 use Rattle.laws.proofs.Orders.{told}
-use Rattle.laws.proofs.Tests.{refuted, not-both}
-use Rattle.places.specs.Layout.{unitAt, wideAt, wideUnits, flagAt, flagUnit}
+use Rattle.laws.proofs.Tests.{refuted}
+use Rattle.places.specs.Layout.{wideAt, wideUnits, flagAt, flagUnit}
 use Rattle.steps.specs.Steps.{endNumber}
 use Rattle.steps.specs.declared.Kind.{Kind}
 use Rattle.steps.specs.declared.Kind.the-variants.{Dc, Root, Link, Sysvol, Io}
@@ -29,7 +29,6 @@ use Rattle.steps.specs.declared.Next.{Next}
 use Rattle.steps.specs.declared.Next.the-variants.{Asks, Ends}
 use Rattle.walks.specs.declared.Walk.{Walk}
 use Rattle.packing.specs.Packing.{kindNumber, askingUnits, nextUnits, walkUnits, packed, kindAt, endAt, askingAt, nextAt, walkAt, unpacked}
-use Rattle.packing.specs.declared.Unpacked.{Unpacked}
 use Rattle.packing.specs.declared.Unpacked.the-variants.{Held, NotOfForm}
 
 -- a flag as a unit

@@ -1,11 +1,11 @@
 -- A line lies in its text, and what has come of it is what the definitions say.
-use mathlib.Core.Path.{_≡_, refl, sym, ap, _∙_}
+use mathlib.Core.Path.{_≡_, sym, ap, _∙_}
 use mathlib.Core.Bool.{Bool, true, false}
 use mathlib.Core.List.{List, [], _∷_}
 use Prim.Native.Nat.{ℕ, suc, _+_, _-_, _≤_, _<_}
 use native.Mathlib.Omega.{arith}
 use lib.ListN.{length, take, drop, length-drop}
-use lib.Dec.{eqb, ltb}
+use lib.Dec.{eqb}
 use borrow.Author.Tests.{eq-eqb, ne-eqb, lt-ltb, le-ltb}
 use Rattle.laws.specs.Choice.{choose}
 use Rattle.laws.proofs.Choices.{choose-yes, choose-no}
@@ -14,7 +14,7 @@ use Rattle.hexes.specs.Held.{heldAfter, lineAfter}
 use Rattle.hexes.specs.declared.Held.{Held}
 use Rattle.script.specs.declared.Input.the-variants.{Part, Line, End}
 use Rattle.pieces.specs.declared.Came.{Came}
-use Rattle.pieces.specs.Pieces.{came, lastCame, lineIn, upTo, Arrived, arrived, arrives}
+use Rattle.pieces.specs.Pieces.{came, lastCame, lineIn, upTo, arrived, arrives}
 
 either : (t : Bool) {m n : ℕ} → m ≤ n → choose t 0 (suc m) ≤ suc n
 unfolding choose

@@ -1,9 +1,8 @@
 -- Laws of writers: two, three or four pieces that make a text, put one after another.
-use mathlib.Core.Path.{_≡_, refl, sym, ap, _∙_}
-use mathlib.Core.List.{List, [], _∷_, _++_, append-nil}
-use Prim.Native.Nat.{ℕ, _+_, _≤_, _<_}
-use native.Mathlib.Omega.{arith}
-use lib.ListN.{length, length-append}
+use mathlib.Core.Path.{_≡_, refl, sym}
+use mathlib.Core.List.{List, [], _++_, append-nil}
+use Prim.Native.Nat.{ℕ, _+_, _≤_}
+use lib.ListN.{length}
 use Rattle.laws.specs.Lists.{pasted}
 use Rattle.spelling.specs.Spelling.{Put}
 use Rattle.spelling.proofs.PutLaws.{Left, left-start, left-next, left-done}

@@ -1,23 +1,22 @@
 -- Laws of what is printed: the pieces of a line, of a question and of an end, and how many bytes they have at most.
 use mathlib.Core.Path.{_≡_, refl, sym, ap, _∙_}
 use mathlib.Core.List.{List, [], _∷_, _++_, append-assoc, append-nil}
-use Prim.Native.Nat.{ℕ, zero, suc, _+_, _*_, _/_, _%_, _≤_, _<_}
+use Prim.Native.Nat.{ℕ, zero, suc, _+_, _/_, _%_, _≤_}
 use native.Mathlib.Omega.{arith}
 use lib.ListN.{length, length-append}
 use Rattle.laws.specs.Choice.{choose}
-use Rattle.laws.specs.Lists.{pasted}
 use Rattle.laws.proofs.Pasting.{pasted-nil}
 use Rattle.spelling.specs.Spelling.{hexUnits, spelled, decimal, Put}
 use Rattle.spelling.proofs.SpellingLaws.{length-hex, length-spelled}
 use Rattle.spelling.proofs.DecimalLaws.{length-decimal}
 use Rattle.listing.specs.Form.{pathLine, numberLine, ended, linesText}
-use Rattle.listing.proofs.FormLaws.{length-path, length-number, length-ended}
+use Rattle.listing.proofs.FormLaws.{length-path, length-number}
 use Rattle.listing.proofs.EntryLaws.{put-same}
 use Rattle.steps.specs.declared.Kind.{Kind}
 use Rattle.steps.specs.declared.Kind.the-variants.{Dc, Root, Link, Sysvol, Io}
 use Rattle.packing.specs.Packing.{kindNumber, kindAt}
 use Rattle.packing.proofs.PackLaws.{kind-dc, kind-root, kind-link, kind-sysvol, kind-io}
-use Rattle.printing.specs.Printed.{askKey, toKey, nameKey, sizeKey, endKey, statusKey, pathKey, movesKey, refusedKey, askWord, askLine, statusLine, sizeLines, questionLines, endLines, refusedLine}
+use Rattle.printing.specs.Printed.{toKey, nameKey, sizeKey, endKey, statusKey, pathKey, movesKey, refusedKey, askWord, askLine, statusLine, sizeLines, questionLines, endLines, refusedLine}
 
 -- the pieces of a line
 pub path-parts : (key s : List ℕ) → ended (pathLine key s) ≡ key ++ (spelled s ++ (10 ∷ []))

@@ -8,7 +8,7 @@ use lib.Dec.{leb}
 use Rattle.unc.specs.Paths.{firstOf}
 use Rattle.referral.specs.Request.{request}
 use Rattle.referral.specs.Found.{bufferWith}
-use Rattle.steps.specs.Steps.{Core, Question, Rest, waits, ended, Resting, nameAsked}
+use Rattle.steps.specs.Steps.{Core, Rest, waits, ended, Resting, nameAsked}
 use Rattle.steps.specs.declared.Kind.{Kind}
 use Rattle.steps.specs.declared.Kind.the-variants.{Dc, Root, Link, Sysvol, Io}
 use Rattle.steps.specs.declared.Next.{Next}

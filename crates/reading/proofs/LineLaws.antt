@@ -1,20 +1,20 @@
 -- Laws of lines: a text of lines is cut into them again.
 use mathlib.Core.Path.{_≡_, refl, sym, ap, _∙_}
-use mathlib.Core.Bool.{Bool, true, false, _&&_, not}
-use mathlib.Core.List.{List, [], _∷_, _++_, map, append-assoc}
+use mathlib.Core.Bool.{Bool, true, false, not}
+use mathlib.Core.List.{List, [], _∷_, _++_, map}
 use mathlib.Core.Logic.{_⊎_, inl, inr}
 use Prim.Native.Nat.{ℕ, zero, suc, _+_, _/_, _%_, _≤_, _<_}
 use native.Mathlib.Omega.{arith}
-use lib.ListN.{length, getD}
-use lib.Dec.{leb, ltb, eqb}
-use borrow.Author.Tests.{leb-true, le-leb, lt-leb, ne-eqb, eqb-true, not-true}
+use lib.ListN.{getD}
+use lib.Dec.{leb, eqb}
+use borrow.Author.Tests.{leb-true, le-leb, lt-leb, ne-eqb, not-true}
 use Rattle.laws.specs.Choice.{choose}
 use Rattle.laws.specs.Lists.{every}
 use Rattle.laws.proofs.Choices.{choose-yes, choose-no, and-both, and-left, and-right, eqb-refl}
 use Rattle.laws.proofs.Every.{every-append}
 use Rattle.laws.proofs.Orders.{told, lt-or-le}
 use Rattle.places.specs.Layout.{flagUnit}
-use Rattle.caches.specs.Entries.{Target, Referral, Place, free, used}
+use Rattle.caches.specs.Entries.{Target, Referral, used}
 use Rattle.spelling.specs.Spelling.{stands, digitUnit, hexUnits, spelledUnit, spelled, decimalIn, decimal}
 use Rattle.spelling.proofs.SpellingLaws.{unit-stands, unit-escaped}
 use Rattle.spelling.proofs.DecimalLaws.{in-low, in-high}

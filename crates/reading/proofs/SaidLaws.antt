@@ -1,11 +1,10 @@
 -- Laws of what lines say: the entries that were listed.
 use mathlib.Core.Path.{_≡_, refl, sym, ap, _∙_}
-use mathlib.Core.Bool.{Bool, true, false, true≢false, _&&_, not}
-use mathlib.Core.List.{List, [], _∷_, _++_, map}
-use Prim.Native.Nat.{ℕ, _≤_, _<_}
+use mathlib.Core.Bool.{Bool, true, false, not}
+use mathlib.Core.List.{List, [], _∷_, map}
+use Prim.Native.Nat.{ℕ, _<_}
 use native.Mathlib.Omega.{arith}
-use lib.ListN.{length, getD, drop}
-use lib.Dec.{leb, ltb, eqb}
+use lib.Dec.{eqb}
 use borrow.Author.Tests.{ltb-true, lt-ltb, not-true}
 use Rattle.laws.specs.Choice.{choose}
 use Rattle.laws.specs.Lists.{every}
@@ -13,11 +12,11 @@ use Rattle.laws.specs.Listed.{sameList}
 use Rattle.laws.proofs.Choices.{and-both, and-left, and-right}
 use Rattle.laws.proofs.Listed.{sameList-true, same-sameList}
 use Rattle.places.specs.Layout.{flagUnit}
-use Rattle.caches.specs.Entries.{Target, Referral, Place, free, used}
+use Rattle.caches.specs.Entries.{Target, Referral, used}
 use Rattle.caches.specs.Order.{goodReferral, distinct}
-use Rattle.caches.proofs.KindLaws.{GoodReferral, referral-told}
+use Rattle.caches.proofs.KindLaws.{referral-told}
 use Rattle.spelling.specs.Spelling.{spelled, decimalIn, decimal}
-use Rattle.listing.specs.Form.{prefixKey, kindKey, interlinkKey, failbackKey, ttlKey, takenKey, hintKey, targetKey, kindWord, pathLine, numberLine, targetLines, settingLines, countLines, entryLines, listing}
+use Rattle.listing.specs.Form.{kindWord, pathLine, numberLine, targetLines, settingLines, countLines, entryLines, listing}
 use Rattle.unspelling.specs.Reading.{unit, unspelled, decimalOf, valueFrom}
 use Rattle.unspelling.proofs.UnspelledLaws.{unspelled-spelled}
 use Rattle.unspelling.proofs.NumberLaws.{decimal-says}

@@ -1,32 +1,32 @@
 -- Document 01: "Text read and listed again is the same text; a cache with one set each and no gap before an entry comes back the same".
 use mathlib.Core.Path.{_≡_, refl, sym, ap, subst, _∙_}
-use mathlib.Core.Bool.{Bool, true, false, true≢false, _&&_, not}
+use mathlib.Core.Bool.{true, false, true≢false, not}
 use mathlib.Core.List.{List, [], _∷_, _++_, map}
 use mathlib.Core.Logic.{_⊎_, inl, inr}
-use Prim.Native.Nat.{ℕ, zero, suc, _+_, _-_, _*_, _≤_, _<_, min}
+use Prim.Native.Nat.{ℕ, zero, suc, _+_, _-_, _*_, _≤_, _<_}
 use native.Mathlib.Omega.{arith}
-use lib.ListN.{length, getD, take, drop, replicate, List·getD-eq-default}
-use lib.Dec.{leb, ltb, eqb}
-use borrow.Author.Tests.{leb-true, le-leb, ltb-true, lt-ltb, eq-eqb}
+use lib.ListN.{length, getD, drop, replicate, List·getD-eq-default}
+use lib.Dec.{leb, eqb}
+use borrow.Author.Tests.{leb-true, le-leb, ltb-true, eq-eqb}
 use Rattle.laws.specs.Choice.{choose}
 use Rattle.laws.specs.Lists.{every, part}
-use Rattle.laws.specs.Listed.{listed, sameList}
+use Rattle.laws.specs.Listed.{listed}
 use Rattle.laws.proofs.Choices.{choose-yes, choose-no, and-both, and-left, and-right}
 use Rattle.laws.proofs.Every.{every-append, every-at, every-drop, every-take}
-use Rattle.laws.proofs.Listed.{listed-every, every-listed}
+use Rattle.laws.proofs.Listed.{listed-every}
 use Rattle.laws.proofs.Orders.{told, lt-or-le}
 use Rattle.places.specs.Layout.{placeCount, placeAt, textAt, roomAt, wideAt, unitAt, listCount}
-use Rattle.caches.specs.Entries.{Target, Referral, Place, free, used}
+use Rattle.caches.specs.Entries.{Referral, Place, free, used}
 use Rattle.caches.specs.Order.{goodReferral, distinct}
 use Rattle.caches.specs.Memory.{referrals, referralOf, targetOf, rightSize, decode, encode, inOrder, placeOf, goodPlace, keys}
-use Rattle.caches.proofs.MemoryLaws.{RightSize, size-told, size-right, cache-told, order-good, encode-decode, length-decode, place-free, place-used, decode-encode, in-order-parts}
+use Rattle.caches.proofs.MemoryLaws.{cache-told, order-good, encode-decode, length-decode, decode-encode, in-order-parts}
 use Rattle.caches.proofs.KindLaws.{referrals-lawful}
 use Rattle.listing.specs.Form.{entryText, listing}
 use Rattle.listing.specs.Listed.{textOf}
 use Rattle.unspelling.specs.Reading.{unit}
 use Rattle.reading.specs.Entries.{entriesSaid}
-use Rattle.reading.specs.Read.{number, oneSet, listable, listables, isListing, placed, readNumber, readAfter, entriesIn, allFree, noGaps, plainCache}
-use Rattle.reading.proofs.SaidLaws.{Listable, listable-told, told-listable, Said, listing-sound, listing-complete, said-same}
+use Rattle.reading.specs.Read.{oneSet, listable, isListing, placed, readNumber, readAfter, entriesIn, allFree, noGaps, plainCache}
+use Rattle.reading.proofs.SaidLaws.{listable-told, told-listable, Said, listing-sound, listing-complete, said-same}
 
 -- what a number 0 says
 pub record Accepted (text raw : List ℕ) : Type 0 where

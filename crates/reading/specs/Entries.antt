@@ -1,11 +1,10 @@
 -- What a text says, line by line, whatever it is. Whether it is a listing is another matter: only a text that these entries list is read.
 use Prim.Native.Nat.{ℕ}
-use mathlib.Core.Bool.{Bool, true, false, _&&_, not}
+use mathlib.Core.Bool.{Bool, true, false}
 use mathlib.Core.List.{List, [], _∷_, map}
-use lib.ListN.{length, getD, drop}
-use lib.Dec.{eqb, ltb}
+use lib.ListN.{getD, drop}
+use lib.Dec.{eqb}
 use Rattle.laws.specs.Choice.{choose}
-use Rattle.laws.specs.Lists.{every}
 use Rattle.laws.specs.Listed.{sameList}
 use Rattle.caches.specs.Entries.{Target, Referral}
 use Rattle.listing.specs.Form.{kindWord}

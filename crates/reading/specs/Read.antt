@@ -8,7 +8,7 @@ use Rattle.laws.specs.Choice.{choose}
 use Rattle.laws.specs.Lists.{every}
 use Rattle.laws.specs.Listed.{sameList}
 use Rattle.places.specs.Layout.{placeCount}
-use Rattle.caches.specs.Entries.{Target, Referral, Place, free, used}
+use Rattle.caches.specs.Entries.{Referral, Place, free, used}
 use Rattle.caches.specs.Order.{goodReferral, distinct}
 use Rattle.caches.specs.Memory.{referrals, rightSize, decode, encode, inOrder}
 use Rattle.listing.specs.Form.{listing}

@@ -1,5 +1,5 @@
 -- Laws of a start, by its tests.
-use mathlib.Core.Path.{_≡_, refl, sym, ap, _∙_, subst}
+use mathlib.Core.Path.{_≡_, sym, ap, _∙_, subst}
 use mathlib.Core.Bool.{Bool, true, false, _&&_}
 use mathlib.Core.List.{List, [], _++_}
 use mathlib.Core.Logic.{_⊎_, inl, inr}
@@ -12,7 +12,7 @@ use borrow.Author.Tests.{le-leb, leb-true}
 use Rattle.laws.specs.Lists.{roomed}
 use Rattle.laws.proofs.Choices.{choose-yes, choose-no, and-yes-left, and-no-left}
 use Rattle.laws.proofs.Orders.{told}
-use Rattle.unc.specs.Paths.{goodPath, normalised, isNormalised, componentCount, formWithin, roomAfter, pathUnits, body, pieces}
+use Rattle.unc.specs.Paths.{goodPath, normalised, isNormalised, componentCount, formWithin, roomAfter, pathUnits, body}
 use Rattle.unc.specs.declared.Form.{Form}
 use Rattle.unc.specs.declared.Form.the-variants.{Bad, Long, Good}
 use Rattle.unc.proofs.FormLaws.{count-normalised}

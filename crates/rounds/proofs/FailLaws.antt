@@ -6,10 +6,9 @@ use Prim.Native.Nat.{ℕ, _*_, _<_, min}
 use lib.ListN.{length, take}
 use lib.Dec.{eqb, ltb}
 use borrow.Author.Tests.{eq-eqb, ne-eqb, ltb-true}
-use Rattle.laws.specs.Choice.{choose}
 use Rattle.laws.proofs.Choices.{choose-yes, choose-no, and-right}
 use Rattle.unc.specs.Paths.{firstOf}
-use Rattle.steps.specs.Steps.{Caches, Core, Question, Called, ends, asks, rests, ended, asking, nextPlace, onward, partyCount, domainInUse, referralInUse, step6, linkRequest, doubled, failedHost, failed, referralFails, bufferOverflow, pathNotFound, mostSize}
+use Rattle.steps.specs.Steps.{Caches, Core, Question, Called, ends, asks, rests, ended, nextPlace, onward, partyCount, domainInUse, referralInUse, step6, linkRequest, doubled, failedHost, failed, referralFails, bufferOverflow, pathNotFound, mostSize}
 use Rattle.steps.specs.Rested.{cachesOf, askingOf, nextOf, triedOf, restedOf, endedAt, askedAt}
 use Rattle.steps.specs.declared.Kind.{Kind}
 use Rattle.steps.specs.declared.Kind.the-variants.{Dc, Root, Link, Sysvol, Io}

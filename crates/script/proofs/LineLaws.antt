@@ -1,16 +1,14 @@
 -- Laws of the lines of `walk`'s input.
-use mathlib.Core.Path.{_≡_, refl, sym, ap, _∙_}
-use mathlib.Core.Bool.{Bool, true, false, _&&_, not}
-use mathlib.Core.List.{List, [], _∷_, _++_}
-use mathlib.Core.Logic.{_⊎_, inl, inr}
-use Prim.Native.Nat.{ℕ, _+_, _-_, _≤_, _<_}
+use mathlib.Core.Path.{_≡_, sym, ap, _∙_}
+use mathlib.Core.Bool.{Bool, true, false, not}
+use mathlib.Core.List.{List}
+use Prim.Native.Nat.{ℕ, _-_, _≤_, _<_}
 use native.Mathlib.Omega.{arith}
-use lib.ListN.{length, take, drop, length-drop}
-use lib.Dec.{eqb, leb}
+use lib.ListN.{length, take, length-drop}
+use lib.Dec.{eqb}
 use borrow.Author.Tests.{eq-eqb, ne-eqb, le-leb, lt-leb}
-use Rattle.laws.specs.Choice.{choose}
 use Rattle.laws.specs.Lists.{every, pasted}
-use Rattle.laws.proofs.Choices.{choose-yes, choose-no, and-both, and-left, and-right, and-no-left, and-no-right, and-yes-left}
+use Rattle.laws.proofs.Choices.{choose-yes, choose-no, and-both, and-right, and-no-left, and-no-right, and-yes-left}
 use Rattle.laws.proofs.Tests.{refuted}
 use Rattle.unspelling.specs.Reading.{unspelled, isSpelled, spelledForm}
 use Rattle.unspelling.specs.declared.Spelled.{Spelled}
@@ -18,15 +16,14 @@ use Rattle.unspelling.specs.declared.Spelled.the-variants.{Bad, Units}
 use Rattle.unspelling.specs.declared.Number.{Number}
 use Rattle.unspelling.specs.declared.Number.the-variants.{None, Value}
 use Rattle.lines.specs.Lines.{valueOf, hasKey}
-use Rattle.lines.proofs.LineLaws.{spelled-good, key-fits}
+use Rattle.lines.proofs.LineLaws.{key-fits}
 use Rattle.hexes.specs.Hexes.{isHex, hexNumber, bytesOf}
 use Rattle.hexes.specs.declared.Rest.{Rest}
 use Rattle.script.specs.Script.{replyKey, statusKey, after, isText, textSaid, TextRead, textRead, textTaken, Taken, taken, textOrOther, orOther}
 use Rattle.script.specs.Script.{statusSaid, isStatus, isReply, wholeBytes, takesReply, withReply, Read, read, WholeRead, wholeRead, takesAfter, isWhole, takes, goesOn, takesOn, lineDue}
-use Rattle.script.specs.declared.Due.{Due}
 use Rattle.script.specs.declared.Due.the-variants as due
 use Rattle.script.specs.declared.Last.{Last}
-use Rattle.script.specs.declared.Last.the-variants.{Status, Reply, Other}
+use Rattle.script.specs.declared.Last.the-variants.{Reply, Other}
 use Rattle.script.specs.declared.Script.{Script}
 
 -- a spelled text

@@ -3,12 +3,12 @@ use mathlib.Core.Path.{_≡_, refl, sym, ap, _∙_}
 use mathlib.Core.Bool.{Bool, true, false, _&&_}
 use mathlib.Core.List.{List, [], _∷_, _++_, append-nil}
 use mathlib.Core.Logic.{_⊎_, inl, inr}
-use Prim.Native.Nat.{ℕ, zero, suc, _+_, _-_, _*_, _%_, _≤_, _<_, min}
+use Prim.Native.Nat.{ℕ, zero, suc, _+_, _-_, _%_, _≤_, _<_, min}
 use native.Mathlib.Nat.{add-zero, add-suc}
 use native.Mathlib.Omega.{arith}
 use lib.ListN.{length, take, drop, getD, length-take, length-append, length-drop, drop-of-length-le, take-append-drop}
 use lib.Seq.{take-all, drop-append-le, drop-cons}
-use lib.Dec.{eqb, leb}
+use lib.Dec.{eqb}
 use borrow.Author.Tests.{eq-eqb, eqb-true, le-leb, lt-leb}
 use Rattle.laws.specs.Choice.{choose}
 use Rattle.laws.specs.Lists.{every, pasted, part}
@@ -24,7 +24,7 @@ use Rattle.hexes.specs.Hexes.{isHex, hexNumber, bytesOf}
 use Rattle.hexes.specs.Held.{oneMore, nextRest, restFrom}
 use Rattle.hexes.specs.declared.Rest.{Rest}
 use Rattle.hexes.specs.declared.Rest.the-variants.{None, Even, Odd, Other}
-use Rattle.script.specs.Script.{replyKey, after, withReply, Taken, taken, isStatus, isReply, wholeBytes, takesReply, Read, read, takesAfter, isWhole, takes, lineTaken}
+use Rattle.script.specs.Script.{replyKey, after, withReply, Taken, taken, isStatus, isReply, wholeBytes, takesReply, read, takesAfter, isWhole, takes, lineTaken}
 use Rattle.script.specs.declared.Last.the-variants as last
 use Rattle.script.specs.declared.Script.{Script}
 

@@ -7,13 +7,12 @@ use mathlib.Core.Option.{Option, none, some}
 use Prim.Native.Nat.{ℕ, _+_, _-_, _/_, _≤_, _<_}
 use native.Mathlib.Omega.{arith}
 use lib.ListN.{length, getD, take, drop, set, length-take, length-drop}
-use lib.Seq.{length-take-le, take-all}
-use lib.Dec.{eqb, ltb, leb}
+use lib.Seq.{take-all}
+use lib.Dec.{eqb, leb}
 use borrow.Author.Tests.{eq-eqb, ne-eqb, ltb-true, le-leb, lt-leb}
 use Rattle.laws.specs.Choice.{choose}
 use Rattle.laws.specs.Lists.{pasted, part}
-use Rattle.laws.proofs.Choices.{choose-yes, choose-no, and-left, and-right}
-use Rattle.laws.proofs.Pasting.{set-pasted, pasted-more}
+use Rattle.laws.proofs.Choices.{choose-yes, choose-no, and-left}
 use Rattle.unc.specs.Paths.{components, firstOf}
 use Rattle.unc.proofs.PieceLaws.{spans}
 use Rattle.places.specs.Layout.{placeAt, textAt, roomAt}
@@ -25,7 +24,7 @@ use Rattle.lookup.specs.Lookup.{withKey, entryAt, targetPath, dcName}
 use Rattle.lookup.specs.declared.Found.{Found}
 use Rattle.lookup.specs.declared.Found.the-variants.{At, Nothing}
 use Rattle.lookup.proofs.EntryLaws.{read-target, read-dc}
-use Rattle.storing.specs.Stored.{held, prefixed}
+use Rattle.storing.specs.Stored.{prefixed}
 use Rattle.steps.specs.Steps.{Caches, Core, Question, Rest, waits, ended, domainNamed, domainInUse, referralInUse, inUse, nameAsked, endNumber}
 use Rattle.steps.specs.Rested.{cachesOf, coreOf}
 use Rattle.steps.specs.declared.Kind.{Kind}
@@ -43,7 +42,7 @@ use Rattle.rounds.specs.Rounds.{questionOf, dcsNamed, targetsUnder, inRound}
 use Rattle.rounds.proofs.RoundLaws.{place-named, dcs-fit, dcs-held, targets-fit, targets-held, in-use-same, in-use-root, in-use-sysvol, in-use-link, in-use-io}
 use Rattle.walks.specs.Walks.{inForm, nextInForm, pathIn, triedIn, bootIn}
 use Rattle.walks.specs.declared.Walk.{Walk}
-use Rattle.walks.proofs.FormLaws.{Formed, form-told, Waiting, waiting-told, Prefixed, link-named, io-named, dc-named, sysvol-named, root-named}
+use Rattle.walks.proofs.FormLaws.{Formed, form-told, Waiting, waiting-told, link-named, io-named, dc-named, sysvol-named, root-named}
 use Rattle.packing.specs.Packing.{kindNumber}
 use Rattle.turns.specs.Turns.{coreIn}
 use Rattle.resolve.specs.Calls.{restIn, restAt}

@@ -1,21 +1,20 @@
 -- Laws of spelled texts.
 use mathlib.Core.Path.{_≡_, refl, sym, ap, _∙_}
-use mathlib.Core.Bool.{Bool, true, false, _&&_, not}
+use mathlib.Core.Bool.{true, false, _&&_, not}
 use mathlib.Core.List.{List, [], _∷_, _++_}
 use mathlib.Core.Logic.{_⊎_, inl, inr}
 use Rattle.laws.proofs.Orders.{told, lt-or-le}
-use Prim.Native.Nat.{ℕ, suc, _+_, _*_, _/_, _%_, _≤_, _<_}
+use Prim.Native.Nat.{ℕ, _+_, _*_, _/_, _%_, _≤_, _<_}
 use native.Mathlib.Numerals.{add-one}
 use native.Mathlib.Omega.{arith}
 use lib.ListN.{length, getD, drop, length-append, drop-of-length-le}
 use lib.Seq.{drop-cons}
 use lib.Dec.{leb, ltb, eqb}
-use borrow.Author.Tests.{leb-true, leb-false, eqb-true, eqb-false, ltb-true, ltb-false, le-leb, lt-leb, eq-eqb, ne-eqb, lt-ltb, le-ltb}
+use borrow.Author.Tests.{ltb-true, ltb-false, le-leb, lt-leb, eq-eqb, ne-eqb}
 use Rattle.laws.specs.Lists.{pasted}
-use Rattle.laws.proofs.Choices.{choose-yes, choose-no, and-both, and-left, and-right, and-no-left, and-no-right}
-use Rattle.laws.proofs.Pasting.{pasted-nil}
+use Rattle.laws.proofs.Choices.{choose-yes, choose-no, and-both, and-no-left, and-no-right}
 use Rattle.spelling.specs.Spelling.{tilde, stands, digitUnit, hexUnits, spelledUnit, spelled, Put}
-use Rattle.spelling.proofs.PutLaws.{Left, left-start, left-next, left-done, put-then, put-piece}
+use Rattle.spelling.proofs.PutLaws.{put-then, put-piece}
 
 pub stands-low : (u : ℕ) → u < 33 → stands u ≡ false
 unfolding stands

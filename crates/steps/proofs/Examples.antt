@@ -1,16 +1,16 @@
 -- Document 01, "Examples to hold it to": those of the steps.
 use mathlib.Core.Path.{_≡_, refl}
-use mathlib.Core.Bool.{Bool, true, false}
+use mathlib.Core.Bool.{true, false}
 use mathlib.Core.List.{List, [], _∷_}
 use Prim.Native.Nat.{ℕ}
 use Rattle.laws.specs.Choice.{choose}
 use Rattle.unc.specs.Names.{folded, sameUnit, sameName}
-use Rattle.unc.specs.Paths.{before, pieces, joined, components, componentCount, firstOf, begins, matches, isSysvol, replaced, pathUnits}
-use Rattle.caches.specs.Entries.{Target, Referral, Domain, Place, free, used}
+use Rattle.unc.specs.Paths.{before, pieces, components, componentCount, begins, matches, isSysvol, replaced}
+use Rattle.caches.specs.Entries.{free, used}
 use Rattle.caches.specs.Memory.{referrals, domains}
-use Rattle.lookup.specs.Lookup.{longerMatch, prefixUnits, longestFrom, longestMatch, hasKey, withKeyFrom, withKey, age, expired, targetPath}
-use Rattle.storing.specs.Stored.{heldAt, held, prefixed}
-use Rattle.steps.specs.Steps.{Caches, Core, Question, Called, ends, asks, replaces, Turn, Resting, Rest, waits, ended, started, fromStep2, withHit, withPath, goes, step2, step2With, step3, step4, step5, step5With, step6Host, step7, step8, step11, longest, domainNamed, hitAt, isThere, failedHost, failed, referralFails, inUse, severity, rests, asking}
+use Rattle.lookup.specs.Lookup.{longerMatch, prefixUnits, longestFrom, longestMatch, age, expired, targetPath}
+use Rattle.storing.specs.Stored.{heldAt, held}
+use Rattle.steps.specs.Steps.{Caches, Core, Turn, Resting, ended, started, fromStep2, withHit, withPath, goes, step2, step2With, step4, step7, step11, longest, hitAt, isThere, rests, asking}
 use Rattle.steps.specs.declared.End.the-variants.{NotDfs, LimitReached}
 
 -- \a\b, and \a\b\c

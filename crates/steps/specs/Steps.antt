@@ -8,11 +8,11 @@ use Prim.Native.Nat.{ℕ, zero, suc, _+_, _*_, _/_, min}
 use mathlib.Core.Bool.{Bool, true, false, _&&_, _||_, not}
 use mathlib.Core.List.{List, [], _∷_}
 use mathlib.Core.Option.{Option, none, some}
-use lib.ListN.{length, getD, take, drop}
+use lib.ListN.{length, getD, take}
 use lib.Dec.{leb, ltb, eqb}
 use Rattle.laws.specs.Choice.{choose}
 use Rattle.unc.specs.Paths.{components, componentCount, firstOf, isSysvol, replaced, pathUnits}
-use Rattle.caches.specs.Entries.{Target, Referral, Domain, Place, free, used}
+use Rattle.caches.specs.Entries.{Referral, Domain, Place}
 use Rattle.caches.specs.Memory.{referrals, domains}
 use Rattle.lookup.specs.Lookup.{longestMatch, withKey, expired, targetPath, targetHinted, dcHinted}
 use Rattle.lookup.specs.declared.Found.{Found}

@@ -6,7 +6,6 @@ use mathlib.Core.Option.{Option, none, some}
 use Prim.Native.Nat.{ℕ, _/_, _≤_, _<_}
 use lib.ListN.{length, getD, take, set}
 use lib.Seq.{getD-set-same}
-use Rattle.laws.specs.Choice.{choose}
 use Rattle.laws.specs.Lists.{every}
 use Rattle.laws.proofs.Choices.{choose-yes, choose-no}
 use Rattle.laws.proofs.Listed.{every-set}
@@ -29,7 +28,7 @@ use Rattle.storing.specs.Stored.{fresh, refreshed, held, prefixed, storePlace, 
 use Rattle.storing.specs.Writing.{Storable}
 use Rattle.storing.proofs.StoreLaws.{fresh-good}
 use Rattle.storing.proofs.StoredLaws.{refreshed-good, place-found, place-new, new-fits, held-there, store-in-order}
-use Rattle.steps.specs.Steps.{asks, asking, goes, step3, step8}
+use Rattle.steps.specs.Steps.{asking, goes, step3, step8}
 use Rattle.steps.specs.Rested.{cachesOf, coreOf}
 use Rattle.steps.specs.declared.Rested.{Rested}
 use Rattle.steps.proofs.HeldLaws.{none-held, key-held, key-fits, used-fits, used-is}

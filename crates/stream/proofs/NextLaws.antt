@@ -1,6 +1,6 @@
 -- The next piece: the same where bytes are left or the input has ended, else one that is read.
 use mathlib.Core.Path.{_≡_, refl, sym, ap, _∙_}
-use mathlib.Core.Bool.{Bool, true, false, _&&_, not, true≢false}
+use mathlib.Core.Bool.{Bool, true, false, not, true≢false}
 use mathlib.Core.List.{List}
 use Prim.Native.Nat.{ℕ, _≤_, _<_}
 use native.Mathlib.Omega.{arith}
@@ -8,7 +8,6 @@ use lib.ListN.{length}
 use lib.Dec.{leb}
 use borrow.Author.Tests.{le-leb, leb-true}
 use Rattle.laws.proofs.Choices.{and-left, and-right, and-both}
-use Rattle.stream.specs.declared.Piece.{Piece}
 use Rattle.stream.specs.Stream.{usedUp, Next}
 
 module _ (n at : ℕ) {ended : Bool} (before : List ℕ) where

@@ -1,5 +1,4 @@
 -- A call that is taken leaves caches, a walk and an entry in use of which just one outcome is printed.
-use mathlib.Core.Path.{_≡_}
 use mathlib.Core.List.{List}
 use Prim.Native.Nat.{ℕ}
 use Rattle.walks.specs.declared.Walk.{Walk}

@@ -30,7 +30,7 @@ use Rattle.lookup.proofs.LookupLaws.{KeyAt, key-found}
 use Rattle.lookup.proofs.StoreLaws.{entry-good}
 use Rattle.lookup.proofs.EntryLaws.{target-hint-order}
 use Rattle.storing.specs.Stored.{prefixed}
-use Rattle.steps.specs.Steps.{Caches, Core, Question, Called, stops, ends, asks, Turn, Rest, waits, ended, rests, asking, goes, inUse, referralInUse, hintSet, targetHintSet, withReferrals, nextPlace, onward, step8, linkRequest, severity, isOneOf, nextTargetStatuses, pathNotCovered, ioFails, ioWith, ioAnswered}
+use Rattle.steps.specs.Steps.{Caches, Core, Question, Called, stops, ends, asks, Turn, ended, rests, asking, goes, inUse, referralInUse, hintSet, targetHintSet, withReferrals, nextPlace, onward, step8, linkRequest, severity, isOneOf, nextTargetStatuses, pathNotCovered, ioFails, ioWith, ioAnswered}
 use Rattle.steps.specs.Rested.{cachesOf, coreOf, askingOf, nextOf, triedOf, restedOf, endedAt, askedAt}
 use Rattle.steps.specs.declared.Kind.{Kind}
 use Rattle.steps.specs.declared.Kind.the-variants.{Link, Io}
@@ -45,7 +45,7 @@ use Rattle.moves.proofs.MoveLaws.{standing-path, packed-end, packed-asked, trie
 use Rattle.rounds.specs.Rounds.{questionOf, restsAt, targetsUnder, inRound}
 use Rattle.rounds.proofs.RoundLaws.{round-past, round-on, targets-gone, targets-held, in-use-same, in-use-io}
 use Rattle.rounds.proofs.FailLaws.{onward-end, onward-next}
-use Rattle.rounds.proofs.QuietLaws.{Quiet, still, put, quiet-goes, quiet-io}
+use Rattle.rounds.proofs.QuietLaws.{Quiet, still, quiet-goes, quiet-io}
 use Rattle.tries.specs.Tries.{triedIn, Trying, Failing, withParties, placeInUse, notCovered, nextTarget, restOf, withDoms}
 
 -- the place of the entry in use

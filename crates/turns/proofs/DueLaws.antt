@@ -2,8 +2,8 @@
 use mathlib.Core.Path.{_≡_, refl, sym, ap, _∙_}
 use mathlib.Core.Bool.{Bool, true, false}
 use mathlib.Core.List.{List, []}
-use mathlib.Core.Logic.{_⊎_, inl, inr}
-use Prim.Native.Nat.{ℕ, _+_, _-_, _≤_}
+use mathlib.Core.Logic.{inl, inr}
+use Prim.Native.Nat.{ℕ, _-_, _≤_}
 use native.Mathlib.Omega.{arith}
 use lib.ListN.{length, take, drop}
 use lib.Seq.{length-take-le, drop-at}
@@ -12,7 +12,7 @@ use Rattle.laws.proofs.Tests.{not-both}
 use Rattle.laws.proofs.Pasting.{pasted-whole, length-roomed, take-roomed}
 use Rattle.unc.specs.Paths.{firstOf, matches}
 use Rattle.unc.proofs.PieceLaws.{spans}
-use Rattle.texts.specs.Texts.{textsOf, Standing}
+use Rattle.texts.specs.Texts.{textsOf}
 use Rattle.texts.proofs.TextLaws.{path-in}
 use Rattle.caches.specs.Order.{goodPrefix}
 use Rattle.caches.specs.Memory.{referrals, domains, encode, inOrder}

@@ -1,18 +1,17 @@
 -- What the events of an answer keep: the path and the size of the walk, and the caches where an I/O answer brings a request.
-use mathlib.Core.Path.{_≡_, refl, sym, ap, _∙_, subst}
+use mathlib.Core.Path.{_≡_, refl, sym, _∙_, subst}
 use mathlib.Core.Bool.{Bool, true, false}
 use mathlib.Core.List.{List}
 use mathlib.Core.Logic.{_⊎_, inl, inr}
 use mathlib.Core.Option.{Option, none, some}
 use Prim.Native.Nat.{ℕ, _≤_}
 use lib.ListN.{length}
-use lib.Dec.{eqb, leb}
+use lib.Dec.{eqb}
 use Rattle.laws.specs.Choice.{choose}
 use Rattle.caches.specs.Entries.{Referral}
 use Rattle.referral.specs.Replies as replies
-use Rattle.referral.specs.Replies.{malformed, nothing, says, readReferral}
-use Rattle.namelists.specs.NameLists.{readDcs}
-use Rattle.steps.specs.Steps.{Caches, Core, Question, Called, Turn, turned, goes, withHit, dcAnswer, referralAnswer, storedTurn, referralSucceeds, referralAnswered, ioWith, ioAnswered, nameAsked}
+use Rattle.referral.specs.Replies.{malformed, nothing, says}
+use Rattle.steps.specs.Steps.{Caches, Core, Question, Called, Turn, turned, goes, withHit, dcAnswer, referralAnswer, storedTurn, referralSucceeds, referralAnswered, ioWith, ioAnswered}
 use Rattle.steps.specs.declared.Kind.{Kind}
 use Rattle.steps.specs.declared.Kind.the-variants.{Dc, Root, Link, Sysvol, Io}
 use Rattle.rounds.specs.Rounds.{restsAt}

@@ -1,18 +1,17 @@
 -- Laws of hex digits and escapes.
 use mathlib.Core.Path.{_≡_, refl, sym, ap, _∙_}
-use mathlib.Core.Bool.{Bool, true, false, true≢false, _&&_, _||_, not}
+use mathlib.Core.Bool.{Bool, true, false, true≢false, _&&_, not}
 use mathlib.Core.List.{List, [], _∷_, _++_}
 use mathlib.Core.Logic.{_⊎_, inl, inr}
-use Prim.Native.Nat.{ℕ, suc, _+_, _-_, _*_, _/_, _%_, _≤_, _<_}
+use Prim.Native.Nat.{ℕ, _+_, _-_, _*_, _/_, _%_, _≤_, _<_}
 use native.Mathlib.Nat.{add-zero}
 use native.Mathlib.Omega.{arith}
 use lib.ListN.{length, getD, drop, length-drop}
 use lib.Seq.{getD-drop, drop-drop}
 use lib.Dec.{leb, ltb, eqb}
-use borrow.Author.Tests.{leb-true, leb-false, eqb-true, eqb-false, ltb-true, ltb-false, le-leb, lt-leb, eq-eqb, ne-eqb, lt-ltb, le-ltb, not-true, not-false}
-use Rattle.laws.specs.Choice.{choose}
-use Rattle.laws.proofs.Choices.{choose-yes, choose-no, and-both, and-left, and-right, and-no-left, and-no-right, and-yes-left}
-use Rattle.laws.proofs.Orders.{told, lt-or-le}
+use borrow.Author.Tests.{leb-true, eqb-true, le-leb, lt-leb, eq-eqb, ne-eqb, lt-ltb, le-ltb, not-true}
+use Rattle.laws.proofs.Choices.{choose-yes, choose-no, and-left, and-right, and-no-left, and-no-right, and-yes-left}
+use Rattle.laws.proofs.Orders.{lt-or-le}
 use Rattle.spelling.specs.Spelling.{tilde, stands, digitUnit, hexUnits}
 use Rattle.unspelling.specs.Reading.{digitOf, hexOf, hexDigit, hexDigits, isEscape}
 

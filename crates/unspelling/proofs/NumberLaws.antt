@@ -1,25 +1,21 @@
 -- Laws of decimals that are read.
 use mathlib.Core.Path.{_≡_, refl, sym, ap, subst, _∙_}
-use mathlib.Core.Bool.{Bool, true, false, true≢false, _&&_}
+use mathlib.Core.Bool.{Bool, true, false, _&&_}
 use mathlib.Core.List.{List, [], _∷_, _++_}
 use mathlib.Core.Logic.{_⊎_, inl, inr}
 use Prim.Native.Nat.{ℕ, zero, suc, _+_, _-_, _*_, _/_, _%_, _≤_, _<_}
-use native.Mathlib.Nat.{add-sub-of-le}
 use native.Mathlib.Numerals.{add-one}
 use native.Mathlib.Omega.{arith}
-use lib.ListN.{length, getD, drop, take, drop-of-length-le, length-append}
-use lib.Seq.{drop-cons, take-suc, take-all, length-take-le}
-use lib.Dec.{leb, ltb, eqb}
-use borrow.Author.Tests.{eqb-true, eqb-false, ne-eqb, eq-eqb, ltb-true, lt-ltb, le-ltb}
-use Rattle.laws.specs.Choice.{choose}
+use lib.ListN.{length, getD, drop, take, drop-of-length-le}
+use lib.Seq.{drop-cons, take-suc, length-take-le}
+use lib.Dec.{ltb, eqb}
+use borrow.Author.Tests.{ne-eqb, eq-eqb, lt-ltb, le-ltb}
 use Rattle.laws.specs.Listed.{sameList}
-use Rattle.laws.proofs.Choices.{choose-yes, choose-no, and-both, and-left, and-right, and-no-left, and-no-right, eqb-refl}
-use Rattle.laws.proofs.Listed.{sameList-true, same-sameList}
-use Rattle.laws.proofs.Orders.{told, lt-or-le}
+use Rattle.laws.proofs.Choices.{choose-yes, choose-no, and-both, and-no-left, and-no-right}
+use Rattle.laws.proofs.Orders.{lt-or-le}
 use Rattle.spelling.specs.Spelling.{decimal}
-use Rattle.spelling.proofs.DecimalLaws.{decimal-low, decimal-high, length-low}
+use Rattle.spelling.proofs.DecimalLaws.{decimal-low, decimal-high}
 use Rattle.unspelling.specs.Reading.{valueFrom, decimalOf, isDecimal, decimalForm}
-use Rattle.unspelling.specs.declared.Number.{Number}
 use Rattle.unspelling.specs.declared.Number.the-variants.{None, Value}
 
 -- the last unit of a list

@@ -3,28 +3,27 @@ use mathlib.Core.Path.{_≡_, refl, sym, ap, subst, _∙_}
 use mathlib.Core.Bool.{Bool, true, false, true≢false, _&&_, not}
 use mathlib.Core.List.{List, [], _∷_, _++_}
 use mathlib.Core.Logic.{_⊎_, inl, inr}
-use Prim.Native.Nat.{ℕ, suc, _+_, _-_, _*_, _/_, _%_, _≤_, _<_}
-use native.Mathlib.Nat.{add-zero}
+use Prim.Native.Nat.{ℕ, _+_, _-_, _/_, _%_, _≤_, _<_}
 use native.Mathlib.Numerals.{add-one}
 use native.Mathlib.Omega.{arith}
-use lib.ListN.{length, getD, drop, length-drop, drop-of-length-le, length-append}
+use lib.ListN.{length, getD, drop, length-drop, drop-of-length-le}
 use lib.Seq.{drop-cons, drop-drop}
-use lib.Dec.{leb, ltb, eqb}
-use borrow.Author.Tests.{eqb-true, eqb-false, le-leb, eq-eqb, ne-eqb, leb-true, ltb-true, lt-ltb}
+use lib.Dec.{leb, eqb}
+use borrow.Author.Tests.{eqb-true, eqb-false, le-leb, ltb-true}
 use Rattle.laws.specs.Choice.{choose}
 use Rattle.laws.specs.Lists.{every}
 use Rattle.laws.specs.Listed.{sameList}
 use Rattle.laws.proofs.Choices.{choose-yes, choose-no, and-both, and-left, and-right, eqb-refl}
-use Rattle.laws.proofs.Listed.{sameList-true, same-sameList}
-use Rattle.laws.proofs.Tests.{refuted, both-ways}
+use Rattle.laws.proofs.Listed.{sameList-true}
+use Rattle.laws.proofs.Tests.{refuted}
 use Rattle.laws.proofs.Orders.{told}
 use Rattle.spelling.specs.Spelling.{tilde, stands, digitUnit, hexUnits, spelledUnit, spelled}
 use Rattle.spelling.proofs.SpellingLaws.{unit-stands, unit-escaped}
 use Rattle.spelling.proofs.PutLaws.{Left}
-use Rattle.unspelling.specs.Reading.{digitOf, hexOf, unspelledFrom, unspelled, isSpelled, spelledForm, hexDigit, hexDigits, isEscape, unit}
+use Rattle.unspelling.specs.Reading.{hexOf, unspelledFrom, unspelled, isSpelled, spelledForm, hexDigits, isEscape, unit}
 use Rattle.unspelling.specs.declared.Spelled.{Spelled}
 use Rattle.unspelling.specs.declared.Spelled.the-variants.{Bad, Units}
-use Rattle.unspelling.proofs.HexLaws.{Digit, Escape, escape-told, digits-back, hex-small, hex-back, unit-hex}
+use Rattle.unspelling.proofs.HexLaws.{Escape, escape-told, digits-back, hex-small, hex-back, unit-hex}
 
 head-same : {a b : ℕ} {s t : List ℕ} → a ∷ s ≡ b ∷ t → a ≡ b
 head-same e = cc

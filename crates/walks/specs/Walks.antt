@@ -12,7 +12,7 @@ use Rattle.unc.specs.Names.{goodName}
 use Rattle.unc.specs.Paths.{firstOf, matches, normalisedCount}
 use Rattle.texts.specs.Texts.{textsOf}
 use Rattle.domains.specs.Domains.{goodSize}
-use Rattle.steps.specs.Steps.{Core, Resting}
+use Rattle.steps.specs.Steps.{Resting}
 use Rattle.steps.specs.Rested.{nextOf, triedOf}
 use Rattle.steps.specs.declared.Kind.{Kind}
 use Rattle.steps.specs.declared.Kind.the-variants.{Dc, Root, Link, Sysvol, Io}

@@ -1,6 +1,6 @@
 use Rattle.calling.proofs.CallingLaws.{referral-made}
 use lib.Seq.{length-take-le}
-use mathlib.Core.Path.{refl, sym}
+use mathlib.Core.Path.{sym}
 use native.Mathlib.Omega.{arith}
 use denote.Ref.{now}
 use borrow.Author.Needs.{needs}

@@ -1,5 +1,5 @@
 use denote.Ref.{now}
-use mathlib.Core.Path.{ap, sym, _∙_}
+use mathlib.Core.Path.{ap, _∙_}
 use native.Mathlib.Omega.{arith}
 use Rattle.caches.specs.Order.{goodPrefix}
 use Rattle.unspelling.specs.Reading.{unspelled}

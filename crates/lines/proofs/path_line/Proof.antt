@@ -1,6 +1,5 @@
 use denote.Ref.{now}
-use mathlib.Core.Path.{ap, sym, subst, _∙_}
-use mathlib.Core.Bool.{true}
+use mathlib.Core.Path.{ap, sym, _∙_}
 use mathlib.Core.List.{List}
 use lib.ListN.{length}
 use Prim.Native.Nat.{ℕ, _-_}

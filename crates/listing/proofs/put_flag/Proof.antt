@@ -1,12 +1,11 @@
 use Rattle.listing.proofs.EntryLaws.{put-same}
 use mathlib.Core.List.{List}
-use mathlib.Core.Path.{ap, sym}
+use mathlib.Core.Path.{ap}
 use lib.ListN.{length}
 use denote.Ref.{now}
 use native.Mathlib.Omega.{arith}
 use Prim.Native.Nat.{ℕ}
-use Rattle.spelling.specs.Spelling.{Put}
-use Rattle.listing.specs.Form.{ended, numberLine}
+use Rattle.listing.specs.Form.{ended}
 use Rattle.listing.proofs.FormLaws.{number-set, number-clear}
 use borrow.Author.Needs.{needs}
 use Rattle.listing.proofs.put_flag.Statement.{statement}

@@ -1,5 +1,5 @@
 use denote.Ref.{now}
-use mathlib.Core.Path.{_≡_, refl, ap, sym, _∙_}
+use mathlib.Core.Path.{_≡_, refl}
 use Prim.Native.Nat.{_+_, _-_, _≤_}
 use native.Mathlib.Omega.{arith}
 use lib.ListN.{length}
@@ -10,7 +10,7 @@ use Rattle.spelling.proofs.PutLaws.{Left, left-start, left-next, left-done}
 use Rattle.listing.specs.Form.{entryText}
 use Rattle.listing.specs.Listed.{textOf}
 use Rattle.listing.proofs.FormLaws.{left-fits, placesLeft, places-start, places-free, places-used, places-end}
-use Rattle.listing.proofs.EntryLaws.{put-same, left-same}
+use Rattle.listing.proofs.EntryLaws.{left-same}
 use Rattle.listing.proofs.UsedLaws.{seen-free, seen-used}
 use borrow.Author.Needs.{needs}
 use Rattle.listing.proofs.put_listing.Statement.{statement}

@@ -1,14 +1,13 @@
 use denote.Ref.{now}
 use mathlib.Core.List.{List}
-use mathlib.Core.Path.{_≡_, refl, sym, ap, _∙_}
+use mathlib.Core.Path.{_≡_, refl, sym, ap}
 use Prim.Native.Nat.{ℕ, _+_, _-_, _≤_}
 use native.Mathlib.Omega.{arith}
 use lib.ListN.{length}
 use Rattle.laws.specs.Lists.{pasted}
-use Rattle.places.specs.Layout.{placeAt, textAt, listCount}
-use Rattle.caches.specs.Memory.{referralOf}
+use Rattle.places.specs.Layout.{placeAt, textAt}
 use Rattle.spelling.proofs.PutLaws.{Left, left-start, left-next, left-done}
-use Rattle.listing.specs.Form.{targetKey, pathLine, ended, linesText, targetLines}
+use Rattle.listing.specs.Form.{targetKey, pathLine, ended}
 use Rattle.listing.proofs.FormLaws.{left-fits, targetsLeft, targets-start, targets-next, targets-end}
 use Rattle.listing.proofs.EntryLaws.{put-same}
 use borrow.Author.Needs.{needs}

@@ -4,7 +4,7 @@ use mathlib.Core.Path.{_≡_, ap}
 use Prim.Native.Nat.{_+_, _*_, _-_, _≤_}
 use native.Mathlib.Omega.{arith}
 use lib.ListN.{length}
-use Rattle.places.specs.Layout.{placeAt, textAt, listCount}
+use Rattle.places.specs.Layout.{placeAt, textAt}
 use Rattle.spelling.proofs.SpellingLaws.{length-spelled}
 use Rattle.listing.proofs.FormLaws.{length-text, targetsLeft, targets-start, targets-units, targets-end}
 use borrow.Author.Needs.{needs}

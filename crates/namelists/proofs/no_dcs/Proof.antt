@@ -2,7 +2,6 @@
 use mathlib.Core.Path.{refl}
 use Prim.Native.Nat.{_-_}
 use Rattle.namelists.specs.Found.{noDcs}
-use Rattle.referral.specs.declared.Answer.the-variants.{Nothing}
 use Rattle.namelists.proofs.no_dcs.Statement.{statement}
 use Rattle.namelists.proofs.no_dcs.Tie as tie
 

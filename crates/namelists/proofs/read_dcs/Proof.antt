@@ -2,10 +2,9 @@
 use denote.Ref.{now}
 use mathlib.Core.Path.{ap, sym, _∙_}
 use Prim.Native.Nat.{_-_}
-use lib.ListN.{length, take}
+use lib.ListN.{take}
 use native.Mathlib.Omega.{arith}
 use Rattle.reader.specs.declared.Header.{Header}
-use Rattle.referral.specs.Replies.{entries}
 use borrow.Author.Tests.{not-true, not-false}
 use Rattle.referral.specs.declared.Answer.the-variants.{Malformed, Nothing}
 use Rattle.referral.proofs.ReplyLaws.{read-short, read-long, read-none, read-bad, read-good}

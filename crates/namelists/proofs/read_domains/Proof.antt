@@ -2,7 +2,6 @@
 use denote.Ref.{now}
 use mathlib.Core.Path.{ap, sym, _∙_}
 use Prim.Native.Nat.{_-_}
-use lib.ListN.{length}
 use native.Mathlib.Omega.{arith}
 use Rattle.reader.specs.declared.Header.{Header}
 use Rattle.referral.specs.Replies.{entries}

@@ -4,7 +4,6 @@ use Rattle.printing.specs.Printed.{endKey, pathKey, movesKey, statusLine}
 use Rattle.listing.specs.Form.{pathLine, numberLine, ended}
 use mathlib.Core.List.{_++_}
 use denote.Ref.{now}
-use native.Mathlib.Omega.{arith}
 use borrow.Author.Needs.{needs}
 use Rattle.outcomes.proofs.put_end.Statement.{statement}
 use Rattle.outcomes.proofs.put_end.Tie as tie

@@ -5,7 +5,6 @@ use Rattle.packing.specs.Packing.{kindAt}
 use Rattle.listing.specs.Form.{pathLine, ended, linesText}
 use mathlib.Core.List.{_++_}
 use denote.Ref.{now}
-use native.Mathlib.Omega.{arith}
 use borrow.Author.Needs.{needs}
 use Rattle.outcomes.proofs.put_question.Statement.{statement}
 use Rattle.outcomes.proofs.put_question.Tie as tie

@@ -1,5 +1,4 @@
 use Rattle.packing.proofs.PackLaws.{flag-set, flag-clear}
-use borrow.Author.Tests.{not-true, not-false}
 use Rattle.packing.proofs.flag.Statement.{statement}
 use Rattle.packing.proofs.flag.Tie as tie
 

@@ -1,5 +1,4 @@
 use Rattle.packing.proofs.PackLaws.{next-asks, next-ends}
-use native.Mathlib.Omega.{arith}
 use borrow.Author.Needs.{needs}
 use Rattle.packing.proofs.next_at.Statement.{statement}
 use Rattle.packing.proofs.next_at.Tie as tie

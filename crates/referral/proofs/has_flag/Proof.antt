@@ -1,6 +1,5 @@
 -- Whether a flag is set.
 use Prim.Native.Nat.{_-_}
-use Rattle.spans.specs.Bytes.{flag}
 use Rattle.referral.proofs.EntryLaws.{flag-is}
 use borrow.Author.Needs.{needs}
 use Rattle.referral.proofs.has_flag.Statement.{statement}

@@ -2,7 +2,7 @@
 use mathlib.Core.Path.{ap}
 use Prim.Native.Nat.{ℕ, _+_, _-_}
 use Rattle.reader.specs.declared.Start.{Start}
-use Rattle.referral.specs.Replies.{sizeAt, starts}
+use Rattle.referral.specs.Replies.{sizeAt}
 use borrow.Author.Needs.{needs}
 use Rattle.referral.proofs.next_entry.Statement.{statement}
 use Rattle.referral.proofs.next_entry.Tie as tie

@@ -2,7 +2,6 @@
 use mathlib.Core.Path.{refl}
 use Prim.Native.Nat.{_-_}
 use Rattle.referral.specs.Found.{noReferral}
-use Rattle.referral.specs.declared.Answer.the-variants.{Nothing}
 use Rattle.referral.proofs.no_referral.Statement.{statement}
 use Rattle.referral.proofs.no_referral.Tie as tie
 

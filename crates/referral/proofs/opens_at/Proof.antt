@@ -2,7 +2,6 @@
 use mathlib.Core.Path.{ap}
 use denote.Ref.{now}
 use Prim.Native.Nat.{_-_}
-use lib.ListN.{set}
 use Rattle.reader.specs.declared.Marks.{Marks}
 use Rattle.reader.specs.declared.Start.{Start}
 use Rattle.referral.proofs.TargetLaws.{opens-first, opens-other, opens-flag}

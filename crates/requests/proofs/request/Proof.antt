@@ -2,7 +2,6 @@
 use denote.Ref.{now}
 use Prim.Native.Nat.{_-_}
 use native.Mathlib.Omega.{arith}
-use Rattle.referral.specs.Request.{request}
 use Rattle.referral.proofs.RequestLaws.{length-request, request-short, request-written}
 use borrow.Author.Needs.{needs}
 use Rattle.requests.proofs.request.Statement.{statement}

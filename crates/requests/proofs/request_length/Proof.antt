@@ -2,7 +2,6 @@
 use denote.Ref.{now}
 use mathlib.Core.Path.{sym}
 use Prim.Native.Nat.{_-_}
-use Rattle.referral.specs.Request.{request}
 use Rattle.referral.proofs.RequestLaws.{length-request}
 use borrow.Author.Needs.{needs}
 use Rattle.requests.proofs.request_length.Statement.{statement}

@@ -4,11 +4,9 @@ use Rattle.lines.proofs.LineLaws.{tail-value}
 use Rattle.hexes.specs.Hexes.{isHex, hexNumber}
 use Rattle.laws.specs.Lists.{every}
 use lib.ListN.{length}
-use Prim.Native.Nat.{ℕ}
-use mathlib.Core.List.{List}
 use Prim.Native.Nat.{_-_}
 use borrow.Author.Tests.{not-true, not-false}
-use mathlib.Core.Path.{refl, sym, ap, _∙_}
+use mathlib.Core.Path.{sym, ap, _∙_}
 use native.Mathlib.Omega.{arith}
 use denote.Ref.{now}
 use borrow.Author.Needs.{needs}

@@ -1,8 +1,6 @@
 use Rattle.script.specs.declared.Last.the-variants.{Boot}
 use Rattle.script.proofs.LineLaws.{text-refused, text-taken}
 use Rattle.script.specs.Script.{takesBoot, after, withBoot}
-use mathlib.Core.Path.{refl, sym, ap, _∙_}
-use denote.Ref.{now}
 use borrow.Author.Needs.{needs}
 use Rattle.script.proofs.take_boot.Statement.{statement}
 use Rattle.script.proofs.take_boot.Tie as tie

@@ -1,7 +1,5 @@
 use Rattle.script.proofs.LineLaws.{number-refused, number-taken}
 use Rattle.script.specs.Script.{takesClock, after, withClock}
-use mathlib.Core.Path.{refl, sym, ap, _∙_}
-use denote.Ref.{now}
 use borrow.Author.Needs.{needs}
 use Rattle.script.proofs.take_clock.Statement.{statement}
 use Rattle.script.proofs.take_clock.Tie as tie

@@ -1,8 +1,6 @@
 use Rattle.script.specs.declared.Last.the-variants.{Limit}
 use Rattle.script.proofs.LineLaws.{number-refused, number-taken}
 use Rattle.script.specs.Script.{takesLimit, after, withLimit}
-use mathlib.Core.Path.{refl, sym, ap, _∙_}
-use denote.Ref.{now}
 use borrow.Author.Needs.{needs}
 use Rattle.script.proofs.take_limit.Statement.{statement}
 use Rattle.script.proofs.take_limit.Tie as tie

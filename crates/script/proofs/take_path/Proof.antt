@@ -1,8 +1,6 @@
 use Rattle.script.specs.declared.Last.the-variants.{Path}
 use Rattle.script.proofs.LineLaws.{text-refused, text-taken}
 use Rattle.script.specs.Script.{takesPath, after, withPath}
-use mathlib.Core.Path.{refl, sym, ap, _∙_}
-use denote.Ref.{now}
 use borrow.Author.Needs.{needs}
 use Rattle.script.proofs.take_path.Statement.{statement}
 use Rattle.script.proofs.take_path.Tie as tie

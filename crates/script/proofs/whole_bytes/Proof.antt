@@ -1,6 +1,6 @@
 use Rattle.script.specs.Script.{wholeBytes}
 use Rattle.hexes.specs.declared.Rest.{Rest}
-use mathlib.Core.Path.{refl, sym, ap, _∙_}
+use mathlib.Core.Path.{sym, ap}
 use borrow.Author.Needs.{needs}
 use Rattle.script.proofs.whole_bytes.Statement.{statement}
 use Rattle.script.proofs.whole_bytes.Tie as tie

@@ -1,5 +1,5 @@
 use Rattle.script.specs.Script.{after}
-use mathlib.Core.Path.{refl, sym, ap, _∙_}
+use mathlib.Core.Path.{refl}
 use Rattle.script.proofs.with_last.Statement.{statement}
 use Rattle.script.proofs.with_last.Tie as tie
 

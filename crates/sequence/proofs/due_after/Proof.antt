@@ -1,5 +1,4 @@
 use mathlib.Core.Path.{sym, ap, _∙_}
-use denote.Ref.{now}
 use Rattle.script.specs.declared.Input.{Input}
 use Rattle.script.specs.Script.{dueAfter}
 use borrow.Author.Needs.{needs}

@@ -1,5 +1,5 @@
 use Rattle.script.specs.Script.{goesOn}
-use mathlib.Core.Path.{refl, sym, ap, _∙_}
+use mathlib.Core.Path.{sym, ap}
 use borrow.Author.Needs.{needs}
 use Rattle.sequence.proofs.goes_on.Statement.{statement}
 use Rattle.sequence.proofs.goes_on.Tie as tie

@@ -1,6 +1,5 @@
 use Rattle.script.proofs.LineLaws.{no-reply, some-reply}
 use borrow.Author.Tests.{not-true, not-false}
-use mathlib.Core.Path.{refl, sym, ap, _∙_}
 use denote.Ref.{now}
 use borrow.Author.Needs.{needs}
 use Rattle.sequence.proofs.is_reply.Statement.{statement}

@@ -3,11 +3,9 @@ use Rattle.script.specs.Script.{replyKey, keptOf}
 use Rattle.hexes.proofs.HexLaws.{take-least}
 use Rattle.lines.specs.Lines.{hasKey}
 use lib.Seq.{length-take-le}
-use Prim.Native.Nat.{ℕ}
-use mathlib.Core.List.{List}
 use native.Mathlib.Omega.{arith}
 use borrow.Author.Tests.{not-true, not-false}
-use mathlib.Core.Path.{refl, sym, ap, _∙_}
+use mathlib.Core.Path.{sym, ap, _∙_}
 use denote.Ref.{now}
 use borrow.Author.Needs.{needs}
 use Rattle.sequence.proofs.line_due.Statement.{statement}

@@ -1,5 +1,5 @@
 use Rattle.script.specs.Script.{readDue}
-use mathlib.Core.Path.{refl, sym, ap, _∙_}
+use mathlib.Core.Path.{sym, ap}
 use borrow.Author.Needs.{needs}
 use Rattle.sequence.proofs.read_due.Statement.{statement}
 use Rattle.sequence.proofs.read_due.Tie as tie

@@ -1,7 +1,6 @@
 use Rattle.laws.proofs.Choices.{choose-yes, choose-no}
 use Rattle.script.specs.Script.{takesAnswer}
-use mathlib.Core.Path.{refl, sym, ap, _∙_}
-use denote.Ref.{now}
+use mathlib.Core.Path.{sym, _∙_}
 use borrow.Author.Needs.{needs}
 use Rattle.sequence.proofs.take_answer.Statement.{statement}
 use Rattle.sequence.proofs.take_answer.Tie as tie

@@ -1,7 +1,7 @@
 use Rattle.script.proofs.LineLaws.{by-last}
 use Rattle.script.specs.Script.{Taken, wholeRead, takesAfter}
 use Rattle.script.specs.declared.Script.{Script}
-use mathlib.Core.Path.{refl, sym, ap, _∙_}
+use mathlib.Core.Path.{refl, ap}
 use denote.Ref.{now}
 use borrow.Author.Needs.{needs}
 use Rattle.sequence.proofs.take_whole.Statement.{statement}

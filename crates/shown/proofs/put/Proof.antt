@@ -1,5 +1,4 @@
 use Rattle.shown.proofs.ShownLaws.{put-short, put-whole}
-use native.Mathlib.Omega.{arith}
 use borrow.Author.Needs.{needs}
 use Rattle.shown.proofs.put.Statement.{statement}
 use Rattle.shown.proofs.put.Tie as tie

@@ -1,12 +1,10 @@
 use denote.Ref.{now}
 use Prim.Native.Nat.{_/_, _+_, _≤_}
 use lib.ListN.{length}
-use mathlib.Core.Path.{_≡_}
 use Rattle.spelling.specs.Spelling.{decimal}
-use mathlib.Core.Path.{sym}
 use native.Mathlib.Omega.{arith}
 use Rattle.spelling.proofs.PutLaws.{length-put}
-use Rattle.spelling.proofs.DecimalLaws.{length-low, length-high, length-decimal, put-low, put-high}
+use Rattle.spelling.proofs.DecimalLaws.{length-low, length-high, put-low, put-high}
 use borrow.Author.Needs.{needs}
 use Prim.Native.Nat.{ℕ, _<_}
 use borrow.Fn.Kinds.{In}

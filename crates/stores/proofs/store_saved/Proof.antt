@@ -2,7 +2,6 @@ use mathlib.Core.Path.{refl}
 use Rattle.stores.proofs.PlaceLaws.{store-ready, place-inside, more-fits, more-usable, rest-stored, stored-path, saved-left, back-left}
 use Rattle.moves.proofs.MoveLaws.{standing-long}
 use Rattle.caches.proofs.KindLaws.{prefix-short}
-use lib.ListN.{take}
 use native.Mathlib.Omega.{arith}
 use denote.Ref.{now}
 use borrow.Author.Needs.{needs}

@@ -1,5 +1,4 @@
 use Rattle.tries.proofs.TryLaws.{entry-units, gone-rest, gone-cache, done-fits, done-party, done-rest, done-cache, failing, fails-rest, fails-cache}
-use denote.Ref.{now}
 use borrow.Author.Needs.{needs}
 use Rattle.tries.proofs.io_answer.Statement.{statement}
 use Rattle.tries.proofs.io_answer.Tie as tie

@@ -1,4 +1,3 @@
-use denote.Ref.{now}
 use native.Mathlib.Omega.{arith}
 use mathlib.Core.Path.{refl}
 use Rattle.turns.proofs.DueLaws.{due-texts, due-limit, due-moves, trying, io-rests, io-cache, io-kept, answer-left, answer-path, answer-closed}

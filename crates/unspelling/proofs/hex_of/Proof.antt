@@ -1,8 +1,6 @@
 use denote.Ref.{now}
 use native.Mathlib.Omega.{arith}
-use lib.ListN.{getD}
-use Prim.Native.Nat.{_+_}
-use Rattle.unspelling.proofs.HexLaws.{digit-small, hex-sum}
+use Rattle.unspelling.proofs.HexLaws.{hex-sum}
 use borrow.Author.Needs.{needs}
 use Rattle.unspelling.proofs.hex_of.Statement.{statement}
 use Rattle.unspelling.proofs.hex_of.Tie as tie

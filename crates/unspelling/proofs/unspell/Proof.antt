@@ -1,14 +1,14 @@
 use denote.Ref.{now}
 use mathlib.Core.Bool.{true}
-use mathlib.Core.List.{List, [], _∷_}
-use mathlib.Core.Path.{_≡_, refl, sym, ap, _∙_}
+use mathlib.Core.List.{[], _∷_}
+use mathlib.Core.Path.{_≡_, refl, ap, _∙_}
 use Prim.Native.Nat.{ℕ, _+_, _-_, _≤_}
 use native.Mathlib.Omega.{arith}
 use lib.ListN.{length, drop}
 use Rattle.laws.specs.Lists.{pasted}
 use Rattle.spelling.proofs.PutLaws.{Left, left-start, left-next, left-done, put-piece}
 use Rattle.unspelling.specs.Reading.{isSpelled, unspelled}
-use Rattle.unspelling.proofs.UnspelledLaws.{plain-says, tilde-says, tilde-fits, left-one, says-nothing, says-end}
+use Rattle.unspelling.proofs.UnspelledLaws.{plain-says, tilde-says, tilde-fits, left-one, says-end}
 use borrow.Author.Needs.{needs}
 use Rattle.unspelling.proofs.unspell.Statement.{statement}
 use Rattle.unspelling.proofs.unspell.Tie as tie

@@ -62,9 +62,9 @@ impl Random {
     }
 }
 
-/// A cache of 32 entries of three namespaces, of various lengths and some below others, and 512 paths, one of so many in capitals.
-pub fn mixed(lies: Lies, capitals: usize) -> (Vec<u16>, Vec<Vec<u16>>) {
-    let mut r = Random(1);
+/// A cache of 32 entries of three namespaces, of various lengths and some below others, and 512 paths, one of so many in capitals: one draw of many.
+pub fn mixed(draw: u64, lies: Lies, capitals: usize) -> (Vec<u16>, Vec<Vec<u16>>) {
+    let mut r = Random(draw);
     let mut prefixes: Vec<String> = vec![];
     while prefixes.len() < 32 {
         let count = r.below(4);

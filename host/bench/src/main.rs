@@ -3,6 +3,7 @@
 //!
 //! Where its loop falls in memory makes a tenth of difference to a look-up and more. So they are timed in four builds that differ in BENCH_SHIFT alone:
 //! `bench look-ups` prints the times of one build, `bench --with FILE` takes those in FILE with its own, and the least time of each function counts.
+//! `--draw N` before these looks up in other caches and paths of the same kinds; without it N is 1.
 mod data;
 #[path = "../../model/src/rules/look_up.rs"]
 mod look_up;
@@ -115,7 +116,7 @@ fn looked_up(shape: Shape) -> Vec<u16> {
 
 const SHAPES: [(&str, Shape); 2] = [("8 targets, texts of 256 units", LONG), ("4 targets, texts of 30 units", USUAL)];
 
-fn compare_caches() {
+fn compare_caches(draw: u64) {
     let mut compared = 0;
     for (_, shape) in SHAPES {
         let cache = referrals(32, shape);
@@ -143,7 +144,7 @@ fn compare_caches() {
             }
         }
     }
-    for (_, cache, paths) in sought() {
+    for (_, cache, paths) in sought(draw) {
         assert!(in_order(&cache));
         for p in &paths {
             let found = find(&cache, p);
@@ -169,9 +170,9 @@ fn order_tests(goals: &mut Goals) {
 const WAYS: [(&str, fn(&[u16], &[u16]) -> Option<usize>); 2] = [("the model's", look_up::longest), ("tuned to prefixes of one length", plain::caches::find)];
 
 /// Caches of 32 entries, each with the paths that are looked up in it one after the other.
-fn sought() -> [(&'static str, Vec<u16>, Vec<Vec<u16>>); 6] {
+fn sought(draw: u64) -> [(&'static str, Vec<u16>, Vec<Vec<u16>>); 6] {
     let mixed = |what, lies, capitals| {
-        let (cache, paths) = data::mixed(lies, capitals);
+        let (cache, paths) = data::mixed(draw, lies, capitals);
         (what, cache, paths)
     };
     [
@@ -197,8 +198,8 @@ fn in_turn<'a>(cache: &'a [u16], paths: &'a [Vec<u16>], find: impl Fn(&[u16], &[
 }
 
 // In each row.
-fn look_ups() -> Vec<Times> {
-    let times = sought().map(|(_, cache, paths)| {
+fn look_ups(draw: u64) -> Vec<Times> {
+    let times = sought(draw).map(|(_, cache, paths)| {
         let (mut proved, mut plain) = (in_turn(&cache, &paths, find), WAYS.map(|(_, way)| in_turn(&cache, &paths, way)));
         let mut calls: Vec<&mut dyn FnMut()> = vec![&mut proved];
         calls.extend(plain.iter_mut().map(|c| c as &mut dyn FnMut()));
@@ -219,7 +220,7 @@ fn hold_look_ups(goals: &mut Goals, builds: &[Vec<Times>]) {
         println!();
         goals.hold(format!("look-up, {what}, against the model's"), times[0] / times[1], LOOK_UP, LOOK_UP * MARGIN);
     };
-    for (k, (what, ..)) in sought().iter().enumerate() {
+    for (k, (what, ..)) in sought(1).iter().enumerate() {
         let times: Times = std::array::from_fn(|way| builds.iter().map(|b| b[k][way]).fold(f64::MAX, f64::min));
         row(what, times);
         all.iter_mut().zip(times).for_each(|(sum, time)| *sum += time);
@@ -233,7 +234,7 @@ fn other_builds(file: &str) -> Vec<Vec<Times>> {
     let builds = text.lines().filter_map(|l| l.strip_prefix("ns ")).map(|l| {
         let ns: Vec<f64> = l.split(' ').map(|n| n.parse().unwrap()).collect();
         let rows: Vec<Times> = ns.chunks(WAYS.len() + 1).map(|row| row.try_into().unwrap()).collect();
-        assert_eq!(rows.len(), sought().len(), "{file} has the times of other rows");
+        assert_eq!(rows.len(), sought(1).len(), "{file} has the times of other rows");
         rows
     });
     let builds: Vec<_> = builds.collect();
@@ -365,8 +366,12 @@ fn main() {
     black_box(shift as *const ());
     let args: Vec<String> = std::env::args().skip(1).collect();
     let args: Vec<&str> = args.iter().map(String::as_str).collect();
-    compare_caches();
-    let mut builds = vec![look_ups()];
+    let (draw, args) = match args[..] {
+        ["--draw", n, ref rest @ ..] => (n.parse().expect("the number of a draw"), rest),
+        _ => (1, &args[..]),
+    };
+    compare_caches(draw);
+    let mut builds = vec![look_ups(draw)];
     match args[..] {
         [] => {}
         ["look-ups"] => {
@@ -375,7 +380,7 @@ fn main() {
             return;
         }
         ["--with", file] => builds.extend(other_builds(file)),
-        _ => panic!("usage: bench [look-ups | --with FILE]"),
+        _ => panic!("usage: bench [--draw N] [look-ups | --with FILE]"),
     }
     let mut goals = Goals::default();
     order_tests(&mut goals);

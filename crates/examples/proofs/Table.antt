@@ -33,8 +33,11 @@ use Rattle.walks.specs.Walks.{lent, pathIn, triedIn, bootIn, goodLimit, goodSet
 use Rattle.closing.specs.Closing.{closes}
 use Rattle.turns.specs.Turns.{coreIn}
 use Rattle.resolve.specs.Calls.{refusalNumber, startRest, startCall, restAt, restIn, referralEvent, answers, answerCall, referralCall}
-use Rattle.limits.specs.Calls.{answered, run}
-use Rattle.examples.specs.Examples.{Told, gives, puts, ends, toldNext, told, memory, begin, overflows, dated, heard, Row, matching, calling, aging, expiring, requesting, replacing, reading, Says, rows, EachSays, no-row, a-row}
+use Rattle.limits.specs.Unlimited.{madeIn}
+use Rattle.limits.specs.Calls.{start, answered, run}
+use Rattle.limits.specs.Limits.{MovesOf}
+use Rattle.examples.specs.Examples.{Told, gives, puts, ends, toldNext, told, memory, begin, overflows, dated, heard, Row, matching, calling, moving, aging, expiring, requesting, replacing, reading, Says, rows, EachSays, no-row, a-row}
+use Rattle.examples.proofs.Round.{five-moves}
 
 -- tests of equal values
 sameBool : Bool → Bool → Bool
@@ -103,33 +106,55 @@ heard-same (some a) (some b) h = ap some (texts-same a b h)
 holds : Row → Bool
 holds (matching prefix path b) = sameBool (matches prefix path) b
 holds (calling c limit path n t) = sameTold (told (run limit (memory c) (begin path) (overflows n))) t
+holds (moving c limit path ms t) = sameTold (told (run limit (memory c) (begin path) start)) t
 holds (aging taken clock n) = eqb (age clock taken) n
 holds (expiring taken clock ttl b) = sameBool (expired clock (dated ttl taken)) b
 holds (requesting name n) = eqb (length (request name)) n
 holds (replacing prefix target path s) = sameList (replaced target (length prefix) path) s
 holds (reading name reply n h) = eqb (length (take n reply)) n && sameHeard (heard (replies.readReferral 8192 name (take n reply))) h
 
--- a row that passes says what holds
-row-says : (r : Row) → holds r ≡ true → Says r
-unfolding holds Says
-row-says (matching prefix path b) h = bool-same _ _ h
-row-says (calling c limit path n t) h = told-same _ _ h
-row-says (aging taken clock n) h = eqb-true _ _ h
-row-says (expiring taken clock ttl b) h = bool-same _ _ h
-row-says (requesting name n) h = eqb-true _ _ h
-row-says (replacing prefix target path s) h = sameList-true _ _ h
-row-says (reading name reply n e) h = (eqb-true _ _ (and-left _ _ h), heard-same _ _ (and-right (eqb (length (take n reply)) n) _ h))
+-- what rows say beside their tests: the moves of each start
+Beside : Row → Type 0 → Type 0
+Beside (matching prefix path b) rest = rest
+Beside (calling c limit path n t) rest = rest
+Beside (moving c limit path ms t) rest = MovesOf limit (memory c) (begin path) start (madeIn c ms) × rest
+Beside (aging taken clock n) rest = rest
+Beside (expiring taken clock ttl b) rest = rest
+Beside (requesting name n) rest = rest
+Beside (replacing prefix target path s) rest = rest
+Beside (reading name reply n h) rest = rest
 
-rows-say : (rs : List Row) → every holds rs ≡ true → EachSays rs
-unfolding every
-rows-say [] h = no-row
-rows-say (r ∷ rs) h = a-row (row-says r (and-left _ _ h)) (rows-say rs (and-right (holds r) _ h))
+AllBeside : List Row → Type 0
+AllBeside [] = Unit
+AllBeside (r ∷ rs) = Beside r (AllBeside rs)
+
+-- a row that passes says what holds
+row-says : (r : Row) (rest : Type 0) → holds r ≡ true → Beside r rest → Says r × rest
+unfolding holds Says Beside
+row-says (matching prefix path b) rest h m = (bool-same _ _ h, m)
+row-says (calling c limit path n t) rest h m = (told-same _ _ h, m)
+row-says (moving c limit path ms t) rest h m = ((told-same _ _ h, m .0), m .1)
+row-says (aging taken clock n) rest h m = (eqb-true _ _ h, m)
+row-says (expiring taken clock ttl b) rest h m = (bool-same _ _ h, m)
+row-says (requesting name n) rest h m = (eqb-true _ _ h, m)
+row-says (replacing prefix target path s) rest h m = (sameList-true _ _ h, m)
+row-says (reading name reply n e) rest h m = ((eqb-true _ _ (and-left _ _ h), heard-same _ _ (and-right (eqb (length (take n reply)) n) _ h)), m)
+
+rows-say : (rs : List Row) → every holds rs ≡ true → AllBeside rs → EachSays rs
+unfolding every AllBeside
+rows-say [] h m = no-row
+rows-say (r ∷ rs) h m =
+    let x = row-says r (AllBeside rs) (and-left _ _ h) m in a-row (x .0) (rows-say rs (and-right (holds r) _ h) (x .1))
 
 -- every row passes
 all-hold : every holds rows ≡ true
 unfolding holds sameBool sameTold sameTexts sameHeard told toldNext memory begin overflows dated heard rows answered run choose every part roomed pasted listed sameList flatten folded sameUnit sameName plain nothingOrDots goodComponent goodName before pieces joined components componentCount firstOf leads withoutTrail body goodPath normalised isNormalised normalisedCount begins matches isSysvol replaced placeAt wideAt flagAt flagUnit roomAt textAt blank headOf roomsOf written goodPrefix goodTarget firstOpensNone goodReferral goodDCHint goodDomain distinct targetOf referralOf referralSettings referralUnits domainOf domainUnits placeOf pieceOf decode encode goodPlace keys goodCache inOrder longerMatch prefixUnits longestFrom longestMatch hasKey withKeyFrom withKey age expired targetPath bytes.u16At bytes.u32At bytes.flag bytes.longer bytes.text bytes.textAt bytesOf request bufferWith replies.referralCount replies.headerFlag replies.versionAt replies.sizeAt replies.serverTypeAt replies.entryFlag replies.textOf replies.starts replies.entries replies.fits replies.pathOf replies.isRead replies.readable replies.fixedLength replies.ttlAt replies.prefixAt replies.targetAt replies.goodFields replies.goodEntry replies.laterTarget replies.keptTargets replies.referralIn replies.readAs replies.readReferral heldAt held prefixed steps.endNumber steps.longest steps.domainNamed steps.severity steps.step11 steps.step4 steps.step7 steps.step6Host steps.step5With steps.step5 steps.step2With steps.step2 steps.isThere steps.hitAt steps.withHit steps.withPath steps.fromStep2 steps.started steps.nameAsked steps.domainInUse steps.referralInUse steps.dcCount steps.targetCount steps.partyCount steps.inUse steps.doubled steps.failedHost steps.failed steps.referralFails steps.referralAnswered steps.rests steps.asking steps.goes steps.turned cachesOf askingOf nextOf triedOf questionOf requestName nameFits restFits withRequest outAfter textsOf goodSize lent pathIn triedIn bootIn goodLimit goodSettings namesDomain namesPrefix noParty oneParty askedInForm hasTried endTried goodTried endStatus nextInForm inForm walkOf textsAfter closes coreIn refusalNumber startRest startCall restAt restIn referralEvent answers answerCall referralCall
 all-hold = refl
 
+all-beside : AllBeside rows
+unfolding rows AllBeside Beside
+all-beside = (five-moves, tt)
+
 -- "Marked P: proved, as one table under one statement."
 pub examples : EachSays rows
-examples = rows-say rows all-hold
+examples = rows-say rows all-hold all-beside

@@ -20,7 +20,9 @@ use Rattle.steps.specs.declared.Next.{Next}
 use Rattle.steps.specs.declared.Next.the-variants.{Asks, Ends}
 use Rattle.steps.specs.declared.End.the-variants.{NotDfs}
 use Rattle.resolve.specs.Calls.{Answered, refusalNumber}
+use Rattle.limits.specs.Unlimited.{Move, replacement, madeIn}
 use Rattle.limits.specs.Calls.{Held, Start, Calls, start, then, referral, run}
+use Rattle.limits.specs.Limits.{MovesOf}
 
 -- what a call shows: the number that refuses it; or the size of the question then put, or the number of the end, with the moves made
 pub data Told : Type 0 where
@@ -79,6 +81,8 @@ pub data Row : Type 0 where
   matching : (prefix path : List ℕ) → Bool → Row
   -- a start from these caches with this limit and path, and so many answers 0x80000005: what the last call shows
   calling : Caches → (limit : ℕ) → (path : List ℕ) → (answers : ℕ) → Told → Row
+  -- a start from these caches with this limit and path: the moves made in it, and what it shows
+  moving : Caches → (limit : ℕ) → (path : List ℕ) → List Move → Told → Row
   -- taken, now: the age; and with a TTL whether it is expired
   aging : (taken clock : ℕ) → ℕ → Row
   expiring : (taken clock ttl : ℕ) → Bool → Row
@@ -92,6 +96,8 @@ pub data Row : Type 0 where
 unfoldable pub Says : Row → Type 0
 Says (matching prefix path b) = matches prefix path ≡ b
 Says (calling c limit path n t) = told (run limit (memory c) (begin path) (overflows n)) ≡ t
+Says (moving c limit path ms t) =
+    (told (run limit (memory c) (begin path) start) ≡ t) × MovesOf limit (memory c) (begin path) start (madeIn c ms)
 Says (aging taken clock n) = age clock taken ≡ n
 Says (expiring taken clock ttl b) = expired clock (dated ttl taken) ≡ b
 Says (requesting name n) = length (request name) ≡ n
@@ -134,9 +140,12 @@ module _ where
   abbrev pub myDir : List ℕ
   myDir = 92 ∷ 77 ∷ 121 ∷ 68 ∷ 105 ∷ 114 ∷ []
 
-  -- \a\b
+  -- \a\b, and \a\b\c
   abbrev pub ab : List ℕ
   ab = 92 ∷ 97 ∷ 92 ∷ 98 ∷ []
+
+  abbrev pub abc : List ℕ
+  abc = ab ++ (92 ∷ 99 ∷ [])
 
 -- caches with nothing in them; a fresh link \a\b with Interlink and target \a\b
 abbrev pub empty : Caches
@@ -194,7 +203,7 @@ rows =
     -- prefix `\MyDomain\MyDfs`, target `\someserver\someshare\somepath`, path `\MyDomain\MyDfs\MyDir`: `\someserver\someshare\somepath\MyDir`
     ∷ replacing myDfs someTarget (myDfs ++ myDir) (someTarget ++ myDir)
     -- `\a\b\c`, a fresh link `\a\b` with Interlink and target `\a\b`, limit 5: five moves, no question, end 24
-    ∷ calling turning 5 (ab ++ (92 ∷ 99 ∷ [])) 0 (ends 24 5)
+    ∷ moving turning 5 abc (replacement abc ∷ replacement abc ∷ replacement abc ∷ replacement abc ∷ replacement abc ∷ []) (ends 24 5)
     -- one version 3 entry, `\files\s1` to `\nas1\s1`, offsets 34, 34, 54: 80 bytes are read, 79 are malformed
     ∷ reading files reply 80 (some (files ∷ nas ∷ []))
     ∷ reading files reply 79 none

@@ -14,3 +14,4 @@ pub mod BackLaws
 pub mod CallLaws
 pub mod StandLaws
 pub mod StoreLaws
+pub mod FailureLaws

@@ -2,3 +2,4 @@
 pub mod Named
 pub mod Keeps
 pub mod Stands
+pub mod Failures

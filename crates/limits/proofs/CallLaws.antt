@@ -40,7 +40,7 @@ pub record Back (l : ℕ) (boot : List ℕ) (x : Resting) : Type 0 where
   pub form : inForm (walkOf l boot x) (textsAfter boot x) ≡ true
 
 abbrev pub Either : ℕ → ℕ → List ℕ → List ℕ → ℕ → Answered → Opening → Type 0
-Either l clock boot out n o p = Followed l clock boot out n o p ⊎ CutOff l clock boot n o p
+Either l clock boot out n o p = Followed l clock boot out n o p ⊎ CutOff l clock boot out n o p
 
 -- a call that is closed at a rest
 module _ (l : ℕ) (boot out : List ℕ) (t : Turn) (x : Resting) (b : Back l boot x) (walk : Walk) (texts refs doms : List ℕ)
@@ -173,7 +173,7 @@ module _ (o : Answered) (a : Answer) (form : inForm (o .left .walk) (o .left .te
       go (inl h) (some t) f = answer-some h t f
 
 -- a start
-started-caches : (c : Caches) (w : Core) (clock : ℕ) → started c w clock .caches ≡ c
+pub started-caches : (c : Caches) (w : Core) (clock : ℕ) → started c w clock .caches ≡ c
 unfolding started fromStep2
 started-caches c w clock = go (told (eqb (componentCount (w .path)) 1))
   where

@@ -43,10 +43,11 @@ pub record Followed (l clock : ℕ) (boot out : List ℕ) (n : ℕ) (o : Answere
   pub fine : o .left .verdict ≡ Taken → Fine l boot o
   pub early : p ≡ refuses ShortBuffer → ⊥
 
-pub record CutOff (l clock : ℕ) (boot : List ℕ) (n : ℕ) (o : Answered) (p : Opening) : Type 0 where
+pub record CutOff (l clock : ℕ) (boot out : List ℕ) (n : ℕ) (o : Answered) (p : Opening) : Type 0 where
   pub calls : CallsFor p clock n (suc l)
   pub is-taken : o .left .verdict ≡ Taken
   pub sees : seen o ≡ restsAt (calls .turn .caches) (calls .core) (ended LimitReached 0 []) l
+  pub writes : o .left .out ≡ out
   pub moves : Moved l clock boot n o p (madeIn (calls .turn .caches) (calls .moves))
   pub fine : Fine l boot o
 
@@ -153,23 +154,28 @@ module _ (l clock : ℕ) (boot out : List ℕ) (n : ℕ) (few : n ≤ l) (t : Tu
     unfolding rests
     cut-sees = z .sees cut-fits ∙ ap (λ (y : Resting). restsAt (t .caches) (y .core) (y .rest) (l - y .left)) cut-is ∙ ap (λ (k : ℕ). restsAt (t .caches) (x .core) (ended LimitReached 0 []) k) (let y : l - 0 ≡ l = omega arith in y)
 
+    cut-writes : o .left .out ≡ out
+    unfolding rests requestName withRequest
+    cut-writes = z .writes cut-fits ∙ ap (λ (y : Resting). withRequest (requestName (y .core) (y .rest)) out) cut-is
+
     more : CallsForMore t clock (x .replacements) (x .core)
     more = record { called = x .called; made = x .made; move = x .move }
 
-    cut-off : CutOff l clock boot n o (opens t)
+    cut-off : CutOff l clock boot out n o (opens t)
     cut-off = record {
       calls = record { turn = t; opening = refl; moves = x .replacements; core = x .core; more = more; number = omega (arith, x .long) };
       is-taken = z .fits cut-fits;
       sees = cut-sees;
+      writes = cut-writes;
       moves = to-limit more (omega (arith, x .long)) (z .fits cut-fits) cut-sees;
       fine = z .fine cut-fits;
     }
 
-  pub classified : Followed l clock boot out n o (opens t) ⊎ CutOff l clock boot n o (opens t)
+  pub classified : Followed l clock boot out n o (opens t) ⊎ CutOff l clock boot out n o (opens t)
   classified = go (rests-or-cut (t .caches) clock boot (l - n) (t .core) (t .called))
     where
       go : ToRest (t .caches) clock boot (l - n) (t .core) (t .called) ⊎ Cut (t .caches) clock (l - n) (t .core) (t .called)
-          → Followed l clock boot out n o (opens t) ⊎ CutOff l clock boot n o (opens t)
+          → Followed l clock boot out n o (opens t) ⊎ CutOff l clock boot out n o (opens t)
       go (inl x) = inl (followed x)
       go (inr x) = inr (cut-off x)
 

@@ -4,6 +4,8 @@ pub mod Once
 pub mod Classify
 pub mod CallLaws
 pub mod NoLimit
+pub mod Along
+pub mod Cores
+pub mod Ways
 pub mod ListLaws
 pub mod Theorem
-pub mod Example

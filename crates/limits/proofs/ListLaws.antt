@@ -32,31 +32,12 @@ use Rattle.keeps.proofs.EventLaws.{path-counted, started-proper, referral-good,
 use Rattle.keeps.proofs.BackLaws.{caches-good, form-proper, core-back, rest-back, boot-back, proper-form, form-settings}
 use Rattle.keeps.proofs.CallLaws.{start-keeps, referral-keeps, io-keeps}
 use Rattle.limits.specs.Unlimited.{Move, Opening, opens, refuses, Unlimited, Made, madeIn, restsAt, lastMove, Rests, CallsForMore, Brings, number, comes, Call, refused as call-refused, short, taken, CallsFor}
-use Rattle.limits.specs.Calls.{Held, Start, Answer, referral, io, Calls, start, then, run, answered, answerClock, answerOut, clockOf, outOf, seen, startOpening, eventOf, eventOpening, answerOpening, opening, before, Follows, begins, is-refused, is-taken, Comes, to-start, to-answer, Moved, Same, same-number, same-rest}
-use Rattle.limits.proofs.Once.{rest-once, as-many, cut-short}
+use Rattle.limits.specs.Calls.{Held, Start, Answer, referral, io, Calls, start, then, run, answered, answerClock, answerOut, clockOf, outOf, seen, startOpening, eventOf, eventOpening, answerOpening, opening, before, Moved, Same, same-number, same-rest}
+use Rattle.limits.proofs.Once.{as-many, cut-short}
+use Rattle.limits.proofs.Along.{one-walk, Tracks, tracks-start, tracks-refused, tracks-taken, Meets, meets-start, meets-answer}
 use Rattle.limits.proofs.Classify.{Fine, opens-same, not-refused}
 use Rattle.limits.proofs.CallLaws.{Back, BackAfter, BackStart, Either, answer-either, start-either}
 use Rattle.limits.proofs.NoLimit.{NoLimit, started-no, referral-event-no, io-event-no}
-
--- what a call brings the unlimited walk is determined
-pub same-way : {t : Turn} {clock : ℕ} {boot : List ℕ} {ms ns : List Move} {w v : Core} {r s : Rest} → Rests t clock boot ms w r → Rests t clock boot ns v s
-    → (ms ≡ ns) × ((w ≡ v) × (r ≡ s))
-same-way {t} {boot = boot} x y =
-    let z = rest-once (x .made) (x .halts) (y .made) (y .halts) in
-    let m = x .moves ∙ ((λ j. z .0 .moves j ++ lastMove (t .caches) boot (z .0 .core j) (z .1 j)) ∙ sym (y .moves)) in (m, (z .0 .core, z .1))
-
-pub one-walk : {p : Opening} {clock count : ℕ} {boot out : List ℕ} {a b : Brings} → Call clock boot out count p a → Call clock boot out count p b → a ≡ b
-one-walk call-refused call-refused = refl
-one-walk (short x e) (short y f) = refl
-one-walk {out = out} (short x e) (taken y f) =
-    let z = same-way x y in
-    absurd (not-both f (sym (λ j. nameFits (length out) (requestName (z .1 .0 j) (z .1 .1 j))) ∙ e))
-one-walk {out = out} (taken x e) (short y f) =
-    let z = same-way x y in
-    absurd (not-both e ((λ j. nameFits (length out) (requestName (z .1 .0 j) (z .1 .1 j))) ∙ f))
-one-walk {count = count} (taken {t = t} x e) (taken y f) =
-    let z = same-way x y in
-    λ j. comes (madeIn (t .caches) (z .0 j)) (restsAt (t .caches) (z .1 .0 j) (z .1 .1 j) (count + length (z .0 j)))
 
 -- the walk that a rest leaves is read back
 back-of : (l : ℕ) (boot : List ℕ) (x : Resting) → goodLimit l ≡ true → goodName boot ≡ true → Proper (x .core) (x .rest) → Back l boot x
@@ -69,7 +50,7 @@ back-start l h s g a =
     (started-proper (cachesOf (h .refs) (h .doms)) (caches-good (h .refs) (h .doms) (a .order)) (coreOf (normalised (s .path)) (s .size) false) (and-left _ _ (a .settings))
     (path-counted (s .path) (a .path) (leb-true _ _ (a .short))) l (s .clock))
 
-good-event : (o : Answered) (a : Answer) (t : Turn) → (inOrder referrals (o .refs) && inOrder domains (o .doms)) ≡ true
+pub good-event : (o : Answered) (a : Answer) (t : Turn) → (inOrder referrals (o .refs) && inOrder domains (o .doms)) ≡ true
     → inForm (o .left .walk) (o .left .texts) ≡ true → eventOf (seen o) a ≡ some t → GoodTurn t
 unfolding eventOf seen
 good-event o (referral status reply clock out) t h f e =
@@ -248,36 +229,36 @@ module _ (l : ℕ) (good : goodLimit l ≡ true) (h : Held) (s : Start) where
       record { shows = z .1 .0; fine = f .fine (z .0) }
   taken-agrees cs u a nc c (inr k) = absurd (nc (k .calls))
 
-  pub agrees : {cs : Calls} {u : Unlimited} → Follows h s l cs u → Agrees cs u
-  agrees (begins nc c) = start-agrees nc c at-start
-  agrees (is-refused {cs = cs} {u = u} {a = a} f nc c) =
+  pub agrees : {cs : Calls} {u : Unlimited} → Tracks h s l cs u → Agrees cs u
+  agrees (tracks-start nc c) = start-agrees nc c at-start
+  agrees (tracks-refused {cs = cs} {u = u} {a = a} f nc c) =
       let g = agrees f in refused-agrees cs u a g nc c (later cs u a g)
-  agrees (is-taken {cs = cs} {u = u} {a = a} f nc c) =
+  agrees (tracks-taken {cs = cs} {u = u} {a = a} f nc c) =
       let g = agrees f in taken-agrees cs u a nc c (later cs u a g)
 
   -- the count of the unlimited walk
-  pub few : {cs : Calls} {u : Unlimited} → Follows h s l cs u → u .count ≤ l
+  pub few : {cs : Calls} {u : Unlimited} → Tracks h s l cs u → u .count ≤ l
   unfolding seen
   few f =
       let g = agrees f in subst (λ (u : Unlimited). u .count ≤ l) (g .shows) (g .fine .few)
 
   -- the last call of a list to which the unlimited walk comes
-  pub comes-either : {cs : Calls} {p : Opening} {n : ℕ} → Comes h s l cs p n → Either l (clockOf s cs) (s .boot) (outOf s cs) n (run l h s cs) p
+  pub comes-either : {cs : Calls} {p : Opening} {n : ℕ} → Meets h s l cs p n → Either l (clockOf s cs) (s .boot) (outOf s cs) n (run l h s cs) p
   unfolding clockOf outOf run
-  comes-either to-start = at-start
-  comes-either (to-answer {cs = cs} {u = u} {a = a} f) = later cs u a (agrees f)
+  comes-either meets-start = at-start
+  comes-either (meets-answer {cs = cs} {u = u} {a = a} f) = later cs u a (agrees f)
 
-  pub comes-no : {cs : Calls} {p : Opening} {n : ℕ} → Comes h s l cs p n → (t : Turn) → p ≡ opens t → NoLimit (t .called)
-  comes-no to-start t e = start-no h s t e
-  comes-no (to-answer {u = u} {a = a} f) t e = answer-no u a t e
+  pub comes-no : {cs : Calls} {p : Opening} {n : ℕ} → Meets h s l cs p n → (t : Turn) → p ≡ opens t → NoLimit (t .called)
+  comes-no meets-start t e = start-no h s t e
+  comes-no (meets-answer {u = u} {a = a} f) t e = answer-no u a t e
 
-  pub comes-few : {cs : Calls} {p : Opening} {n : ℕ} → Comes h s l cs p n → n ≤ l
-  comes-few to-start = omega arith
-  comes-few (to-answer f) = few f
+  pub comes-few : {cs : Calls} {p : Opening} {n : ℕ} → Meets h s l cs p n → n ≤ l
+  comes-few meets-start = omega arith
+  comes-few (meets-answer f) = few f
 
   -- it comes to what the walk with the limit comes to
-  pub comes-opening : {cs : Calls} {p : Opening} {n : ℕ} → Comes h s l cs p n → (p ≡ opening l h s cs) × (n ≡ before l h s cs)
+  pub comes-opening : {cs : Calls} {p : Opening} {n : ℕ} → Meets h s l cs p n → (p ≡ opening l h s cs) × (n ≡ before l h s cs)
   unfolding opening before seen
-  comes-opening to-start = (refl, refl)
-  comes-opening (to-answer {a = a} f) =
+  comes-opening meets-start = (refl, refl)
+  comes-opening (meets-answer {a = a} f) =
       let g = agrees f in (ap (λ (u : Unlimited). answerOpening u a) (sym (g .shows)), ap (λ (u : Unlimited). u .count) (sym (g .shows)))

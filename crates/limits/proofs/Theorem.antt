@@ -1,36 +1,47 @@
 -- Demand 3, proved: `limit-only-cuts`.
 use mathlib.Core.Path.{_≡_, refl, sym, ap, _∙_, subst}
-use mathlib.Core.Bool.{true, false}
-use mathlib.Core.List.{List, [], _∷_, _++_, append-assoc, map-append}
+use mathlib.Core.Bool.{true, false, _&&_}
+use mathlib.Core.List.{List, [], _∷_, _++_, map, append-assoc, map-append}
 use mathlib.Core.Option.{Option, none, some}
 use mathlib.Core.Logic.{_⊎_, inl, inr}
 use Prim.Native.Nat.{ℕ, suc, _+_, _-_, _≤_, _<_}
 use native.Mathlib.Omega.{arith}
 use lib.ListN.{length, length-append}
 use borrow.Author.Tests.{le-leb, lt-leb, leb-false}
-use Rattle.laws.proofs.Choices.{and-both}
-use Rattle.laws.proofs.Orders.{lt-or-le}
+use Rattle.laws.proofs.Choices.{and-both, choose-yes, choose-no}
+use Rattle.laws.proofs.Orders.{lt-or-le, told}
 use Rattle.laws.proofs.Tests.{not-both}
-use Rattle.unc.specs.Paths.{pathUnits}
+use Rattle.unc.specs.Paths.{pathUnits, normalised}
+use Rattle.caches.specs.Memory.{referrals, domains, encode, inOrder}
+use Rattle.steps.specs.Rested.{cachesOf, coreOf}
+use Rattle.turns.specs.Turns.{coreIn}
+use Rattle.shown.specs.Shown.{questionShown, partyOf, partyText}
+use Rattle.keeps.specs.Stands.{Stands, StartStands, AnswerStands}
+use Rattle.keeps.proofs.StandLaws.{start-stands, referral-stands, io-stands}
+use Rattle.keeps.proofs.BackLaws.{caches-back}
+use Rattle.limits.proofs.CallLaws.{started-caches}
 use Rattle.referral.specs.Request.{request}
-use Rattle.steps.specs.Steps.{Core, Question, Called, stops, asks, replaces, Rest, waits, ended, Turn, Caches, withPath, withHit, hitAt, step2}
+use Rattle.steps.specs.Steps.{Core, Question, Called, stops, asks, replaces, Rest, waits, ended, Turn, Caches, withPath, withHit, hitAt, step2, nameAsked}
 use Rattle.steps.specs.declared.End.{End}
 use Rattle.steps.specs.declared.End.the-variants.{LimitReached, TooLong}
-use Rattle.questions.specs.Questions.{requestName, nameFits}
-use Rattle.walks.specs.Walks.{goodLimit}
+use Rattle.questions.specs.Questions.{requestName, nameFits, withRequest}
+use Rattle.walks.specs.Walks.{goodLimit, bootIn}
 use Rattle.closing.specs.Closing.{refused}
-use Rattle.resolve.specs.Calls.{Answered}
+use Rattle.resolve.specs.Calls.{Answered, refusalNumber}
 use Rattle.closing.specs.declared.Verdict.{Verdict}
 use Rattle.closing.specs.declared.Verdict.the-variants.{Taken, BadPath, LongPath, BadSettings, NotInOrder, OutOfForm, ShortBuffer}
-use Rattle.limits.specs.Unlimited.{Move, Opening, opens, refuses, Unlimited, Made, madeIn, restsAt, lastMove, callsOne, Halts, at-end, is-put, try-long, path-long, Rests, CallsForMore, Brings, number, comes, Call, refused as call-refused, short, taken, CallsFor, Within, refused as within-refused, rests as within-rests, replacement, Makes, here, goes-on}
-use Rattle.limits.specs.Calls.{Held, Start, Answer, Calls, start, then, run, answered, InList, the-start, an-answer, answerClock, answerOut, clockOf, outOf, seen, startOpening, answerOpening, opening, before, Follows, begins, is-refused, is-taken, Comes, to-start, to-answer, Moved, no-move, to-rest, to-limit, Same, same-number, same-rest}
-use Rattle.limits.specs.Limits.{MovesOf, SameIn, EndsIn, WaitsAfter, TooShort, CutBy, in-it, before-it, LimitOnlyCuts}
+use Rattle.limits.specs.Unlimited.{Move, question, pathAfter, Opening, opens, refuses, Unlimited, Made, madeIn, restsAt, lastMove, callsOne, Halts, at-end, is-put, try-long, path-long, Rests, CallsForMore, Brings, number, comes, Call, refused as call-refused, short, taken, CallsFor, Within, refused as within-refused, rests as within-rests, replacement, Makes, here, goes-on}
+use Rattle.limits.specs.Calls.{shownMove, Held, Start, Answer, referral, io, Calls, start, then, run, answered, InList, the-start, an-answer, answerClock, answerOut, clockOf, outOf, seen, startOpening, answerOpening, opening, before, pathBefore, Follows, Comes, to-start, to-answer, CutBy, in-it, before-it, CutBefore, Moved, no-move, to-rest, to-limit, Same, same-number, same-rest}
+use Rattle.limits.specs.Limits.{MovesOf, SameIn, EndsIn, WaitsAfter, TooShort, LimitOnlyCuts}
 use Rattle.limits.proofs.Goes.{ToRest, Cut, rests-or-cut}
 use Rattle.limits.proofs.Once.{behind, as-many, goes-further}
 use Rattle.limits.proofs.Classify.{Fine, CutOff, never-both, opens-same, short-not, not-refused}
 use Rattle.limits.proofs.CallLaws.{Either}
 use Rattle.limits.proofs.NoLimit.{NoLimit, rests-no}
-use Rattle.limits.proofs.ListLaws.{one-walk, same-way, answer-identity, start-identity, same-comes, same-numbered, taken-opens, short-opens, one-cut, earlier, at-start, Later, later, agrees, few, comes-either, comes-no, comes-few, comes-opening, seen-kept, fine-kept, event-ended, no-opening, start-goes-on, answer-goes-on}
+use Rattle.limits.proofs.Along.{one-walk, same-way, one-unlimited, Tracks, tracks-start, tracks-refused, tracks-taken, Meets, meets-start, meets-answer, tracks-follows, tracks-uncut, tracks, meets-comes, meets-uncut, meets-none, meets, earlier-cut}
+use Rattle.limits.proofs.Cores.{SameCore, started-same, event-same}
+use Rattle.limits.proofs.Ways.{Way, way, path-moved, size-moved}
+use Rattle.limits.proofs.ListLaws.{good-event, answer-identity, start-identity, same-comes, same-numbered, taken-opens, short-opens, one-cut, earlier, at-start, Later, later, agrees, few, comes-either, comes-no, comes-few, comes-opening, seen-kept, fine-kept, event-ended, no-opening, start-goes-on, answer-goes-on}
 
 -- a rest that a move called for has brought is no end 24
 halts-move : {a : Called} {r : Rest} → Halts a r → callsOne a ≡ 1 → r ≡ ended LimitReached 0 [] → ⊥
@@ -199,7 +210,7 @@ gets : (l : ℕ) (h : Held) (s : Start) (cs : Calls) (a : Answer) → run l h s 
 unfolding run
 gets l h s cs a = refl
 
-first-zero : {l : ℕ} {h : Held} {s : Start} {p : Opening} {n : ℕ} → Comes h s l start p n → n ≡ 0
+first-zero : {h : Held} {s : Start} {p : Opening} {n : ℕ} → Comes h s start p n → n ≡ 0
 first-zero to-start = refl
 
 question-halts : {q : Question} {r : Rest} → Halts (asks q) r → (r ≡ ended TooLong 0 []) ⊎ (r ≡ waits q)
@@ -230,21 +241,41 @@ is-a-move {t} {clock} {boot} {ms} {w} {r} p x e f =
     let z = first-replaced p (x .made) (x .halts) e f in
     (z .0 ++ lastMove (t .caches) boot w r, x .moves ∙ ap (λ (l : List Move). l ++ lastMove (t .caches) boot w r) (z .1))
 
+order-of : (u : Unlimited) (a : Answer) (t : Turn) → answerOpening u a ≡ opens t → (inOrder referrals (u .refs) && inOrder domains (u .doms)) ≡ true
+unfolding answerOpening
+order-of u a t e = go (told (inOrder referrals (u .refs) && inOrder domains (u .doms)))
+  where
+    go : ((inOrder referrals (u .refs) && inOrder domains (u .doms)) ≡ true) ⊎ ((inOrder referrals (u .refs) && inOrder domains (u .doms)) ≡ false)
+        → (inOrder referrals (u .refs) && inOrder domains (u .doms)) ≡ true
+    go (inl o) = o
+    go (inr o) = absurd (not-refused t (sym e ∙ choose-no _ _ o))
+
+-- an end has no request
+no-request : (w : Core) (r : Rest) (out : List ℕ) {e : End} {status : ℕ} {tried : List ℕ} → r ≡ ended e status tried → withRequest (requestName w r) out ≡ out
+unfolding requestName withRequest
+no-request w r out h = ap (λ (x : Rest). withRequest (requestName w x) out) h
+
+-- what a call that is taken leaves stands
+answered-stands : (o : Answered) (a : Answer) → AnswerStands (answered o a)
+unfolding answered
+answered-stands o (referral status reply clock out) = referral-stands (o .refs) (o .doms) (o .left .texts) (o .left .walk) status reply clock out
+answered-stands o (io status clock out) = io-stands (o .refs) (o .doms) (o .left .texts) (o .left .walk) status clock out
+
 -- one limit
 module _ (l : ℕ) (good : goodLimit l ≡ true) (h : Held) (s : Start) where
-  to-list : {cs : Calls} {p : Opening} {n : ℕ} {ms : List Made} → Comes h s l cs p n → Moved l (clockOf s cs) (s .boot) n (run l h s cs) p ms → MovesOf l h s cs ms
+  to-list : {cs : Calls} {p : Opening} {n : ℕ} {ms : List Made} → Meets h s l cs p n → Moved l (clockOf s cs) (s .boot) n (run l h s cs) p ms → MovesOf l h s cs ms
   to-list {cs} {p} {n} {ms} c m =
       let e = comes-opening l good h s c in
       subst (λ (q : Opening). Moved l (clockOf s cs) (s .boot) (before l h s cs) (run l h s cs) q ms) (e .0)
       (subst (λ (k : ℕ). Moved l (clockOf s cs) (s .boot) k (run l h s cs) p ms) (e .1) m)
 
-  same-list : {cs : Calls} {p : Opening} {n : ℕ} {b : Brings} → Comes h s l cs p n → Same l (clockOf s cs) (s .boot) (outOf s cs) n (run l h s cs) p b → SameIn l h s cs b
+  same-list : {cs : Calls} {p : Opening} {n : ℕ} {b : Brings} → Meets h s l cs p n → Same l (clockOf s cs) (s .boot) (outOf s cs) n (run l h s cs) p b → SameIn l h s cs b
   same-list {cs} {p} {n} {b} c m =
       let e = comes-opening l good h s c in
       subst (λ (q : Opening). Same l (clockOf s cs) (s .boot) (outOf s cs) (before l h s cs) (run l h s cs) q b) (e .0)
       (subst (λ (k : ℕ). Same l (clockOf s cs) (s .boot) (outOf s cs) k (run l h s cs) p b) (e .1) m)
 
-  until : {cs : Calls} {p : Opening} {n : ℕ} → Comes h s l cs p n → (CallsFor p (clockOf s cs) n (suc l) → ⊥)
+  until : {cs : Calls} {p : Opening} {n : ℕ} → Meets h s l cs p n → (CallsFor p (clockOf s cs) n (suc l) → ⊥)
       → (b : Brings) × (Call (clockOf s cs) (s .boot) (outOf s cs) n p b × SameIn l h s cs b)
   until {cs} {p} {n} c nc = go (comes-either l good h s c)
     where
@@ -252,7 +283,7 @@ module _ (l : ℕ) (good : goodLimit l ≡ true) (h : Held) (s : Start) where
       go (inl f) = (f .brings, (f .call, same-list c (f .same)))
       go (inr k) = absurd (nc (k .calls))
 
-  cut : {cs : Calls} {p : Opening} {n : ℕ} → Comes h s l cs p n → (k : CallsFor p (clockOf s cs) n (suc l))
+  cut : {cs : Calls} {p : Opening} {n : ℕ} → Meets h s l cs p n → (k : CallsFor p (clockOf s cs) n (suc l))
       → (run l h s cs .left .verdict ≡ Taken) × ((seen (run l h s cs) ≡ restsAt (k .turn .caches) (k .core) (ended LimitReached 0 []) l)
       × MovesOf l h s cs (madeIn (k .turn .caches) (k .moves)))
   cut {cs} {p} {n} c k = go (comes-either l good h s c)
@@ -296,33 +327,33 @@ module _ (l : ℕ) (good : goodLimit l ≡ true) (h : Held) (s : Start) where
       let n = dead-call cs a d .0 in
       record { fine = fine-kept l (s .boot) (run l h s cs) a n (d .fine); over = ap (λ (u : Unlimited). u .rest) (seen-kept (run l h s cs) a n) ∙ d .over }
 
-  dead-start : CutOff l (s .clock) (s .boot) 0 (run l h s start) (startOpening h s) → Dead start
+  dead-start : CutOff l (s .clock) (s .boot) (s .out) 0 (run l h s start) (startOpening h s) → Dead start
   unfolding restsAt
   dead-start k = record { fine = k .fine; over = ap (λ (u : Unlimited). u .rest) (k .sees) }
 
-  dead-cut : (cs : Calls) (u : Unlimited) (a : Answer) → CutOff l (answerClock a) (s .boot) (u .count) (answered (run l h s cs) a) (answerOpening u a) → Dead (then cs a)
+  dead-cut : (cs : Calls) (u : Unlimited) (a : Answer) → CutOff l (answerClock a) (s .boot) (answerOut a) (u .count) (answered (run l h s cs) a) (answerOpening u a) → Dead (then cs a)
   unfolding restsAt run
   dead-cut cs u a k = record { fine = k .fine; over = ap (λ (v : Unlimited). v .rest) (k .sees) }
 
   begun : (b : Brings) → Call (s .clock) (s .boot) (s .out) 0 (startOpening h s) b → Same l (s .clock) (s .boot) (s .out) 0 (run l h s start) (startOpening h s) b
-      → (CallsFor (startOpening h s) (s .clock) 0 (suc l) → ⊥) → run l h s start .left .verdict ≡ Taken → (u : Unlimited) × Follows h s l start u
+      → (CallsFor (startOpening h s) (s .clock) 0 (suc l) → ⊥) → run l h s start .left .verdict ≡ Taken → (u : Unlimited) × Tracks h s l start u
   begun (number v) c m nc e =
       let z = same-numbered m in absurd (z .1 .0 (sym (z .0) ∙ e))
-  begun (comes ms u) c m nc e = (u, begins nc c)
+  begun (comes ms u) c m nc e = (u, tracks-start nc c)
 
-  next : (cs : Calls) (u : Unlimited) (a : Answer) → Follows h s l cs u → (b : Brings) → Call (answerClock a) (s .boot) (answerOut a) (u .count) (answerOpening u a) b
-      → (CallsFor (answerOpening u a) (answerClock a) (u .count) (suc l) → ⊥) → (v : Unlimited) × Follows h s l (then cs a) v
-  next cs u a f (number v) c nc = (u, is-refused f nc c)
-  next cs u a f (comes ms v) c nc = (v, is-taken f nc c)
+  next : (cs : Calls) (u : Unlimited) (a : Answer) → Tracks h s l cs u → (b : Brings) → Call (answerClock a) (s .boot) (answerOut a) (u .count) (answerOpening u a) b
+      → (CallsFor (answerOpening u a) (answerClock a) (u .count) (suc l) → ⊥) → (v : Unlimited) × Tracks h s l (then cs a) v
+  next cs u a f (number v) c nc = (u, tracks-refused f nc c)
+  next cs u a f (comes ms v) c nc = (v, tracks-taken f nc c)
 
   abbrev Alive : Calls → Type 0
-  Alive cs = ((u : Unlimited) × Follows h s l cs u) ⊎ Dead cs
+  Alive cs = ((u : Unlimited) × Tracks h s l cs u) ⊎ Dead cs
 
   alive-start : run l h s start .left .verdict ≡ Taken → Either l (s .clock) (s .boot) (s .out) 0 (run l h s start) (startOpening h s) → Alive start
   alive-start e (inl f) = inl (begun (f .brings) (f .call) (f .same) (never-both (f .within)) e)
   alive-start e (inr k) = inr (dead-start k)
 
-  alive-next : (cs : Calls) (u : Unlimited) (a : Answer) → Follows h s l cs u → Later l good h s cs u a → Alive (then cs a)
+  alive-next : (cs : Calls) (u : Unlimited) (a : Answer) → Tracks h s l cs u → Later l good h s cs u a → Alive (then cs a)
   alive-next cs u a f (inl g) = inl (next cs u a f (g .brings) (g .call) (never-both (g .within)))
   alive-next cs u a f (inr k) = inr (dead-cut cs u a k)
 
@@ -334,19 +365,55 @@ module _ (l : ℕ) (good : goodLimit l ≡ true) (h : Held) (s : Start) where
   alive e start = alive-start e (at-start l good h s)
   alive e (then cs a) = alive-then cs a (alive e cs)
 
+  -- the walk holds its limit and its bootstrap DC
+  fine-after : (cs : Calls) → run l h s start .left .verdict ≡ Taken → Fine l (s .boot) (run l h s cs)
+  fine-after cs e = go (alive e cs)
+    where
+      go : Alive cs → Fine l (s .boot) (run l h s cs)
+      go (inl f) = agrees l good h s (f .1) .fine
+      go (inr d) = d .fine
+
+  -- the caches of the turn are those that the call leaves
+  sizeBefore : Calls → ℕ
+  sizeBefore start = s .size
+  sizeBefore (then cs a) = seen (run l h s cs) .core .size
+
+  turn-caches : (cs : Calls) (t : Turn) → InList l h s cs → opening l h s cs ≡ opens t → seen (run l h s cs) .refs ≡ encode referrals (t .caches .referrals)
+      → seen (run l h s cs) .doms ≡ encode domains (t .caches .domains) → t .caches ≡ cachesOf (run l h s cs .refs) (run l h s cs .doms)
+  unfolding opening run seen
+  turn-caches start t i e er ed =
+      sym (ap (λ (x : Turn). x .caches) (start-goes-on h s t e)) ∙ started-caches (cachesOf (h .refs) (h .doms)) (coreOf (normalised (s .path)) (s .size) false) (s .clock)
+  turn-caches (then cs a) t (an-answer b) e er ed =
+      let g = good-event (run l h s cs) a t (order-of (seen (run l h s cs)) a t e) (fine-after cs b .form) (answer-goes-on (seen (run l h s cs)) a t e) in
+      sym (caches-back (t .caches) (g .caches)) ∙ (λ j. cachesOf (sym er j) (sym ed j))
+
+  -- its event keeps the path and the size
+  turn-core : (cs : Calls) (t : Turn) → opening l h s cs ≡ opens t → (t .core .path ≡ pathBefore l h s cs) × (t .core .size ≡ sizeBefore cs)
+  unfolding opening pathBefore sizeBefore
+  turn-core start t e =
+      let k = subst (λ (x : Turn). SameCore (coreOf (normalised (s .path)) (s .size) false) (x .core)) (start-goes-on h s t e)
+      (started-same (cachesOf (h .refs) (h .doms)) (coreOf (normalised (s .path)) (s .size) false) (s .clock)) in (k .path, k .size)
+  turn-core (then cs a) t e =
+      let k = event-same (seen (run l h s cs)) a t (answer-goes-on (seen (run l h s cs)) a t e) in (k .path, k .size)
+
+  stands : (cs : Calls) → run l h s cs .left .verdict ≡ Taken → Stands (run l h s cs .refs) (run l h s cs .doms) (run l h s cs .left .walk) (run l h s cs .left .texts)
+  unfolding run StartStands AnswerStands refusalNumber
+  stands start v = start-stands (h .refs) (h .doms) (h .texts) (h .walk) (s .path) (s .boot) l (s .size) (s .clock) (s .out) (ap refusalNumber v)
+  stands (then cs a) v = answered-stands (run l h s cs) a (ap refusalNumber v)
+
   -- the unlimited walk comes to every call, unless one before it called for a move over the limit
   abbrev Somewhere : Calls → Type 0
-  Somewhere cs = ((u : Unlimited) × Follows h s l cs u) ⊎ CutBy l h s cs
+  Somewhere cs = ((u : Unlimited) × Tracks h s l cs u) ⊎ CutBy l h s cs
 
   first-somewhere : run l h s start .left .verdict ≡ Taken → Either l (s .clock) (s .boot) (s .out) 0 (run l h s start) (startOpening h s) → Somewhere start
   unfolding clockOf
   first-somewhere e (inl f) = inl (begun (f .brings) (f .call) (f .same) (never-both (f .within)) e)
   first-somewhere e (inr k) = inr (in-it to-start (k .calls))
 
-  next-somewhere : (cs : Calls) (u : Unlimited) (a : Answer) → Follows h s l cs u → Later l good h s cs u a → Somewhere (then cs a)
+  next-somewhere : (cs : Calls) (u : Unlimited) (a : Answer) → Tracks h s l cs u → Later l good h s cs u a → Somewhere (then cs a)
   unfolding clockOf
   next-somewhere cs u a f (inl g) = inl (next cs u a f (g .brings) (g .call) (never-both (g .within)))
-  next-somewhere cs u a f (inr k) = inr (in-it (to-answer f) (k .calls))
+  next-somewhere cs u a f (inr k) = inr (in-it (to-answer (tracks-follows f)) (k .calls))
 
   then-somewhere : (cs : Calls) (a : Answer) → Somewhere cs → Somewhere (then cs a)
   then-somewhere cs a (inl f) = next-somewhere cs (f .0) a (f .1) (later l good h s cs (f .0) a (agrees l good h s (f .1)))
@@ -356,30 +423,37 @@ module _ (l : ℕ) (good : goodLimit l ≡ true) (h : Held) (s : Start) where
   somewhere e start = first-somewhere e (at-start l good h s)
   somewhere e (then cs a) = then-somewhere cs a (somewhere e cs)
 
+  every-call : run l h s start .left .verdict ≡ Taken → (cs : Calls) → ((u : Unlimited) × (Follows h s cs u × (CutBy l h s cs → ⊥))) ⊎ CutBy l h s cs
+  every-call e cs = go (somewhere e cs)
+    where
+      go : Somewhere cs → ((u : Unlimited) × (Follows h s cs u × (CutBy l h s cs → ⊥))) ⊎ CutBy l h s cs
+      go (inl f) = inl (f .0, (tracks-follows (f .1), tracks-uncut (f .1)))
+      go (inr k) = inr k
+
   -- the unlimited walk comes to the last call of a list, or the walk was cut before it
   abbrev ComesTo : Calls → Type 0
-  ComesTo cs = ((p : Opening) × ((n : ℕ) × Comes h s l cs p n)) ⊎ ((run l h s cs .left .verdict ≡ Taken → ⊥) × (run l h s cs .left .verdict ≡ ShortBuffer → ⊥))
+  ComesTo cs = ((p : Opening) × ((n : ℕ) × Meets h s l cs p n)) ⊎ ((run l h s cs .left .verdict ≡ Taken → ⊥) × (run l h s cs .left .verdict ≡ ShortBuffer → ⊥))
 
   comes-then : (cs : Calls) (a : Answer) → Alive cs → ComesTo (then cs a)
-  comes-then cs a (inl f) = inl (answerOpening (f .0) a, (f .0 .count, to-answer (f .1)))
+  comes-then cs a (inl f) = inl (answerOpening (f .0) a, (f .0 .count, meets-answer (f .1)))
   comes-then cs a (inr d) = inr (dead-call cs a d)
 
   comes-to : (cs : Calls) → InList l h s cs → ComesTo cs
-  comes-to cs the-start = inl (startOpening h s, (0, to-start))
+  comes-to cs the-start = inl (startOpening h s, (0, meets-start))
   comes-to cs (an-answer {cs = ds} {a = a} e) = comes-then ds a (alive e ds)
 
   ten-then : (cs : Calls) → InList l h s cs → run l h s cs .left .verdict ≡ ShortBuffer → TooShort l h s cs
   ten-then cs i e = go (comes-to cs i)
     where
-      tell : {p : Opening} {n : ℕ} → Comes h s l cs p n → Either l (clockOf s cs) (s .boot) (outOf s cs) n (run l h s cs) p → TooShort l h s cs
+      tell : {p : Opening} {n : ℕ} → Meets h s l cs p n → Either l (clockOf s cs) (s .boot) (outOf s cs) n (run l h s cs) p → TooShort l h s cs
       tell c (inr k) = absurd (short-not e (k .is-taken))
       tell {p} {n} c (inl f) =
           let z = ten-call (f .call) (f .same) (f .early) e in
           record {
             opening = p;
             count = n;
-            comes-to = c;
-            within = never-both (f .within);
+            comes-to = meets-comes c;
+            uncut = meets-none c (never-both (f .within));
             turn = z .turn;
             opened = z .opened;
             moves = z .moves;
@@ -398,7 +472,7 @@ module _ (l : ℕ) (good : goodLimit l ≡ true) (h : Held) (s : Start) where
   ten-only : (cs : Calls) → TooShort l h s cs → run l h s cs .left .verdict ≡ ShortBuffer
   unfolding nameFits
   ten-only cs x =
-      let u = until (x .comes-to) (x .within) in
+      let u = until (meets (x .comes-to) (λ k. x .uncut (earlier-cut k))) (λ k. x .uncut (in-it (x .comes-to) k)) in
       let f : nameFits (length (outOf s cs)) (requestName (x .core) (waits (x .question))) ≡ false =
       ap (nameFits (length (outOf s cs))) (x .named) ∙ lt-leb (length (request (x .name))) (length (outOf s cs)) (x .long) in
       let c : Call (clockOf s cs) (s .boot) (outOf s cs) (x .count) (x .opening) (number ShortBuffer) =
@@ -413,7 +487,7 @@ module _ (l : ℕ) (good : goodLimit l ≡ true) (h : Held) (s : Start) where
       shown (same-number e f m) = ([], m)
       shown (same-rest {ms = ms} v e w m) = (ms, m)
 
-      tell : {p : Opening} {n : ℕ} → Comes h s l cs p n → Either l (clockOf s cs) (s .boot) (outOf s cs) n (run l h s cs) p → (ms : List Made) × MovesOf l h s cs ms
+      tell : {p : Opening} {n : ℕ} → Meets h s l cs p n → Either l (clockOf s cs) (s .boot) (outOf s cs) n (run l h s cs) p → (ms : List Made) × MovesOf l h s cs ms
       tell c (inl f) =
           let z = shown (f .same) in (z .0, to-list c (z .1))
       tell c (inr k) = (madeIn (k .calls .turn .caches) (k .calls .moves), to-list c (k .moves))
@@ -421,6 +495,64 @@ module _ (l : ℕ) (good : goodLimit l ≡ true) (h : Held) (s : Start) where
       go : ComesTo cs → (ms : List Made) × MovesOf l h s cs ms
       go (inl c) = tell (c .1 .1) (comes-either l good h s (c .1 .1))
       go (inr d) = ([], no-move (d .0))
+
+  taken-boot : (cs : Calls) → InList l h s cs → run l h s cs .left .verdict ≡ Taken → bootIn (run l h s cs .left .walk) (run l h s cs .left .texts) ≡ s .boot
+  taken-boot start i v = fine-after start v .boot-is
+  taken-boot (then cs a) (an-answer b) v = fine-after (then cs a) b .boot-is
+
+  caches-after : (cs : Calls) {ms : List Made} → InList l h s cs → run l h s cs .left .verdict ≡ Taken → MovesOf l h s cs ms
+      → (moves : List Move) × (ms ≡ map (λ m. record { move = m; caches = cachesOf (run l h s cs .refs) (run l h s cs .doms) }) moves)
+  unfolding madeIn
+  caches-after cs i v m =
+      let z = way m v in
+      let moves = z .replacements ++ lastMove (z .turn .caches) (s .boot) (seen (run l h s cs) .core) (seen (run l h s cs) .rest) in
+      (moves, z .list ∙ ap (λ (c : Caches). madeIn c moves) (turn-caches cs (z .turn) i (z .opened) (z .refs-are) (z .doms-are)))
+
+  last-shown : (cs : Calls) {ms : List Made} {q : Question} → InList l h s cs → run l h s cs .left .verdict ≡ Taken → seen (run l h s cs) .rest ≡ waits q → MovesOf l h s cs ms
+      → (first : List Made) × (ms ≡ first ++ (record { move = shownMove (run l h s cs) q; caches = cachesOf (run l h s cs .refs) (run l h s cs .doms) } ∷ []))
+  unfolding shownMove seen lastMove questionShown partyText madeIn
+  last-shown cs {ms} {q} i v e m =
+      let z = way m v in
+      let w = coreIn (run l h s cs .left .walk) (run l h s cs .left .texts) in
+      let c = turn-caches cs (z .turn) i (z .opened) (z .refs-are) (z .doms-are) in
+      let b = taken-boot cs i v in
+      let t = stands cs v .there q e in
+      let party : partyOf (z .turn .caches) w (s .boot) q
+      ≡ partyText (cachesOf (run l h s cs .refs) (run l h s cs .doms)) w (bootIn (run l h s cs .left .walk) (run l h s cs .left .texts)) q =
+      (λ j. partyOf (c j) w (sym b j) q) ∙ sym (choose-yes _ _ t) in (
+        madeIn (z .turn .caches) (z .replacements),
+        z .list
+            ∙ ((λ j. madeIn (z .turn .caches) (z .replacements ++ lastMove (z .turn .caches) (s .boot) w (e j)))
+            ∙ (made-more (z .turn .caches) (z .replacements) (lastMove (z .turn .caches) (s .boot) w (waits q))
+            ∙ (λ j. madeIn (z .turn .caches) (z .replacements) ++ (record { move = question (q .kind) (q .party) (party j) (nameAsked w q) (q .size); caches = c j } ∷ [])))),
+      )
+
+  path-left : (cs : Calls) {ms : List Made} → InList l h s cs → run l h s cs .left .verdict ≡ Taken → MovesOf l h s cs ms
+      → seen (run l h s cs) .core .path ≡ pathAfter (pathBefore l h s cs) ms
+  path-left cs {ms} i v m =
+      let z = way m v in
+      path-moved z ∙ ap (λ (p : List ℕ). pathAfter p ms) (turn-core cs (z .turn) (z .opened) .0)
+
+  -- the size stays what the start was given
+  size-left : (cs : Calls) → InList l h s cs → run l h s cs .left .verdict ≡ Taken → seen (run l h s cs) .core .size ≡ sizeBefore cs
+  size-left cs i v =
+      let z = way (moves-of cs i .1) v in
+      size-moved z ∙ turn-core cs (z .turn) (z .opened) .1
+
+  size-kept : (cs : Calls) → run l h s start .left .verdict ≡ Taken → seen (run l h s cs) .core .size ≡ s .size
+  unfolding sizeBefore run
+  size-kept start e = size-left start the-start e
+  size-kept (then cs a) e = go (taken-or-not (run l h s (then cs a) .left .verdict)) (size-kept cs e)
+    where
+      go : (run l h s (then cs a) .left .verdict ≡ Taken) ⊎ (run l h s (then cs a) .left .verdict ≡ Taken → ⊥) → seen (run l h s cs) .core .size ≡ s .size
+          → seen (run l h s (then cs a)) .core .size ≡ s .size
+      go (inl v) f = size-left (then cs a) (an-answer e) v ∙ f
+      go (inr n) f = ap (λ (u : Unlimited). u .core .size) (seen-kept (run l h s cs) a n) ∙ f
+
+  settings-kept : (cs : Calls) → run l h s start .left .verdict ≡ Taken
+      → (run l h s cs .left .walk .limit ≡ l) × ((run l h s cs .left .walk .size ≡ s .size) × (bootIn (run l h s cs .left .walk) (run l h s cs .left .texts) ≡ s .boot))
+  unfolding seen coreIn
+  settings-kept cs e = let f = fine-after cs e in (f .limit, (size-kept cs e, f .boot-is))
 
   start-kept : (run l h s start .left .verdict ≡ Taken → ⊥)
       → (run l h s start .left .walk ≡ h .walk) × ((run l h s start .left .texts ≡ h .texts) × (run l h s start .left .out ≡ s .out))
@@ -440,24 +572,54 @@ module _ (l : ℕ) (good : goodLimit l ≡ true) (h : Held) (s : Start) where
       )
 
   -- the last call of a list that the unlimited walk has followed
-  last-call : {cs : Calls} {u : Unlimited} → Follows h s l cs u → (p : Opening) × ((n : ℕ) × (Comes h s l cs p n × (CallsFor p (clockOf s cs) n (suc l) → ⊥)))
+  last-call : {cs : Calls} {u : Unlimited} → Tracks h s l cs u → (p : Opening) × ((n : ℕ) × (Meets h s l cs p n × (CallsFor p (clockOf s cs) n (suc l) → ⊥)))
   unfolding clockOf
-  last-call (begins nc c) = (startOpening h s, (0, (to-start, nc)))
-  last-call (is-refused {u = u} {a = a} f nc c) = (answerOpening u a, (u .count, (to-answer f, nc)))
-  last-call (is-taken {u = u} {a = a} f nc c) = (answerOpening u a, (u .count, (to-answer f, nc)))
+  last-call (tracks-start nc c) = (startOpening h s, (0, (meets-start, nc)))
+  last-call (tracks-refused {u = u} {a = a} f nc c) = (answerOpening u a, (u .count, (meets-answer f, nc)))
+  last-call (tracks-taken {u = u} {a = a} f nc c) = (answerOpening u a, (u .count, (meets-answer f, nc)))
 
   reached : (cs : Calls) → InList l h s cs → EndsIn l h s cs LimitReached
-      → (p : Opening) × ((n : ℕ) × (Comes h s l cs p n × CallsFor p (clockOf s cs) n (suc l)))
+      → (p : Opening) × ((n : ℕ) × (Meets h s l cs p n × CallsFor p (clockOf s cs) n (suc l)))
   reached cs i e = go (comes-to cs i)
     where
-      tell : (p : Opening) (n : ℕ) → Comes h s l cs p n → Either l (clockOf s cs) (s .boot) (outOf s cs) n (run l h s cs) p
-          → (q : Opening) × ((k : ℕ) × (Comes h s l cs q k × CallsFor q (clockOf s cs) k (suc l)))
+      tell : (p : Opening) (n : ℕ) → Meets h s l cs p n → Either l (clockOf s cs) (s .boot) (outOf s cs) n (run l h s cs) p
+          → (q : Opening) × ((k : ℕ) × (Meets h s l cs q k × CallsFor q (clockOf s cs) k (suc l)))
       tell p n c (inl f) = absurd (never-24 (f .call) (f .same) (comes-no l good h s c) (e .0) (e .1 .1 .1))
       tell p n c (inr k) = (p, (n, (c, k .calls)))
 
-      go : ComesTo cs → (p : Opening) × ((n : ℕ) × (Comes h s l cs p n × CallsFor p (clockOf s cs) n (suc l)))
+      go : ComesTo cs → (p : Opening) × ((n : ℕ) × (Meets h s l cs p n × CallsFor p (clockOf s cs) n (suc l)))
       go (inl c) = tell (c .0) (c .1 .0) (c .1 .1) (comes-either l good h s (c .1 .1))
       go (inr d) = absurd (d .0 (e .0))
+
+  reached-then : (cs : Calls) → InList l h s cs → EndsIn l h s cs LimitReached
+      → (p : Opening) × ((n : ℕ) × (Comes h s cs p n × ((CutBefore l h s cs → ⊥) × CallsFor p (clockOf s cs) n (suc l))))
+  reached-then cs i e =
+      let c = reached cs i e in (c .0, (c .1 .0, (meets-comes (c .1 .1 .0), (meets-uncut (c .1 .1 .0), c .1 .1 .1))))
+
+  -- the buffer stays where a call is refused, and where the walk ends in it
+  out-refused : (cs : Calls) → (run l h s cs .left .verdict ≡ Taken → ⊥) → run l h s cs .left .out ≡ outOf s cs
+  unfolding outOf
+  out-refused start n = start-kept n .1 .1
+  out-refused (then cs a) n = answer-kept cs a n .1 .1 .1 .1
+
+  out-ended : (cs : Calls) {e : End} → InList l h s cs → EndsIn l h s cs e → run l h s cs .left .out ≡ outOf s cs
+  out-ended cs {e} i x = go (comes-to cs i)
+    where
+      shown : {p : Opening} {n : ℕ} {b : Brings} → Same l (clockOf s cs) (s .boot) (outOf s cs) n (run l h s cs) p b → run l h s cs .left .out ≡ outOf s cs
+      shown (same-number v f m) = absurd (f (sym v ∙ x .0))
+      shown (same-rest {u = u} v f w m) = w ∙ no-request (u .core) (u .rest) (outOf s cs) (ap (λ (y : Unlimited). y .rest) (sym f) ∙ x .1 .1 .1)
+
+      tell : {p : Opening} {n : ℕ} → Either l (clockOf s cs) (s .boot) (outOf s cs) n (run l h s cs) p → run l h s cs .left .out ≡ outOf s cs
+      tell (inl f) = shown (f .same)
+      tell (inr k) = k .writes
+
+      go : ComesTo cs → run l h s cs .left .out ≡ outOf s cs
+      go (inl c) = tell (comes-either l good h s (c .1 .1))
+      go (inr d) = absurd (d .0 (x .0))
+
+  buffer-stays : (cs : Calls) → InList l h s cs → (run l h s cs .left .verdict ≡ Taken → ⊥) ⊎ ((e : End) × EndsIn l h s cs e) → run l h s cs .left .out ≡ outOf s cs
+  buffer-stays cs i (inl n) = out-refused cs n
+  buffer-stays cs i (inr x) = out-ended cs i (x .1)
 
 cut-end : (u : Unlimited) (c : Caches) (w : Core) (l : ℕ) {e : End} {status : ℕ} {tried : List ℕ} → u ≡ restsAt c w (ended LimitReached 0 []) l
     → u .rest ≡ ended e status tried → e ≡ LimitReached
@@ -467,14 +629,14 @@ cut-end u c w l a b =
 
 -- two limits
 module _ (l m : ℕ) (low : goodLimit l ≡ true) (high : goodLimit m ≡ true) (le : l ≤ m) (h : Held) (s : Start) where
-  further : {cs : Calls} {u : Unlimited} → Follows h s l cs u → Follows h s m cs u
-  further (begins nc c) = begins (λ k. nc (earlier (omega arith) le k)) c
-  further (is-refused f nc c) = is-refused (further f) (λ k. nc (earlier (few l low h s f) le k)) c
-  further (is-taken f nc c) = is-taken (further f) (λ k. nc (earlier (few l low h s f) le k)) c
+  further : {cs : Calls} {u : Unlimited} → Tracks h s l cs u → Tracks h s m cs u
+  further (tracks-start nc c) = tracks-start (λ k. nc (earlier (omega arith) le k)) c
+  further (tracks-refused f nc c) = tracks-refused (further f) (λ k. nc (earlier (few l low h s f) le k)) c
+  further (tracks-taken f nc c) = tracks-taken (further f) (λ k. nc (earlier (few l low h s f) le k)) c
 
-  comes-further : {cs : Calls} {p : Opening} {n : ℕ} → Comes h s l cs p n → Comes h s m cs p n
-  comes-further to-start = to-start
-  comes-further (to-answer f) = to-answer (further f)
+  comes-further : {cs : Calls} {p : Opening} {n : ℕ} → Meets h s l cs p n → Meets h s m cs p n
+  comes-further meets-start = meets-start
+  comes-further (meets-answer f) = meets-answer (further f)
 
   -- a call in which neither is cut
   record Alike (cs : Calls) : Type 0 where
@@ -491,7 +653,7 @@ module _ (l m : ℕ) (low : goodLimit l ≡ true) (high : goodLimit m ≡ true) 
   both cs (same-rest {ms = ms} a f u x) (same-rest b g v y) =
       record { verdict = b ∙ sym a; moves = ms; low-moves = x; high-moves = y; sees = λ e. g ∙ sym f; writes = λ e. v ∙ sym u }
 
-  alike : (cs : Calls) {p : Opening} {n : ℕ} → Comes h s l cs p n → (CallsFor p (clockOf s cs) n (suc l) → ⊥) → Alike cs
+  alike : (cs : Calls) {p : Opening} {n : ℕ} → Meets h s l cs p n → (CallsFor p (clockOf s cs) n (suc l) → ⊥) → Alike cs
   alike cs c nc =
       let x = until l low h s c nc in
       let y = until m high h s (comes-further c) (λ k. nc (earlier (comes-few l low h s c) le k)) in
@@ -507,7 +669,7 @@ module _ (l m : ℕ) (low : goodLimit l ≡ true) (high : goodLimit m ≡ true) 
   start-refused n = go (at-start l low h s)
     where
       go : Either l (s .clock) (s .boot) (s .out) 0 (run l h s start) (startOpening h s) → run m h s start ≡ run l h s start
-      go (inl f) = start-alike (alike start to-start (never-both (f .within))) n
+      go (inl f) = start-alike (alike start meets-start (never-both (f .within))) n
       go (inr k) = absurd (n (k .is-taken))
 
   -- what is in the buffer where a call is refused
@@ -550,7 +712,7 @@ module _ (l m : ℕ) (low : goodLimit l ≡ true) (high : goodLimit m ≡ true) 
           × ((ms : List Made) × (MovesOf l h s cs ms × MovesOf m h s cs ms)))
       told-of a = (a .verdict ∙ x .0, (a .sees (x .0), (a .moves, (a .low-moves, a .high-moves))))
 
-      tell : {p : Opening} {k : ℕ} → Comes h s l cs p k → Either l (clockOf s cs) (s .boot) (outOf s cs) k (run l h s cs) p
+      tell : {p : Opening} {k : ℕ} → Meets h s l cs p k → Either l (clockOf s cs) (s .boot) (outOf s cs) k (run l h s cs) p
           → (run m h s cs .left .verdict ≡ Taken) × ((seen (run m h s cs) ≡ seen (run l h s cs))
           × ((ms : List Made) × (MovesOf l h s cs ms × MovesOf m h s cs ms)))
       tell c (inl f) = told-of (alike cs c (never-both (f .within)))
@@ -569,22 +731,22 @@ module _ (l m : ℕ) (low : goodLimit l ≡ true) (high : goodLimit m ≡ true) 
   first-the-same : (cs : Calls) → InList l h s cs → EndsIn l h s cs LimitReached → FirstTheSame cs
   first-the-same cs i x = go (reached l low h s cs i x)
     where
-      long : {p : Opening} {n : ℕ} → Comes h s m cs p n → {ms ns : List Made} → MovesOf l h s cs ms → Begins ms ns → Moved m (clockOf s cs) (s .boot) n (run m h s cs) p ns
+      long : {p : Opening} {n : ℕ} → Meets h s m cs p n → {ms ns : List Made} → MovesOf l h s cs ms → Begins ms ns → Moved m (clockOf s cs) (s .boot) n (run m h s cs) p ns
           → FirstTheSame cs
       long c {ms} {ns} a b y = inr (ms, (b .more, (a, subst (MovesOf m h s cs) (b .is) (to-list m high h s c y))))
 
-      begun-with : {p : Opening} {n : ℕ} → Comes h s m cs p n → (k : CallsFor p (clockOf s cs) n (suc l)) → MovesOf l h s cs (madeIn (k .turn .caches) (k .moves))
+      begun-with : {p : Opening} {n : ℕ} → Meets h s m cs p n → (k : CallsFor p (clockOf s cs) n (suc l)) → MovesOf l h s cs (madeIn (k .turn .caches) (k .moves))
           → (run m h s cs .left .verdict ≡ ShortBuffer)
           ⊎ ((ns : List Made) × (Begins (madeIn (k .turn .caches) (k .moves)) ns × Moved m (clockOf s cs) (s .boot) n (run m h s cs) p ns)) → FirstTheSame cs
       begun-with c k a (inl e) = inl e
       begun-with c k a (inr z) = long c a (z .1 .0) (z .1 .1)
 
-      tell : {p : Opening} {n : ℕ} → Comes h s m cs p n → (k : CallsFor p (clockOf s cs) n (suc l)) → MovesOf l h s cs (madeIn (k .turn .caches) (k .moves))
+      tell : {p : Opening} {n : ℕ} → Meets h s m cs p n → (k : CallsFor p (clockOf s cs) n (suc l)) → MovesOf l h s cs (madeIn (k .turn .caches) (k .moves))
           → Either m (clockOf s cs) (s .boot) (outOf s cs) n (run m h s cs) p → FirstTheSame cs
       tell c k a (inl f) = begun-with c k a (longer-call (f .call) (f .same) k)
       tell c k a (inr f) = long c a (longer-cut le k (f .calls)) (f .moves)
 
-      go : (p : Opening) × ((n : ℕ) × (Comes h s l cs p n × CallsFor p (clockOf s cs) n (suc l))) → FirstTheSame cs
+      go : (p : Opening) × ((n : ℕ) × (Meets h s l cs p n × CallsFor p (clockOf s cs) n (suc l))) → FirstTheSame cs
       go c =
           let d = c .1 .1 .0 in
           let k = c .1 .1 .1 in
@@ -602,8 +764,10 @@ limit-only-cuts h s l m a b c =
     record {
       each-gets = gets l h s;
       start-ends = started-list;
-      every-call = λ cs e. somewhere l low h s e cs;
-      without-limit = further l m low high b h s;
+      every-call = λ cs e. every-call l low h s e cs;
+      one-unlimited = one-unlimited;
+      as-far = λ f n. tracks-uncut (further l m low high b h s (tracks f n));
+      settings-kept = settings-kept l low h s;
       one-walk = one-walk;
       rests-or-calls = rests-or-calls l;
       never-both = never-both;
@@ -614,16 +778,20 @@ limit-only-cuts h s l m a b c =
       answer-goes-on = answer-goes-on;
       start-changes-nothing = start-kept l low h s;
       no-change = answer-kept l low h s;
+      buffer-stays = buffer-stays l low h s;
       question-called-for = question-halts;
       replacement-called-for = replacement-made;
-      until-then-same = λ cs x nc. until l low h s x nc;
-      then-cut = λ cs x k. cut l low h s x k;
+      until-then-same = λ cs x n. until l low h s (meets x (λ k. n (earlier-cut k))) (λ k. n (in-it x k));
+      then-cut = λ cs x n k. cut l low h s (meets x n) k;
       moves-of-a-call = moves-of l low h s;
+      caches-after = λ cs i v m. caches-after l low h s cs i v m;
+      last-shown = λ cs i v e m. last-shown l low h s cs i v e m;
+      path-left = λ cs i v m. path-left l low h s cs i v m;
       moves-one-list = λ cs x y. one-list x y;
       start-refused = start-refused l m low high b h s;
       until-the-end = λ cs e w. together l m low high b h s e cs w;
       ends-alike = λ cs i n x. ends-alike l m low high b h s cs i n x;
       first-the-same = first-the-same l m low high b h s;
-      limit-reached-then = reached l low h s;
+      limit-reached-then = λ cs i e. reached-then l low h s cs i e;
       replacement-is-a-move = is-a-move;
     }

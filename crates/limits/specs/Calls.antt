@@ -12,16 +12,18 @@ use Rattle.unc.specs.Names.{goodName}
 use Rattle.unc.specs.Paths.{goodPath, normalised, pathUnits}
 use Rattle.caches.specs.Memory.{referrals, domains, inOrder}
 use Rattle.domains.specs.Domains.{goodSize}
-use Rattle.steps.specs.Steps.{Core, Turn, Rest, ended, started}
+use Rattle.steps.specs.Steps.{Core, Question, Turn, Rest, ended, started}
 use Rattle.steps.specs.Rested.{cachesOf, coreOf}
 use Rattle.steps.specs.declared.End.the-variants.{LimitReached}
 use Rattle.walks.specs.declared.Walk.{Walk}
 use Rattle.questions.specs.Questions.{requestName, withRequest}
+use Rattle.walks.specs.Walks.{bootIn}
+use Rattle.shown.specs.Shown.{QuestionShown, questionShown}
 use Rattle.turns.specs.Turns.{coreIn}
 use Rattle.resolve.specs.Calls.{Answered, startCall, referralCall, ioCall, restIn, referralEvent, ioEvent}
 use Rattle.closing.specs.declared.Verdict.{Verdict}
 use Rattle.closing.specs.declared.Verdict.the-variants.{Taken, BadPath, LongPath, BadSettings, NotInOrder, OutOfForm}
-use Rattle.limits.specs.Unlimited.{Opening, refuses, opens, Unlimited, Move, Made, Rests, CallsForMore, Brings, Call, number, comes, CallsFor, restsAt, madeIn}
+use Rattle.limits.specs.Unlimited.{Opening, refuses, opens, Unlimited, Move, question, Made, Rests, CallsForMore, Brings, Call, number, comes, CallsFor, restsAt, madeIn}
 
 -- the lent memory of a walk: the walk, its texts, both caches
 pub record Held : Type 0 where
@@ -92,6 +94,13 @@ seen o = record {
   doms = o .doms;
 }
 
+-- a question as the host is shown it of what a call left (crate `shown`), as a move
+unfoldable pub shownMove : Answered → Question → Move
+shownMove o q = question (q .kind) (q .party) (shown .party) (shown .name) (shown .size)
+  where
+    shown : QuestionShown
+    shown = questionShown (cachesOf (o .refs) (o .doms)) (coreIn (o .left .walk) (o .left .texts)) (bootIn (o .left .walk) (o .left .texts)) q
+
 -- A start to the unlimited walk: 4, 1, 2, 3 (the limit apart), 5 where the memory lent for the texts has another length.
 unfoldable pub startOpening : Held → Start → Opening
 startOpening h s =
@@ -120,21 +129,26 @@ unfoldable pub answerOpening : Unlimited → Answer → Opening
 answerOpening u a =
     choose (inOrder referrals (u .refs) && inOrder domains (u .doms)) (eventOpening (eventOf u a)) (refuses NotInOrder)
 
--- The unlimited walk after all calls of a list, of which none called for move l + 1. Its count is first 0.
-pub data Follows (h : Held) (s : Start) (l : ℕ) : Calls → Unlimited → Type 0 where
-  begins : {ms : List Made} {u : Unlimited} → (CallsFor (startOpening h s) (s .clock) 0 (suc l) → ⊥)
-      → Call (s .clock) (s .boot) (s .out) 0 (startOpening h s) (comes ms u) → Follows h s l start u
-  is-refused : {cs : Calls} {u : Unlimited} {a : Answer} {v : Verdict} → Follows h s l cs u
-      → (CallsFor (answerOpening u a) (answerClock a) (u .count) (suc l) → ⊥)
-      → Call (answerClock a) (s .boot) (answerOut a) (u .count) (answerOpening u a) (number v) → Follows h s l (then cs a) u
-  is-taken : {cs : Calls} {u v : Unlimited} {a : Answer} {ms : List Made} → Follows h s l cs u
-      → (CallsFor (answerOpening u a) (answerClock a) (u .count) (suc l) → ⊥)
-      → Call (answerClock a) (s .boot) (answerOut a) (u .count) (answerOpening u a) (comes ms v) → Follows h s l (then cs a) v
+-- The unlimited walk after all calls of a list. Its count is first 0, and it knows no limit.
+pub data Follows (h : Held) (s : Start) : Calls → Unlimited → Type 0 where
+  begins : {ms : List Made} {u : Unlimited} → Call (s .clock) (s .boot) (s .out) 0 (startOpening h s) (comes ms u) → Follows h s start u
+  is-refused : {cs : Calls} {u : Unlimited} {a : Answer} {v : Verdict} → Follows h s cs u
+      → Call (answerClock a) (s .boot) (answerOut a) (u .count) (answerOpening u a) (number v) → Follows h s (then cs a) u
+  is-taken : {cs : Calls} {u v : Unlimited} {a : Answer} {ms : List Made} → Follows h s cs u
+      → Call (answerClock a) (s .boot) (answerOut a) (u .count) (answerOpening u a) (comes ms v) → Follows h s (then cs a) v
 
--- The unlimited walk comes to the last call of a list, none before it having called for move l + 1: what the call comes to, and the count before it.
-pub data Comes (h : Held) (s : Start) (l : ℕ) : Calls → Opening → ℕ → Type 0 where
-  to-start : Comes h s l start (startOpening h s) 0
-  to-answer : {cs : Calls} {u : Unlimited} {a : Answer} → Follows h s l cs u → Comes h s l (then cs a) (answerOpening u a) (u .count)
+-- It comes to the last call of a list: what the call comes to, and the count before it.
+pub data Comes (h : Held) (s : Start) : Calls → Opening → ℕ → Type 0 where
+  to-start : Comes h s start (startOpening h s) 0
+  to-answer : {cs : Calls} {u : Unlimited} {a : Answer} → Follows h s cs u → Comes h s (then cs a) (answerOpening u a) (u .count)
+
+-- "until that calls for move L + 1 .. and the unlimited one is followed no further": some call of a list called for move l + 1; one before its last did.
+pub data CutBy (l : ℕ) (h : Held) (s : Start) : Calls → Type 0 where
+  in-it : {cs : Calls} {p : Opening} {n : ℕ} → Comes h s cs p n → CallsFor p (clockOf s cs) n (suc l) → CutBy l h s cs
+  before-it : {cs : Calls} {a : Answer} → CutBy l h s cs → CutBy l h s (then cs a)
+
+pub data CutBefore (l : ℕ) (h : Held) (s : Start) : Calls → Type 0 where
+  an-earlier : {cs : Calls} {a : Answer} → CutBy l h s cs → CutBefore l h s (then cs a)
 
 -- what the last call of a list comes to for the walk with limit l, by what it was given, and the count before it
 unfoldable pub opening : ℕ → Held → Start → Calls → Opening
@@ -144,6 +158,11 @@ opening l h s (then cs a) = answerOpening (seen (run l h s cs)) a
 unfoldable pub before : ℕ → Held → Start → Calls → ℕ
 before l h s start = 0
 before l h s (then cs a) = run l h s cs .left .walk .moves
+
+-- the path before it
+unfoldable pub pathBefore : ℕ → Held → Start → Calls → List ℕ
+pathBefore l h s start = normalised (s .path)
+pathBefore l h s (then cs a) = seen (run l h s cs) .core .path
 
 -- The moves of a call of a walk with a limit, each with the caches after it: a list by the steps from what the call was given to what it leaves. A refused
 -- call makes none; a call that is cut has made the moves up to the limit.

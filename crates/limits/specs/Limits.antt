@@ -2,7 +2,7 @@
 use Prim.Native.Nat.{ℕ, suc, _≤_, _<_}
 use mathlib.Core.Path.{_≡_}
 use mathlib.Core.Bool.{false}
-use mathlib.Core.List.{List, [], _∷_, _++_}
+use mathlib.Core.List.{List, [], _∷_, _++_, map}
 use mathlib.Core.Logic.{_⊎_}
 use mathlib.Core.Option.{some}
 use lib.ListN.{length}
@@ -14,8 +14,9 @@ use Rattle.steps.specs.declared.End.{End}
 use Rattle.steps.specs.declared.End.the-variants.{LimitReached, TooLong}
 use Rattle.questions.specs.Questions.{requestName}
 use Rattle.closing.specs.declared.Verdict.the-variants.{Taken, ShortBuffer}
-use Rattle.limits.specs.Unlimited.{Move, replacement, Makes, Halts, Opening, opens, Unlimited, Made, madeIn, restsAt, Rests, Brings, Call, CallsFor, Within}
-use Rattle.limits.specs.Calls.{Held, Start, Answer, Calls, start, then, run, answered, InList, startOpening, eventOf, answerOpening, Follows, clockOf, outOf, seen, Comes, opening, before, Moved, Same}
+use Rattle.limits.specs.Unlimited.{Move, replacement, Makes, Halts, Opening, opens, Unlimited, Made, madeIn, restsAt, pathAfter, Rests, Brings, Call, CallsFor, Within}
+use Rattle.walks.specs.Walks.{bootIn}
+use Rattle.limits.specs.Calls.{shownMove, Held, Start, Answer, Calls, start, then, run, answered, InList, startOpening, eventOf, answerOpening, Follows, Comes, CutBy, CutBefore, clockOf, outOf, seen, opening, before, pathBefore, Moved, Same}
 
 -- the moves that the last call of a list gives the walk with limit l
 abbrev pub MovesOf : ℕ → Held → Start → Calls → List Made → Type 0
@@ -37,8 +38,8 @@ WaitsAfter l h s cs = (q : Question) × (seen (run l h s cs) .rest ≡ waits q)
 pub record TooShort (l : ℕ) (h : Held) (s : Start) (cs : Calls) : Type 0 where
   pub opening : Opening
   pub count : ℕ
-  pub comes-to : Comes h s l cs opening count
-  pub within : CallsFor opening (clockOf s cs) count (suc l) → ⊥
+  pub comes-to : Comes h s cs opening count
+  pub uncut : CutBy l h s cs → ⊥
   pub turn : Turn
   pub opened : opening ≡ opens turn
   pub moves : List Move
@@ -49,21 +50,21 @@ pub record TooShort (l : ℕ) (h : Held) (s : Start) (cs : Calls) : Type 0 where
   pub named : requestName core (waits question) ≡ some name
   pub long : length (outOf s cs) < length (request name)
 
--- some call of a list called for move l + 1
-pub data CutBy (l : ℕ) (h : Held) (s : Start) : Calls → Type 0 where
-  in-it : {cs : Calls} {p : Opening} {n : ℕ} → Comes h s l cs p n → CallsFor p (clockOf s cs) n (suc l) → CutBy l h s cs
-  before-it : {cs : Calls} {a : Answer} → CutBy l h s cs → CutBy l h s (then cs a)
-
 pub record LimitOnlyCuts (h : Held) (s : Start) (l m : ℕ) : Type 0 where
   -- Document 01. "Demand 3's list is one start, from any caches, then referral answers and I/O answers. Each gets the walk and caches that the last one left;"
   pub each-gets : (cs : Calls) (a : Answer) → run l h s (then cs a) ≡ answered (run l h s cs) a
   -- "a refused start ends the list"
   pub start-ends : (cs : Calls) (a : Answer) → InList l h s (then cs a) → run l h s start .left .verdict ≡ Taken
   -- "It is one claim about the list": the unlimited walk has followed all calls of it, unless one called for move L + 1.
-  pub every-call : (cs : Calls) → run l h s start .left .verdict ≡ Taken → ((u : Unlimited) × Follows h s l cs u) ⊎ CutBy l h s cs
-  -- "The unlimited walk is fed these calls alone, without L.": a greater limit to compare with changes nothing of it.
-  pub without-limit : {cs : Calls} {u : Unlimited} → Follows h s l cs u → Follows h s m cs u
-  -- The unlimited walk is one walk: what a call brings it is determined, and every call comes to rest with L moves called for at most, or calls for move
+  pub every-call : (cs : Calls) → run l h s start .left .verdict ≡ Taken → ((u : Unlimited) × (Follows h s cs u × (CutBy l h s cs → ⊥))) ⊎ CutBy l h s cs
+  -- "The unlimited walk is fed these calls alone, without L.": one walk for a list, and a greater limit follows it as far at least.
+  pub one-unlimited : {cs : Calls} {u v : Unlimited} → Follows h s cs u → Follows h s cs v → u ≡ v
+  pub as-far : {cs : Calls} {u : Unlimited} → Follows h s cs u → (CutBy l h s cs → ⊥) → CutBy m h s cs → ⊥
+  -- The walk holds what the start was given: limit, size and bootstrap DC.
+  pub settings-kept : (cs : Calls) → run l h s start .left .verdict ≡ Taken
+      → (run l h s cs .left .walk .limit ≡ l) × ((run l h s cs .left .walk .size ≡ s .size)
+      × (bootIn (run l h s cs .left .walk) (run l h s cs .left .texts) ≡ s .boot))
+  -- What a call brings the unlimited walk is determined, and every call comes to rest with L moves called for at most, or calls for move
   -- L + 1, and never both.
   pub one-walk : {p : Opening} {clock count : ℕ} {boot out : List ℕ} {a b : Brings} → Call clock boot out count p a → Call clock boot out count p b → a ≡ b
   pub rests-or-calls : (p : Opening) (clock n : ℕ) (boot : List ℕ) → n ≤ l → Within clock boot n l p ⊎ CallsFor p clock n (suc l)
@@ -72,7 +73,7 @@ pub record LimitOnlyCuts (h : Held) (s : Start) (l m : ℕ) : Type 0 where
   pub ten-then : (cs : Calls) → InList l h s cs → run l h s cs .left .verdict ≡ ShortBuffer → TooShort l h s cs
   pub ten-only-then : (cs : Calls) → TooShort l h s cs → run l h s cs .left .verdict ≡ ShortBuffer
   -- "It holds what the steps use, the caches and a count, first 0."
-  pub first-zero : {p : Opening} {n : ℕ} → Comes h s l start p n → n ≡ 0
+  pub first-zero : {p : Opening} {n : ℕ} → Comes h s start p n → n ≡ 0
   -- "A start that no number but 10 refuses, or an answer to its question, goes on by the steps;"
   pub start-goes-on : (t : Turn) → startOpening h s ≡ opens t
       → started (cachesOf (h .refs) (h .doms)) (coreOf (normalised (s .path)) (s .size) false) (s .clock) ≡ t
@@ -84,21 +85,31 @@ pub record LimitOnlyCuts (h : Held) (s : Start) (l m : ℕ) : Type 0 where
       → (run l h s (then cs a) .left .walk ≡ run l h s cs .left .walk) × ((run l h s (then cs a) .left .texts ≡ run l h s cs .left .texts)
       × ((run l h s (then cs a) .refs ≡ run l h s cs .refs) × ((run l h s (then cs a) .doms ≡ run l h s cs .doms)
       × (run l h s (then cs a) .left .out ≡ outOf s (then cs a)))))
+  -- "no end needs one": where a call is refused, ends or is cut the buffer stays as it was
+  pub buffer-stays : (cs : Calls) → InList l h s cs → (run l h s cs .left .verdict ≡ Taken → ⊥) ⊎ ((e : End) × EndsIn l h s cs e) → run l h s cs .left .out ≡ outOf s cs
   -- "A move called for ends 26 or is made and counted; then a replacement goes on and a question waits."
   pub question-called-for : {q : Question} {r : Rest} → Halts (asks q) r → (r ≡ ended TooLong 0 []) ⊎ (r ≡ waits q)
   pub replacement-called-for : (c : Caches) (clock : ℕ) (w : Core) (p : List ℕ)
       → Halts (replaces p) (ended TooLong 0 [])
       ⊎ Makes c clock w (replaces p) (replacement p ∷ []) (withHit (hitAt c (withPath p w)) (withPath p w)) (step2 c (withPath p w) clock)
   -- "The L walk's moves, its caches after each, its refusal numbers, its end and its count are those of the unlimited walk until that calls for move L + 1"
-  pub until-then-same : (cs : Calls) {p : Opening} {n : ℕ} → Comes h s l cs p n → (CallsFor p (clockOf s cs) n (suc l) → ⊥)
+  pub until-then-same : (cs : Calls) {p : Opening} {n : ℕ} → Comes h s cs p n → (CutBy l h s cs → ⊥)
       → (b : Brings) × (Call (clockOf s cs) (s .boot) (outOf s cs) n p b × SameIn l h s cs b)
   -- "whether or not 10 would follow; in that call the L walk ends 24 with the caches as they then are", having made the moves up to L
-  pub then-cut : (cs : Calls) {p : Opening} {n : ℕ} → Comes h s l cs p n → (k : CallsFor p (clockOf s cs) n (suc l))
+  pub then-cut : (cs : Calls) {p : Opening} {n : ℕ} → Comes h s cs p n → (CutBefore l h s cs → ⊥) → (k : CallsFor p (clockOf s cs) n (suc l))
       → (run l h s cs .left .verdict ≡ Taken) × ((seen (run l h s cs) ≡ restsAt (k .turn .caches) (k .core) (ended LimitReached 0 []) l)
       × MovesOf l h s cs (madeIn (k .turn .caches) (k .moves)))
   -- "moves made inside it are stated as a list of moves by the steps, each with the caches after it, from what it was given to the path, question, caches and
   -- count that it leaves"; the list is determined
   pub moves-of-a-call : (cs : Calls) → InList l h s cs → (ms : List Made) × MovesOf l h s cs ms
+  -- the caches after each move of a call are those that it leaves: the steps change no cache after the event
+  pub caches-after : (cs : Calls) {ms : List Made} → InList l h s cs → run l h s cs .left .verdict ≡ Taken → MovesOf l h s cs ms
+      → (moves : List Move) × (ms ≡ map (λ m. record { move = m; caches = cachesOf (run l h s cs .refs) (run l h s cs .doms) }) moves)
+  -- the question put last is the one that the host is shown of what the call left (kind, party, name, size), and the path left is that of the last replacement
+  pub last-shown : (cs : Calls) {ms : List Made} {q : Question} → InList l h s cs → run l h s cs .left .verdict ≡ Taken → seen (run l h s cs) .rest ≡ waits q → MovesOf l h s cs ms
+      → (first : List Made) × (ms ≡ first ++ (record { move = shownMove (run l h s cs) q; caches = cachesOf (run l h s cs .refs) (run l h s cs .doms) } ∷ []))
+  pub path-left : (cs : Calls) {ms : List Made} → InList l h s cs → run l h s cs .left .verdict ≡ Taken → MovesOf l h s cs ms
+      → seen (run l h s cs) .core .path ≡ pathAfter (pathBefore l h s cs) ms
   pub moves-one-list : (cs : Calls) {ms ns : List Made} → MovesOf l h s cs ms → MovesOf l h s cs ns → ms ≡ ns
   -- Demand 3. "Until the call in which the L walk ends, each call gives both walks the same moves, with equal caches after each, and the same refusal number or question."
   pub start-refused : (run l h s start .left .verdict ≡ Taken → ⊥) → run m h s start ≡ run l h s start
@@ -115,7 +126,7 @@ pub record LimitOnlyCuts (h : Held) (s : Start) (l m : ℕ) : Type 0 where
       ⊎ ((ms : List Made) × ((more : List Made) × (MovesOf l h s cs ms × MovesOf m h s cs (ms ++ more))))
   -- ""Limit reached" comes exactly when the steps, taken without a limit, call for move L + 1." (`then-cut` is the other direction.)
   pub limit-reached-then : (cs : Calls) → InList l h s cs → EndsIn l h s cs LimitReached
-      → (p : Opening) × ((n : ℕ) × (Comes h s l cs p n × CallsFor p (clockOf s cs) n (suc l)))
+      → (p : Opening) × ((n : ℕ) × (Comes h s cs p n × ((CutBefore l h s cs → ⊥) × CallsFor p (clockOf s cs) n (suc l))))
   -- "Step 11 replacements made from a warm cache are moves too."
   pub replacement-is-a-move : {t : Turn} {clock : ℕ} {boot : List ℕ} {ms : List Move} {w : Core} {r : Rest} (p : List ℕ) → Rests t clock boot ms w r → t .called ≡ replaces p
       → length p ≤ pathUnits → (more : List Move) × (ms ≡ replacement p ∷ more)

@@ -86,6 +86,15 @@ pub record Made : Type 0 where
 unfoldable pub madeIn : Caches → List Move → List Made
 madeIn c ms = map (λ m. record { move = m; caches = c }) ms
 
+-- the path after these moves
+unfoldable pub pathMoved : List ℕ → Move → List ℕ
+pathMoved path (question kind place party name size) = path
+pathMoved path (replacement p) = p
+
+unfoldable pub pathAfter : List ℕ → List Made → List ℕ
+pathAfter path [] = path
+pathAfter path (m ∷ ms) = pathAfter (pathMoved path (m .move)) ms
+
 -- what a call brings: a number, and then nothing changes; or the moves made and the walk then
 pub data Brings : Type 0 where
   number : Verdict → Brings

@@ -1,0 +1,2 @@
+-- The calls over lent units along a list.
+pub mod Exported

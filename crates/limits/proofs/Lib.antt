@@ -8,4 +8,5 @@ pub mod Along
 pub mod Cores
 pub mod Ways
 pub mod ListLaws
+pub mod ExportedLaws
 pub mod Theorem

@@ -37,6 +37,7 @@ use Rattle.limits.proofs.Goes.{ToRest, Cut, rests-or-cut}
 use Rattle.limits.proofs.Once.{behind, as-many, goes-further}
 use Rattle.limits.proofs.Classify.{Fine, CutOff, never-both, opens-same, short-not, not-refused}
 use Rattle.limits.proofs.CallLaws.{Either}
+use Rattle.limits.proofs.ExportedLaws.{exported}
 use Rattle.limits.proofs.NoLimit.{NoLimit, rests-no}
 use Rattle.limits.proofs.Along.{one-walk, same-way, one-unlimited, Tracks, tracks-start, tracks-refused, tracks-taken, Meets, meets-start, meets-answer, tracks-follows, tracks-uncut, tracks, meets-comes, meets-uncut, meets-none, meets, earlier-cut}
 use Rattle.limits.proofs.Cores.{SameCore, started-same, event-same}
@@ -137,7 +138,7 @@ never-24 (taken {t = t} x f) c g v e =
 -- a longer call begins with the moves of a shorter
 made-more : (c : Caches) (ms ns : List Move) → madeIn c (ms ++ ns) ≡ madeIn c ms ++ madeIn c ns
 unfolding madeIn
-made-more c ms ns = map-append (λ (m : Move). record { move = m; caches = c }) ms ns
+made-more c ms ns = map-append _ ms ns
 
 record Begins (ms ns : List Made) : Type 0 where
   more : List Made
@@ -788,6 +789,7 @@ limit-only-cuts h s l m a b c =
       last-shown = λ cs i v e m. last-shown l low h s cs i v e m;
       path-left = λ cs i v m. path-left l low h s cs i v m;
       moves-one-list = λ cs x y. one-list x y;
+      exported = exported l h s;
       start-refused = start-refused l m low high b h s;
       until-the-end = λ cs e w. together l m low high b h s e cs w;
       ends-alike = λ cs i n x. ends-alike l m low high b h s cs i n x;

@@ -16,6 +16,8 @@ use Rattle.questions.specs.Questions.{requestName}
 use Rattle.closing.specs.declared.Verdict.the-variants.{Taken, ShortBuffer}
 use Rattle.limits.specs.Unlimited.{Move, replacement, Makes, Halts, Opening, opens, Unlimited, Made, madeIn, restsAt, pathAfter, Rests, Brings, Call, CallsFor, Within}
 use Rattle.walks.specs.Walks.{bootIn}
+use Rattle.holding.specs.Units.{textsIn}
+use Rattle.limits.specs.Exported.{unitsRun, unitsOf}
 use Rattle.limits.specs.Calls.{shownMove, Held, Start, Answer, Calls, start, then, run, answered, InList, startOpening, eventOf, answerOpening, Follows, Comes, CutBy, CutBefore, clockOf, outOf, seen, opening, before, pathBefore, Moved, Same}
 
 -- the moves that the last call of a list gives the walk with limit l
@@ -111,6 +113,8 @@ pub record LimitOnlyCuts (h : Held) (s : Start) (l m : ℕ) : Type 0 where
   pub path-left : (cs : Calls) {ms : List Made} → InList l h s cs → run l h s cs .left .verdict ≡ Taken → MovesOf l h s cs ms
       → seen (run l h s cs) .core .path ≡ pathAfter (pathBefore l h s cs) ms
   pub moves-one-list : (cs : Calls) {ms ns : List Made} → MovesOf l h s cs ms → MovesOf l h s cs ns → ms ≡ ns
+  -- The calls that hosts in other languages make, from any units with these texts: each gives and leaves what the call of the list does, the walk as its packed form.
+  pub exported : (units : List ℕ) → textsIn units ≡ h .texts → run l h s start .left .verdict ≡ Taken → (cs : Calls) → unitsRun l h s units cs ≡ unitsOf (run l h s cs)
   -- Demand 3. "Until the call in which the L walk ends, each call gives both walks the same moves, with equal caches after each, and the same refusal number or question."
   pub start-refused : (run l h s start .left .verdict ≡ Taken → ⊥) → run m h s start ≡ run l h s start
   pub until-the-end : (cs : Calls) → run l h s start .left .verdict ≡ Taken → WaitsAfter l h s cs

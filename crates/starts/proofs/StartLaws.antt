@@ -29,7 +29,7 @@ use Rattle.walks.specs.declared.Walk.{Walk}
 use Rattle.closing.specs.Closing.{Left, refused, closes, closedRest}
 use Rattle.closing.specs.declared.Verdict.the-variants.{BadSettings, OutOfForm}
 use Rattle.closing.proofs.RestLaws.{closed-rest}
-use Rattle.starts.specs.Starts.{pathRooms, startAt, Begun}
+use Rattle.starts.specs.Starts.{pathRooms, startAt, startRooms, Begun}
 
 -- a normalised path of two components or more is good
 good-counted : (s : List ℕ) → length s ≤ 256 → isNormalised s ≡ true → 2 ≤ componentCount s → goodPrefix s ≡ true
@@ -143,3 +143,19 @@ module _ (refs doms rooms : List ℕ) (n k limit size clock : ℕ) (b : Begun re
   pub first-closed : (boot : List ℕ) (walk : Walk) (texts out : List ℕ) {x : Left} → x ≡ closedRest limit size boot r o walk texts out
       → x ≡ closes limit boot (turned limit clock (started (cachesOf refs doms) (coreOf (take n rooms) size false) clock)) walk texts out
   first-closed boot walk texts out h = h ∙ closed-rest _ r o e limit size boot walk texts out (all-kept .size-kept)
+
+-- the rooms
+module _ (refs doms texts path boot : List ℕ) (limit size clock : ℕ) (rooms : List ℕ) {g : Bool} (s : g ≡ goodSettings limit size boot) where
+  pub rooms-settings : g ≡ false → rooms ≡ startRooms refs doms texts path boot limit size clock rooms
+  unfolding startRooms
+  rooms-settings e = sym (choose-no _ _ (sym s ∙ e))
+
+  pub rooms-texts : g ≡ true → (length texts ≡ 768 → ⊥) → rooms ≡ startRooms refs doms texts path boot limit size clock rooms
+  unfolding startRooms
+  rooms-texts e n = sym (choose-yes _ _ (sym s ∙ e) ∙ choose-no _ _ (ne-eqb _ _ n))
+
+  pub rooms-taken : g ≡ true → length texts ≡ 768 → {r : Rested} {after : List ℕ}
+      → joined r after ≡ packed (turned limit clock (started (cachesOf refs doms) (coreOf path size false) clock))
+      → after ≡ startRooms refs doms texts path boot limit size clock rooms
+  unfolding startRooms
+  rooms-taken e l p = ap (λ (x : Packed). x .texts) p ∙ sym (choose-yes _ _ (sym s ∙ e) ∙ choose-yes _ _ (eq-eqb _ _ l))

@@ -11,6 +11,7 @@ use Rattle.texts.specs.Texts.{Standing}
 use Rattle.caches.specs.Memory.{referrals, inOrder}
 use Rattle.steps.specs.Steps.{started, turned}
 use Rattle.steps.specs.Rested.{cachesOf, coreOf}
+use Rattle.moves.specs.Moves.{packed}
 use Rattle.walks.specs.Walks.{goodSettings}
 use Rattle.walks.specs.declared.Walk.{Walk}
 use Rattle.closing.specs.Closing.{Left, refused, closes}
@@ -36,3 +37,12 @@ startAt refs doms texts walk path boot limit size clock out =
     (closes limit boot (turned limit clock (started (cachesOf refs doms) (coreOf path size false) clock)) walk texts out)
     (refused OutOfForm walk texts out))
     (refused BadSettings walk texts out)
+
+-- the rooms after it: those of the first rest, or as they were where it is refused before
+unfoldable pub startRooms : List ℕ → List ℕ → List ℕ → List ℕ → List ℕ → ℕ → ℕ → ℕ → List ℕ → List ℕ
+startRooms refs doms texts path boot limit size clock rooms =
+    choose (goodSettings limit size boot)
+    (choose (eqb (length texts) 768)
+    (packed (turned limit clock (started (cachesOf refs doms) (coreOf path size false) clock)) .texts)
+    rooms)
+    rooms

@@ -7,7 +7,7 @@ ghost use Rattle.steps.specs.Steps.{started, turned};
 ghost use Rattle.steps.specs.Rested.{cachesOf, coreOf};
 ghost use Rattle.moves.specs.Moves.{joined, packed};
 ghost use Rattle.closing.specs.Closing.{left};
-ghost use Rattle.starts.specs.Starts.{pathRooms, startAt, Begun};
+ghost use Rattle.starts.specs.Starts.{pathRooms, startAt, startRooms, Begun};
 use closing::Outcome;
 use closing::Verdict;
 use steps::End;
@@ -65,7 +65,8 @@ pub fn start_at(
     out: &mut [u8],
 ) -> Outcome
     requires { ⌜ Begun (now refs) (now rooms) n k ⌝ }
-    ensures { λ o. ⌜ left o (now (texts .exit)) (now (out .exit)) ≡ startAt (now (refs .entry)) (now (doms .entry)) (now (texts .entry)) walk (take n (now (rooms .entry))) (now (boot .entry)) limit size clock (now (out .entry)) ⌝ }
+    ensures walk { λ o. ⌜ left o (now (texts .exit)) (now (out .exit)) ≡ startAt (now (refs .entry)) (now (doms .entry)) (now (texts .entry)) walk (take n (now (rooms .entry))) (now (boot .entry)) limit size clock (now (out .entry)) ⌝ }
+    ensures rooms { λ o. ⌜ now (rooms .exit) ≡ startRooms (now (refs .entry)) (now (doms .entry)) (now (texts .entry)) (take n (now (rooms .entry))) (now (boot .entry)) limit size clock (now (rooms .entry)) ⌝ }
 {
     if !walks::good_settings(limit, size, boot) {
         return Outcome {

@@ -1,2 +1,0 @@
--- The calls over lent units along a list.
-pub mod Exported

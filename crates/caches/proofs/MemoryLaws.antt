@@ -2,7 +2,7 @@
 use mathlib.Core.Path.{_≡_, refl, sym, ap, _∙_}
 use mathlib.Core.Bool.{true, false, _&&_}
 use mathlib.Core.List.{List, [], _∷_, map, flatten}
-use Prim.Native.Nat.{ℕ, suc, _-_, _*_, _/_, _≤_, _<_}
+use Prim.Native.Nat.{ℕ, suc, _*_, _/_, _≤_, _<_}
 use native.Mathlib.Omega.{arith}
 use lib.ListN.{length, getD, drop, set, length-map, length-replicate, length-set}
 use lib.Dec.{leb, eqb}
@@ -274,7 +274,3 @@ module _ {E : Type 0} (k : Kind E) (law : Lawful k) where
     pub in-order-parts : inOrder k raw
         ≡ (rightSize raw && (every (ordered k) (listed (placeCount raw) (λ i. placeAt i raw)) && distinct (keys k (decode k raw))))
     in-order-parts = both-ways _ _ order-down order-up
-
-    -- a place of memory in order
-    pub order-ordered : inOrder k raw ≡ true → (i : ℕ) → i < placeCount raw → ordered k (placeAt i raw) ≡ true
-    order-ordered h = every-listed (ordered k) (placeCount raw) (λ i. placeAt i raw) (and-left _ _ (and-right (rightSize raw) _ (order-down h)))

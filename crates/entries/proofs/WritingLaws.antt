@@ -20,7 +20,7 @@ use Rattle.caches.specs.Entries.{Target}
 use Rattle.caches.proofs.MemoryLaws.{length-blank}
 use Rattle.referral.specs.declared.Kept.{Kept}
 use Rattle.places.specs.Layout.{placeAt, changed, putUnit, putText, putSettings, flagUnit, wideUnits, blank}
-use Rattle.places.proofs.LayoutLaws.{length-place, length-changed, changed-again, changed-none}
+use Rattle.places.proofs.LayoutLaws.{length-place, changed-again, changed-none}
 use Rattle.places.proofs.WriterLaws.{length-putUnit, text-put}
 use Rattle.entries.specs.Writing.{addText, addTarget, addDc, addAll, begun, heldTarget, keptFits, settings}
 
@@ -124,10 +124,6 @@ module _ (raw : List ℕ) (i : ℕ) (fits : i < length raw / 2336) where
   pub changed-same : (f g : List ℕ → List ℕ) → f (placeAt i raw) ≡ g (placeAt i raw) → changed i f raw ≡ changed i g raw
   unfolding changed
   changed-same f g e = ap (pasted raw (i * 2336)) e
-
-  -- the change leaves as many places
-  pub still-fits : (f : List ℕ → List ℕ) → Keeps f → {m : List ℕ} → m ≡ changed i f raw → i < length m / 2336
-  still-fits f a e = let l : length (changed i f raw) ≡ length raw = length-changed raw i fits f (whole f a) in rw (e, l) fits
 
   pub text-added : (n units : ℕ) (t : List ℕ) {l m o : List ℕ} → units ≡ length t → l ≡ pasted raw (i * 2336 + n) (units ∷ [])
       → m ≡ pasted l (i * 2336 + 32 + n * 256) (roomed 256 t) → o ≡ changed i (putUnit 9 n) m → n < 9 → length t ≤ 256 → o ≡ changed i (addText n t) raw

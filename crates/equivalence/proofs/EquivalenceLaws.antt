@@ -207,20 +207,9 @@ same-sym xs ys h = alike-same ys xs (λ z. sym (same-alike xs ys h z))
 pub same-trans : (xs ys zs : List (List ℕ)) → sameTargets xs ys ≡ true → sameTargets ys zs ≡ true → sameTargets xs zs ≡ true
 same-trans xs ys zs h k = alike-same xs zs (λ z. same-alike xs ys h z ∙ same-alike ys zs k z)
 
-pub same-turned : (xs ys : List (List ℕ)) → sameTargets (xs ++ ys) (ys ++ xs) ≡ true
-same-turned xs ys = alike-same (xs ++ ys) (ys ++ xs) (λ z. omega (arith, times-append z xs ys, times-append z ys xs))
-
 pub same-swapped : (vs ws : List (List ℕ)) (x y : List ℕ) → sameTargets (vs ++ (x ∷ (y ∷ ws))) (vs ++ (y ∷ (x ∷ ws))) ≡ true
 same-swapped vs ws x y =
     alike-same (vs ++ (x ∷ (y ∷ ws))) (vs ++ (y ∷ (x ∷ ws)))
     (λ z.
     omega
     (arith, times-append z vs (x ∷ (y ∷ ws)), times-append z vs (y ∷ (x ∷ ws)), times-cons z x (y ∷ ws), times-cons z y ws, times-cons z y (x ∷ ws), times-cons z x ws))
-
--- a single target that stands more often in the one list makes them different, whatever their lengths
-pub same-differs : (xs ys : List (List ℕ)) (x : List ℕ) → (timesIn x xs ≡ timesIn x ys → ⊥) → sameTargets xs ys ≡ false
-same-differs xs ys x h = go (told (sameTargets xs ys))
-  where
-    go : (sameTargets xs ys ≡ true) ⊎ (sameTargets xs ys ≡ false) → sameTargets xs ys ≡ false
-    go (inl a) = absurd (h (same-alike xs ys a x))
-    go (inr a) = a

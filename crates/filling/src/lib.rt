@@ -1,14 +1,13 @@
 // A listing read into the places of a referral cache: document 01, "The listing". What is read here has been tested; nothing is tested again.
 ghost use mathlib.Core.Path.{_≡_};
 ghost use mathlib.Core.Bool.{true};
-ghost use mathlib.Core.List.{[]};
 ghost use Prim.Native.Nat.{_+_, _-_, _/_, _≤_, _<_};
 ghost use lib.ListN.{length, take, drop};
 ghost use Rattle.places.specs.Layout.{placeCount, changed};
-ghost use Rattle.caches.specs.Memory.{referrals, referralUnits, rightSize, encode};
+ghost use Rattle.caches.specs.Memory.{referrals, rightSize, encode};
 ghost use Rattle.listing.specs.Form.{targetLines, entryLines};
 ghost use Rattle.unspelling.specs.Reading.{unspelled, isSpelled};
-ghost use Rattle.entries.specs.Writing.{addText, addTarget, addAll};
+ghost use Rattle.entries.specs.Writing.{addText};
 ghost use Rattle.reading.specs.Entries.{entriesSaid};
 ghost use Rattle.reading.specs.Read.{isListing, placed};
 ghost use Rattle.filling.specs.Filling.{saidAt, LinesAt, NumberAt, NumberRead, PathAt, PathRead, TargetRead, SettingsRead, TargetsRead, EntryRead};

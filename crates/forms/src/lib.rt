@@ -3,7 +3,7 @@ ghost use mathlib.Core.Path.{_≡_};
 ghost use Prim.Native.Nat.{_+_, _≤_};
 ghost use lib.ListN.{length, drop};
 ghost use Rattle.laws.specs.Lists.{roomed};
-ghost use Rattle.unc.specs.Paths.{goodCount, leads, withoutTrail, normalised, formWithin, pathUnits, roomAfter, normalisedCount};
+ghost use Rattle.unc.specs.Paths.{goodCount, leads, withoutTrail, normalised, formWithin, roomAfter, normalisedCount};
 use unc::Form;
 
 const BACKSLASH: u16 = 92;
@@ -86,13 +86,6 @@ pub fn form_within(s: &[u16], most: usize) -> Form
         units: to - from + 1,
         components: n,
     }
-}
-
-// The form of a text as a path.
-pub fn path_form(s: &[u16]) -> Form
-    ensures { λ r. ⌜ r ≡ formWithin pathUnits (now (s .entry)) ⌝ }
-{
-    form_within(s, PATH_UNITS)
 }
 
 // A good path, normalised into a room that holds it, with zeros after it.

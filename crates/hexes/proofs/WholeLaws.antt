@@ -2,7 +2,7 @@
 use mathlib.Core.Path.{_≡_, refl, sym, ap, _∙_}
 use mathlib.Core.List.{List, [], _∷_, _++_, append-assoc}
 use mathlib.Core.Logic.{_⊎_, inl, inr}
-use Prim.Native.Nat.{ℕ, zero, suc, _+_, _-_, _≤_, _<_}
+use Prim.Native.Nat.{ℕ, _+_, _-_, _≤_, _<_}
 use native.Mathlib.Nat.{add-zero}
 use native.Mathlib.Omega.{arith}
 use lib.ListN.{length, take, drop, length-take, length-append, drop-of-length-le}
@@ -19,21 +19,7 @@ unfolding restFrom
 rest-append r [] p = refl
 rest-append r (u ∷ s) p = rest-append (nextRest r u) s p
 
--- before the first byte
-pub held-nothing : (room : ℕ) → heldOf room [] ≡ record { kept = 0; rest = None }
-unfolding heldOf restFrom
-held-nothing zero = refl
-held-nothing (suc n) = refl
-
 module _ (room : ℕ) (s p : List ℕ) where
-  kept-all : length s ≤ room → heldOf room s .kept ≡ length s
-  unfolding heldOf
-  kept-all h = ap length (take-all room s h)
-
-  kept-room : room ≤ length s → heldOf room s .kept ≡ room
-  unfolding heldOf
-  kept-room h = simp length-take (omega arith)
-
   -- a piece that begins in the room
   held-in : length s ≤ room → heldAfter room (heldOf room s) p ≡ heldOf room (s ++ p)
   unfolding heldAfter heldOf restFrom

@@ -132,11 +132,6 @@ module _ {ℓ} {A : Type ℓ} where
       (λ j z a b. getD-pasted-in d n (part n k d) t j z (omega arith) ∙ getD-part n k d j z a)
       (λ i z a b. getD-pasted-high d n (part n k d) t i z (omega arith))
 
-  -- saved, written over, and put back
-  pub put-back : (d : List A) (n : ℕ) (p : List A) → n + length p ≤ length d → pasted (pasted d n p) n (part n (length p) d) ≡ d
-  put-back d n p h =
-      pasted-again d n p (part n (length p) d) (sym (length-part n (length p) d h)) h ∙ pasted-part n (length p) d h
-
   -- a part that the piece does not touch stays
   pub part-pasted-low : (d : List A) (n : ℕ) (p : List A) (m k : ℕ) → n + length p ≤ length d → m + k ≤ n → part m k (pasted d n p) ≡ part m k d
   part-pasted-low d n p m k h u =
@@ -183,16 +178,6 @@ module _ {ℓ} {A : Type ℓ} where
           ∙ (sym (getD-pasted-in d (m + n) p t i z v) ∙ ap (λ (x : ℕ). getD (pasted d (m + n) p) x z) (add-assoc m n i))
       at f t j z q (high v) =
           getD-pasted-high (part m k d) n p f j z v ∙ (getD-part m k d j z q ∙ sym (getD-pasted-high d (m + n) p t (m + j) z (omega arith)))
-
-  -- the same, seen from the part
-  pub part-pasted-in : (d : List A) (m k n : ℕ) (p : List A) → m + k ≤ length d → n + length p ≤ k
-      → part m k (pasted d (m + n) p) ≡ pasted (part m k d) n p
-  part-pasted-in d m k n p h u =
-      let a : length (part m k d) ≡ k = length-part m k d h in
-      let b : length (pasted (part m k d) n p) ≡ length (part m k d) = length-pasted (part m k d) n p (omega arith) in
-      let c : length (pasted (part m k d) n p) ≡ k = b ∙ a in
-      ap (part m k) (sym (pasted-in-part d m k n p h u))
-      ∙ (ap (λ (x : ℕ). part m x (pasted d m (pasted (part m k d) n p))) (sym c) ∙ part-pasted d m _ (omega arith))
 
   -- a piece over the whole
   pub pasted-whole : (d p : List A) → length p ≡ length d → pasted d 0 p ≡ p

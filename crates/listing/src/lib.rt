@@ -6,7 +6,7 @@ ghost use lib.ListN.{length};
 ghost use Rattle.places.specs.Layout.{placeAt, flagAt, flagUnit};
 ghost use Rattle.caches.specs.Memory.{referralOf};
 ghost use Rattle.spelling.specs.Spelling.{spelled, decimal, Put};
-ghost use Rattle.listing.specs.Form.{kindKey, kindWord, pathLine, numberLine, ended, linesText, targetLines, settingLines, countLines, entryText, listing};
+ghost use Rattle.listing.specs.Form.{kindKey, kindWord, pathLine, numberLine, ended, linesText, targetLines, settingLines, countLines, entryText};
 ghost use Rattle.listing.specs.Listed.{textOf, refusalNumber, listNumber, listed, bufferAfter};
 use places::PLACE;
 

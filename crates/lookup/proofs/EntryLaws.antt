@@ -32,10 +32,6 @@ module _ (raw : List ℕ) (i : ℕ) where
   unfolding entryAt referralOf flagAt
   read-interlink e = ap (λ (x : ℕ). eqb x 1) e
 
-  pub read-failback : {u : ℕ} → u ≡ unitAt 21 (placeAt i raw) → eqb u 1 ≡ entryAt referrals i raw .failback
-  unfolding entryAt referralOf flagAt
-  read-failback e = ap (λ (x : ℕ). eqb x 1) e
-
   pub count-targets : length (entryAt referrals i raw .targets) ≡ listCount (placeAt i raw)
   unfolding entryAt referralOf
   count-targets = length-listed (listCount (placeAt i raw)) (λ j. targetOf j (placeAt i raw))
@@ -63,10 +59,6 @@ module _ (raw : List ℕ) (i : ℕ) where
   pub read-dc-hint : {u : ℕ} → u ≡ unitAt 10 (placeAt i raw) → u ≡ entryAt domains i raw .hint
   unfolding entryAt domainOf
   read-dc-hint e = e
-
-  pub read-name : {t : List ℕ} → t ≡ textAt 0 (placeAt i raw) → t ≡ entryAt domains i raw .name
-  unfolding entryAt domainOf
-  read-name e = e
 
   module _ (j : ℕ) where
     target-of : j < length (entryAt referrals i raw .targets) → (z : Target) → getD (entryAt referrals i raw .targets) j z ≡ targetOf j (placeAt i raw)

@@ -3,7 +3,7 @@ ghost use mathlib.Core.Path.{_≡_};
 ghost use mathlib.Core.Bool.{true, false};
 ghost use Prim.Native.Nat.{_+_, _/_, _≤_, _<_};
 ghost use lib.ListN.{length};
-ghost use Rattle.places.specs.Layout.{placeAt, unitAt, roomAt};
+ghost use Rattle.places.specs.Layout.{placeAt};
 ghost use Rattle.caches.specs.Memory.{referrals, domains, placeOf, decode, encode, inOrder};
 ghost use Rattle.lookup.specs.Lookup.{longerMatch, longestMatch, withKey, entryAt, age, expired, firstFreeFrom, placeAge, oldest, newPlace, targetPath, targetOpens, dcName, targetHinted, dcHinted};
 ghost use Rattle.lookup.specs.Keys.{keyIs, keyPlace};
@@ -289,13 +289,6 @@ pub fn is_interlink(cache: &[u16], i: usize) -> bool
     places::unit(cache, i, 20) == 1
 }
 
-pub fn is_failback(cache: &[u16], i: usize) -> bool
-    requires { ⌜ i < length (now cache) / 2336 ⌝ }
-    ensures { λ r. ⌜ r ≡ entryAt referrals i (now (cache .entry)) .failback ⌝ }
-{
-    places::unit(cache, i, 21) == 1
-}
-
 pub fn target_count(cache: &[u16], i: usize) -> usize
     requires { ⌜ i < length (now cache) / 2336 ⌝ }
     ensures { λ r. ⌜ r ≡ length (entryAt referrals i (now (cache .entry)) .targets) ⌝ }
@@ -324,13 +317,6 @@ pub fn target_opens(cache: &[u16], i: usize, j: usize) -> bool
     ensures { λ r. ⌜ r ≡ targetOpens j (entryAt referrals i (now (cache .entry))) ⌝ }
 {
     places::unit(cache, i, 11 + j) == 1
-}
-
-pub fn domain_name(cache: &[u16], i: usize) -> &[u16]
-    requires { ⌜ i < length (now cache) / 2336 ⌝ }
-    ensures { λ r. ⌜ now r ≡ entryAt domains i (now (cache .entry)) .name ⌝ }
-{
-    places::text(cache, i, 0)
 }
 
 pub fn dc_count(cache: &[u16], i: usize) -> usize

@@ -1,31 +1,16 @@
-// Components of a path, prefix match, and the replaced path: document 01, "Paths".
+// Components of a path, and prefix match: document 01, "Paths".
 ghost use mathlib.Core.Path.{_≡_};
 ghost use mathlib.Core.Bool.{true, false};
 ghost use Prim.Native.Nat.{_≤_};
 ghost use lib.ListN.{length, take};
 ghost use Rattle.unc.specs.Names.{sameName};
-ghost use Rattle.unc.specs.Paths.{componentCount, firstOf, matches, isSysvol, replaced, written, roomWith};
-use unc::Written;
+ghost use Rattle.unc.specs.Paths.{firstOf, matches, isSysvol};
 
 const BACKSLASH: u16 = 92;
 
 const SYSVOL: [u16; 6] = [83, 89, 83, 86, 79, 76];
 
 const NETLOGON: [u16; 8] = [78, 69, 84, 76, 79, 71, 79, 78];
-
-pub fn component_count(s: &[u16]) -> usize
-    ensures { λ r. ⌜ r ≡ componentCount (now (s .entry)) ⌝ }
-{
-    let mut n = 0;
-    let mut i = 0;
-    while i < s.len() {
-        if s[i] == BACKSLASH {
-            n += 1;
-        }
-        i += 1;
-    }
-    n
-}
 
 // Where the first `k` components of a path end: they are the units before that place, and the component after them starts one past it.
 pub fn first_end(s: &[u16], k: usize) -> usize
@@ -85,21 +70,4 @@ pub fn is_sysvol(path: &[u16]) -> bool
     }
     let netlogon = NETLOGON;
     unc::same_name(&path[a + 1..e], &netlogon)
-}
-
-// The path of steps 3 and 11 into a lent room, with zeros after it: the target, then what follows the first `k` units of the path, which
-// are the prefix's. The room's length is the most units that the path may have.
-pub fn replace(target: &[u16], k: usize, path: &[u16], room: &mut [u16]) -> Written
-    ensures answer { λ r. ⌜ r ≡ written (length (now (room .entry))) (replaced (now (target .entry)) k (now (path .entry))) ⌝ }
-    ensures room { λ r. ⌜ now (room .exit) ≡ roomWith (replaced (now (target .entry)) k (now (path .entry))) (now (room .entry)) ⌝ }
-{
-    let from = rooms::least(k, path.len());
-    let units = target.len() + (path.len() - from);
-    let n = room.len();
-    if n < units {
-        return Written::TooLong;
-    }
-    rooms::copy_units(room, 0, target);
-    rooms::put_text(room, target.len(), n - target.len(), &path[from..]);
-    Written::Units(units)
 }

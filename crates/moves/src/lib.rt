@@ -6,7 +6,7 @@ ghost use mathlib.Core.Bool.{true};
 ghost use Prim.Native.Nat.{ℕ, suc, _+_, _*_, _/_, _%_, _≤_, _<_};
 ghost use lib.ListN.{length, take};
 ghost use Rattle.unc.specs.Paths.{written};
-ghost use Rattle.texts.specs.Texts.{textsOf, Standing};
+ghost use Rattle.texts.specs.Texts.{Standing};
 ghost use Rattle.caches.specs.Memory.{referrals};
 ghost use Rattle.lookup.specs.Lookup.{entryAt};
 ghost use Rattle.lookup.specs.declared.Found.the-variants.{At};

@@ -100,12 +100,6 @@ pub dcs-says : (r : List ℕ) (f : DcsFound) → f .answer ≡ Says → denotedD
 unfolding denotedDcs answered
 dcs-says r f h = ap (λ (a : Answer). answered a (map (spanned r) (take (f .count) (f .kept)))) h
 
-pub dcs-some : (r : List ℕ) (f : DcsFound) → SoundDcs (map (spanned r) (take (f .count) (f .kept))) → length (f .kept) ≡ 8 → 1 ≤ f .count
-dcs-some r f s h =
-    let q : length (map (spanned r) (take (f .count) (f .kept))) ≡ min (f .count) (length (f .kept)) =
-    length-map (spanned r) (take (f .count) (f .kept)) ∙ length-take (f .count) (f .kept) in
-    omega (arith, q, s .some)
-
 -- A domain reply that says something: its names are those of its entries, all of them good.
 pub record SoundDomains (size : ℕ) (r : List ℕ) : Type 0 where
   pub is : readDomains size r ≡ says (map (domainAt r) (entries r))

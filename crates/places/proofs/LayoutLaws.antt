@@ -103,10 +103,6 @@ module _ (raw : List ℕ) (i : ℕ) (fits : i < length raw / 2336) where
         ap (λ (q : List ℕ). pasted (changed i f raw) (i * 2336) (g q)) place-changed
         ∙ pasted-again raw (i * 2336) (f (placeAt i raw)) (g (f (placeAt i raw))) (omega arith) (omega arith)
 
-    -- saved, changed and put back: everything is as it was
-    pub changed-back : changed i (λ q. placeAt i raw) (changed i f raw) ≡ raw
-    changed-back = changed-again (λ q. placeAt i raw) length-place ∙ changed-none
-
     -- two writers of the place, one after the other
     pub changed-then : (g : List ℕ → List ℕ) {m o : List ℕ} → m ≡ changed i f raw → o ≡ changed i g m → length (g (f (placeAt i raw))) ≡ 2336
         → o ≡ changed i (λ q. g (f q)) raw

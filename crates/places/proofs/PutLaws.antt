@@ -109,23 +109,6 @@ module _ (ts : List (List ℕ)) (hint : ℕ) (marks settings : List ℕ) (shape 
       (written-mark ts hint (marks ++ (m ∷ [])) settings (shape-mark m u) (length marks) u ∙ more-at marks m 0)
       (λ i v. refl)
 
-  pub shape-setting : (s : ℕ) → length settings < 13 → Shaped ts marks (settings ++ (s ∷ []))
-  shape-setting s u = record {
-    fewTexts = shape .fewTexts;
-    short = shape .short;
-    fewMarks = shape .fewMarks;
-    fewSettings = rw (length-more settings s) (omega arith);
-  }
-
-  -- one setting more
-  pub put-setting : (s : ℕ) → length settings < 13 → putUnit (19 + length settings) s (written ts hint marks settings) ≡ written ts hint marks (settings ++ (s ∷ []))
-  put-setting s u =
-      put-written hint hint shape (shape-setting s u) (19 + length settings) s (omega arith)
-      (λ i v n. refl) (λ n. refl) (λ n. refl) (λ i v n. refl)
-      (λ i v n. sym (more-other settings s i 0 (λ e. n (ap (λ (x : ℕ). 19 + x) e))))
-      (written-setting ts hint marks (settings ++ (s ∷ [])) (shape-setting s u) (length settings) u ∙ more-at settings s 0)
-      (λ i v. refl)
-
   pub shape-text : (t : List ℕ) → length ts < 9 → length t ≤ 256 → Shaped (ts ++ (t ∷ [])) marks settings
   shape-text t u h = record {
     fewTexts = rw (length-more ts t) (omega arith);

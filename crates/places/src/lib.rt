@@ -4,7 +4,7 @@ ghost use mathlib.Core.List.{_∷_, _++_};
 ghost use Prim.Native.Nat.{_+_, _-_, _/_, _≤_, _<_};
 ghost use lib.ListN.{length};
 ghost use Rattle.laws.specs.Lists.{part};
-ghost use Rattle.places.specs.Layout.{placeAt, changed, unitAt, wideAt, roomAt, textAt, listCount, blank, zeros, tidyRoom, tidyRooms, tidy, putUnit, putWide, putText, putSettings, keyOnly, wideUnits};
+ghost use Rattle.places.specs.Layout.{placeAt, changed, unitAt, wideAt, roomAt, textAt, listCount, blank, zeros, tidyRooms, tidy, putUnit, putWide, putSettings, keyOnly, wideUnits};
 
 pub const PLACE: usize = 2336;
 
@@ -85,16 +85,6 @@ pub fn put_wide(cache: &mut [u16], i: usize, j: usize, v: u32)
     let at = i * PLACE + j;
     rooms::put_unit(cache, at, (v % 65536) as u16);
     rooms::put_unit(cache, at + 1, (v / 65536) as u16);
-}
-
-// Text j of place i, with its length; the rest of its room becomes zero.
-pub fn put_text(cache: &mut [u16], i: usize, j: usize, text: &[u16])
-    requires { ⌜ (i < length (now cache) / 2336) × ((j < 9) × (length (now text) ≤ 256)) ⌝ }
-    ensures { λ r. ⌜ now (cache .exit) ≡ changed i (putText j (now (text .entry))) (now (cache .entry)) ⌝ }
-{
-    let at = i * PLACE;
-    rooms::put_unit(cache, at + j, text.len() as u16);
-    rooms::put_text(cache, at + HEAD + j * ROOM, ROOM, text);
 }
 
 // Three units and two numbers of 32 bits, as settings of place i.

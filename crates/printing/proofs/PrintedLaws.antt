@@ -6,7 +6,7 @@ use native.Mathlib.Omega.{arith}
 use lib.ListN.{length, length-append}
 use Rattle.laws.specs.Choice.{choose}
 use Rattle.laws.proofs.Pasting.{pasted-nil}
-use Rattle.spelling.specs.Spelling.{hexUnits, spelled, decimal, Put}
+use Rattle.spelling.specs.Spelling.{hexUnits, Put}
 use Rattle.spelling.proofs.SpellingLaws.{length-hex, length-spelled}
 use Rattle.spelling.proofs.DecimalLaws.{length-decimal}
 use Rattle.listing.specs.Form.{pathLine, numberLine, ended, linesText}
@@ -17,19 +17,6 @@ use Rattle.steps.specs.declared.Kind.the-variants.{Dc, Root, Link, Sysvol, Io}
 use Rattle.packing.specs.Packing.{kindNumber, kindAt}
 use Rattle.packing.proofs.PackLaws.{kind-dc, kind-root, kind-link, kind-sysvol, kind-io}
 use Rattle.printing.specs.Printed.{toKey, nameKey, sizeKey, endKey, statusKey, pathKey, movesKey, refusedKey, askWord, askLine, statusLine, sizeLines, questionLines, endLines, refusedLine}
-
--- the pieces of a line
-pub path-parts : (key s : List ℕ) → ended (pathLine key s) ≡ key ++ (spelled s ++ (10 ∷ []))
-unfolding ended pathLine
-path-parts key s = append-assoc key (spelled s) (10 ∷ [])
-
-pub number-parts : (key : List ℕ) (n : ℕ) → ended (numberLine key n) ≡ key ++ (decimal n ++ (10 ∷ []))
-unfolding ended numberLine
-number-parts key n = append-assoc key (decimal n) (10 ∷ [])
-
-pub line-parts : (line : List ℕ) → ended line ≡ line ++ (10 ∷ [])
-unfolding ended
-line-parts line = refl
 
 pub status-parts : (n : ℕ) → ended (statusLine n) ≡ statusKey ++ (hexUnits (n / 65536) ++ (hexUnits (n % 65536) ++ (10 ∷ [])))
 unfolding ended statusLine

@@ -2,7 +2,6 @@
 ghost use mathlib.Core.Path.{_≡_};
 ghost use mathlib.Core.Bool.{true};
 ghost use Rattle.questions.specs.Questions.{nameFits, withRequest, nameUnits, nextUnits, named};
-use referral::Asked;
 use steps::Kind;
 use steps::Next;
 

@@ -37,10 +37,6 @@ length-request name =
     let h : length (name ++ (0 ∷ [])) ≡ length name + 1 = length-append name (0 ∷ []) in
     length-bytes (4 ∷ (name ++ (0 ∷ []))) ∙ omega arith
 
--- the request of the empty name, which asks for domains, is 4 bytes
-pub empty-request : length (request []) ≡ 4
-empty-request = length-request [] ∙ omega arith
-
 -- one unit stored
 pub pair-stored : (d : List ℕ) (at u : ℕ) → at + 1 < length d → set (set d at (u % 256)) (at + 1) (u / 256) ≡ pasted d at (bytesOf (u ∷ []))
 unfolding bytesOf

@@ -3,10 +3,10 @@ use mathlib.Core.Path.{_≡_, refl, sym, ap, _∙_, subst}
 use mathlib.Core.Bool.{Bool, true, false, _&&_, not, true≢false}
 use mathlib.Core.List.{List, [], _∷_, map}
 use mathlib.Core.Logic.{_⊎_, inl, inr}
-use Prim.Native.Nat.{ℕ, zero, suc, _+_, _-_, _≤_, _<_, min}
+use Prim.Native.Nat.{ℕ, zero, suc, _-_, _≤_, _<_, min}
 use native.Mathlib.Omega.{arith}
 use lib.Dec.{leb, eqb}
-use lib.ListN.{length, getD, take, length-take}
+use lib.ListN.{length, take, length-take}
 use borrow.Author.Tests.{eqb-false, leb-true, le-leb}
 use Rattle.laws.specs.Choice.{choose}
 use Rattle.laws.specs.Lists.{every}
@@ -15,9 +15,9 @@ use Rattle.laws.proofs.Orders.{told}
 use Rattle.laws.proofs.Every.{every-take}
 use Rattle.unc.specs.Names.{goodComponent, sameName}
 use Rattle.unc.specs.Paths.{leads, pieces, body, goodPath, normalised, isNormalised, normalisedCount, componentCount, matches}
-use Rattle.spans.specs.Bytes.{u16At, u32At, Text, ended, unended}
-use Rattle.referral.specs.Replies.{referralCount, starts, entries, pathOf, isRead, prefixAt, targetAt, goodFields, goodEntry, Target, laterTarget, keptTargets, Referral, referralIn, ttlAt, malformed, nothing, says, readAs, readReferral}
-use Rattle.referral.specs.Found.{answered, denoted, referralShown, targetShown, Within}
+use Rattle.spans.specs.Bytes.{Text, ended, unended}
+use Rattle.referral.specs.Replies.{referralCount, starts, entries, pathOf, isRead, prefixAt, targetAt, goodFields, goodEntry, Target, laterTarget, keptTargets, Referral, referralIn, malformed, nothing, says, readAs, readReferral}
+use Rattle.referral.specs.Found.{answered, denoted, referralShown}
 use Rattle.referral.specs.declared.ReferralFound.{ReferralFound}
 use Rattle.referral.specs.declared.Answer.{Answer}
 use Rattle.referral.specs.declared.Answer.the-variants.{Says}
@@ -176,19 +176,3 @@ says-sound size asked r x h = subst (Sound asked) (sym (w .same)) sound
 pub denoted-says : (r : List ℕ) (f : ReferralFound) → f .answer ≡ Says → denoted r f ≡ says (referralShown r f)
 unfolding denoted answered
 denoted-says r f h = ap (λ (a : Answer). answered a (referralShown r f)) h
-
-pub found-some : (r : List ℕ) (f : ReferralFound) (asked : List ℕ) → Sound asked (referralShown r f) → length (f .kept) ≡ 8 → Within r f → 1 ≤ f .targets
-unfolding referralShown
-found-some r f asked s h w =
-    let q : length (map (targetShown r) (take (f .targets) (f .kept))) ≡ min (f .targets) (length (f .kept)) =
-    length-map (targetShown r) (take (f .targets) (f .kept)) ∙ length-take (f .targets) (f .kept) in
-    omega (arith, q, s .some)
-
--- a number of bytes fits its width
-pub word-fits : (r : List ℕ) (i : ℕ) → ((k : ℕ) → getD r k 0 < 256) → u32At r i < 4294967296
-unfolding u32At u16At
-word-fits r i h = omega (arith, h i, h (i + 1), h (i + 2), h (i + 2 + 1))
-
-pub ttl-fits : (v : ℕ) (r : List ℕ) (e : ℕ) → ((k : ℕ) → getD r k 0 < 256) → ttlAt v r e < 4294967296
-unfolding ttlAt
-ttl-fits v r e h = word-fits r (e + 8) h

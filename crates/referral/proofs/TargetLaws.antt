@@ -7,7 +7,7 @@ use Prim.Native.Nat.{ℕ, zero, suc, _+_, _-_, _*_, _≤_, _<_, min}
 use native.Mathlib.Omega.{arith}
 use lib.Dec.{eqb}
 use lib.ListN.{length, take, set, replicate}
-use borrow.Author.Tests.{eq-eqb, ne-eqb, le-leb, leb-true}
+use borrow.Author.Tests.{eq-eqb, ne-eqb, le-leb}
 use Rattle.laws.specs.Lists.{every}
 use Rattle.laws.proofs.Choices.{and-left, and-right, and-no-left}
 use Rattle.laws.proofs.Orders.{lt-or-le}
@@ -95,10 +95,6 @@ target-next n i r e l s o g h k m j a b =
 pub inside-test : (r : List ℕ) (s : Span) → Inside r s → inside r s ≡ true
 unfolding inside
 inside-test r s h = le-leb (s .from + 2 * s .units) (length r) h
-
-pub test-inside : (r : List ℕ) (s : Span) → inside r s ≡ true → Inside r s
-unfolding inside
-test-inside r s h = leb-true (s .from + 2 * s .units) (length r) h
 
 pub kept-next : (r : List ℕ) (l : List Kept) (i : ℕ) (s : Span) (o : Bool) → every (keptInside r) l ≡ true → Inside r s
     → every (keptInside r) (set l i (record { path = s; opens = o })) ≡ true

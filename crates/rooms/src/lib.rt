@@ -1,6 +1,6 @@
 // Writing units into lent memory: one unit, a piece, zeros, a text in its room. What lies outside the place that is named stays.
 ghost use mathlib.Core.Path.{_≡_};
-ghost use mathlib.Core.List.{List, [], _∷_};
+ghost use mathlib.Core.List.{[], _∷_};
 ghost use Prim.Native.Nat.{_+_, _-_, _≤_, _<_, min};
 ghost use lib.ListN.{length, replicate};
 ghost use Rattle.laws.specs.Lists.{pasted, roomed};

@@ -57,12 +57,5 @@ put-then d n p q {m} {o} {a} {b} v w h =
       end = omega (arith, v .end, w .end);
     }
 
--- the second fits where both do
-pub then-fits : (d : List ℕ) (n : ℕ) (p q : List ℕ) {m : List ℕ} {a : ℕ} → Put d n p m a → n + length (p ++ q) ≤ length d → a + length q ≤ length m
-then-fits d n p q v h =
-    let k : length (p ++ q) ≡ length p + length q = length-append p q in
-    let l = length-put v (omega arith) in
-    omega (arith, v .end)
-
 pub put-piece : {d : List ℕ} {n : ℕ} {p o : List ℕ} → o ≡ pasted d n p → Put d n p o (n + length p)
 put-piece e = record { memory = e; end = refl }

@@ -1,9 +1,8 @@
 // Texts and numbers as they are spelled in a listing: document 01, "The listing".
 ghost use mathlib.Core.Path.{_≡_};
-ghost use mathlib.Core.List.{_∷_};
 ghost use Prim.Native.Nat.{_+_, _≤_, _<_};
 ghost use lib.ListN.{length};
-ghost use Rattle.spelling.specs.Spelling.{tilde, stands, digitUnit, hexUnits, spelledUnit, spelled, decimal, Put};
+ghost use Rattle.spelling.specs.Spelling.{stands, digitUnit, hexUnits, spelledUnit, spelled, decimal, Put};
 
 const TILDE: u16 = 126;
 

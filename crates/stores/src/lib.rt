@@ -3,7 +3,7 @@
 ghost use mathlib.Core.Path.{_≡_};
 ghost use mathlib.Core.Bool.{true};
 ghost use Prim.Native.Nat.{_≤_};
-ghost use lib.ListN.{length, take};
+ghost use lib.ListN.{take};
 ghost use Rattle.unc.specs.Paths.{matches};
 ghost use Rattle.spans.specs.Spans.{spanned};
 ghost use Rattle.referral.specs.Found.{referralShown};

@@ -28,7 +28,6 @@ use Rattle.lookup.specs.declared.Found.{Found}
 use Rattle.lookup.specs.declared.Found.the-variants.{At, Nothing}
 use Rattle.lookup.proofs.LookupLaws.{KeyAt, key-found}
 use Rattle.lookup.proofs.StoreLaws.{entry-good}
-use Rattle.lookup.proofs.EntryLaws.{target-hint-order}
 use Rattle.storing.specs.Stored.{prefixed}
 use Rattle.steps.specs.Steps.{Caches, Core, Question, Called, stops, ends, asks, Turn, ended, rests, asking, goes, inUse, referralInUse, hintSet, targetHintSet, withReferrals, nextPlace, onward, step8, linkRequest, severity, isOneOf, nextTargetStatuses, pathNotCovered, ioFails, ioWith, ioAnswered}
 use Rattle.steps.specs.Rested.{cachesOf, coreOf, askingOf, nextOf, triedOf, restedOf, endedAt, askedAt}
@@ -436,26 +435,6 @@ io-domains refs doms path size hit q tried status io = go (placeInUse (take (q .
     go (At i) h (inr s) =
         let u = use-told _ refs _ _ i h in
         same (answered-done refs doms path size hit q tried status io i u s) (answered-done refs [] path size hit q tried status io i u s) refl
-
--- the referral cache left is in order
-pub io-order : (refs doms path : List ℕ) (size : ℕ) (hit : Bool) (q : Asking) (tried : List ℕ) (status : ℕ) → q .kind ≡ Io → inOrder referrals refs ≡ true
-    → inOrder referrals (encode referrals (ioAnswered (cachesOf refs doms) (coreOf path size hit) (questionOf q tried) status .caches .referrals)) ≡ true
-unfolding cachesOf
-io-order refs doms path size hit q tried status io order = go (placeInUse (take (q .entry) path) refs (q .party) (q .began)) refl (eq-or-ne (severity status) 3)
-  where
-    Fine : Turn → Type 0
-    Fine t = inOrder referrals (encode referrals (t .caches .referrals)) ≡ true
-
-    kept : inOrder referrals (encode referrals (decode referrals refs)) ≡ true
-    kept = ap (inOrder referrals) (encode-decode referrals refs order) ∙ order
-
-    go : (f : Found) → placeInUse (take (q .entry) path) refs (q .party) (q .began) ≡ f → (severity status ≡ 3) ⊎ (severity status ≡ 3 → ⊥)
-        → Fine (ioAnswered (cachesOf refs doms) (coreOf path size hit) (questionOf q tried) status)
-    go Nothing h s = subst Fine (sym (answered-gone refs doms path size hit q tried status io h)) kept
-    go (At i) h (inl s) = subst Fine (sym (answered-fails refs doms path size hit q tried status io i (use-told _ refs _ _ i h) s)) kept
-    go (At i) h (inr s) =
-        let u : InUse (take (q .entry) path) refs (q .party) (q .began) i = use-told _ refs _ _ i h in
-        subst Fine (sym (answered-done refs doms path size hit q tried status io i u s)) (target-hint-order refs i (q .party) order (use-fits u) (use-party u))
 
 -- it calls for an end or a question, so the steps rest there
 quiet-with : (c : Caches) (w : Core) (q : Question) (status : ℕ) (o : Option Referral) → Quiet (ioWith c w q status o .called)

@@ -1,7 +1,7 @@
 // The answer to an I/O try: done, a link request, the next target, or an end.
 ghost use mathlib.Core.Path.{_≡_};
 ghost use mathlib.Core.List.{[]};
-ghost use lib.ListN.{length, take};
+ghost use lib.ListN.{take};
 ghost use Rattle.caches.specs.Memory.{referrals, encode};
 ghost use Rattle.lookup.specs.Lookup.{entryAt};
 ghost use Rattle.steps.specs.Steps.{ioAnswered, ioFails};

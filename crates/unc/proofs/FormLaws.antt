@@ -1,12 +1,12 @@
 -- Laws of a text's form as a path, of normalising and of the replaced path.
 use mathlib.Core.Path.{_≡_, refl, sym, ap, _∙_}
 use mathlib.Core.Bool.{Bool, true, false, not}
-use mathlib.Core.List.{List, [], _∷_, _++_}
+use mathlib.Core.List.{List, [], _∷_}
 use mathlib.Core.Logic.{_⊎_, inl, inr, _≢_}
-use Prim.Native.Nat.{ℕ, _+_, _-_, _≤_, _<_, zero-le, min}
+use Prim.Native.Nat.{ℕ, _+_, _-_, _≤_, _<_, zero-le}
 use native.Mathlib.Omega.{arith}
 use lib.Dec.{leb, eqb}
-use lib.ListN.{length, getD, take, drop, length-take, length-drop, length-append, List·getD-eq-default, drop-of-length-le}
+use lib.ListN.{length, getD, take, drop, length-take, length-drop, List·getD-eq-default, drop-of-length-le}
 use lib.Seq.{drop-cons, take-all, take-length}
 use borrow.Author.Tests.{eq-eqb, ne-eqb, le-leb, lt-leb}
 use Rattle.laws.specs.Choice.{choose}
@@ -15,9 +15,8 @@ use Rattle.laws.proofs.Choices.{choose-yes, choose-no, and-no-left, and-no-righ
 use Rattle.laws.proofs.Orders.{told, lt-or-le}
 use Rattle.laws.proofs.Pasting.{room-in-two}
 use Rattle.unc.specs.Names.{goodComponent}
-use Rattle.unc.specs.Paths.{pieces, componentCount, leads, withoutTrail, body, goodPath, normalised, isNormalised, goodCount, formWithin, roomAfter, normalisedCount, replaced, written, roomWith}
+use Rattle.unc.specs.Paths.{pieces, componentCount, leads, withoutTrail, body, goodPath, normalised, isNormalised, goodCount, formWithin, roomAfter, normalisedCount}
 use Rattle.unc.specs.declared.Form.the-variants.{Bad, Long, Good}
-use Rattle.unc.specs.declared.Written.the-variants.{Units, TooLong}
 use Rattle.unc.proofs.PieceLaws.{length-pieces, count-backslash, parts}
 
 -- leading backslashes
@@ -188,24 +187,6 @@ module _ (s : List ℕ) (from to k : ℕ) (a : from ≡ leads s) (b : to ≡ fro
           count-found ∙ (count-some (body s) (λ e. g (count-found ∙ e)) .1 ∙ sym (count-normalised (body s))) in
           form-yes m s found-good (rw (← body-length) l) ∙ (λ i. Good (sym body-length i) (sym e i))
 
--- a room for a text, and one that is too short
-module _ (s room : List ℕ) where
-  pub written-long : length room < length s → TooLong ≡ written (length room) s
-  unfolding written
-  written-long h = sym (choose-no (Units (length s)) TooLong (lt-leb (length s) (length room) h))
-
-  pub written-fits : {n : ℕ} → n ≡ length s → n ≤ length room → Units n ≡ written (length room) s
-  unfolding written
-  written-fits e h = sym (choose-yes (Units (length s)) TooLong (le-leb (length s) (length room) (rw (← e) h)) ∙ (λ i. Units (sym e i)))
-
-  pub roomWith-long : length room < length s → room ≡ roomWith s room
-  unfolding roomWith
-  roomWith-long h = sym (choose-no (roomed (length room) s) room (lt-leb (length s) (length room) h))
-
-  pub roomWith-fits : {n : ℕ} {o : List ℕ} → n ≡ length s → n ≤ length room → o ≡ roomed (length room) s → o ≡ roomWith s room
-  unfolding roomWith
-  roomWith-fits e h f = f ∙ sym (choose-yes (roomed (length room) s) room (le-leb (length s) (length room) (rw (← e) h)))
-
 -- A form told: what follows for the path and for its room.
 module _ (s room : List ℕ) where
   roomAfter-bad : goodPath s ≡ false → roomAfter s room ≡ room
@@ -247,30 +228,6 @@ module _ (s room : List ℕ) where
 
   pub form-stays-long : Long ≡ formWithin (length room) s → room ≡ roomAfter s room
   form-stays-long e = form-stays (λ h. never-long (e ∙ h))
-
--- the replaced path, from the place where the rest of the path begins
-module _ (target path : List ℕ) (k from : ℕ) (e : from ≡ min k (length path)) where
-  rest-from : drop from path ≡ drop k path
-  rest-from = go (lt-or-le k (length path))
-    where
-      go : (k < length path) ⊎ (length path ≤ k) → drop from path ≡ drop k path
-      go (inl h) = let f : from ≡ k = omega arith in ap (λ (i : ℕ). drop i path) f
-      go (inr h) =
-          let f : length path ≤ from = omega arith in
-          drop-of-length-le path f ∙ sym (drop-of-length-le path h)
-
-  pub length-replaced : length target + (length path - from) ≡ length (replaced target k path)
-  unfolding replaced
-  length-replaced = simp (length-append, length-drop) (omega arith)
-
-  pub room-replaced : (room : List ℕ) {m o : List ℕ} → m ≡ pasted room 0 target
-      → o ≡ pasted m (length target) (roomed (length room - length target) (take (length path - from) (drop from path)))
-      → length target + (length path - from) ≤ length room → o ≡ roomed (length room) (replaced target k path)
-  unfolding replaced
-  room-replaced room f g h =
-      let l : length (drop from path) ≡ length path - from = length-drop from path in
-      let t : take (length path - from) (drop from path) ≡ drop from path = take-all (length path - from) (drop from path) (omega arith) in
-      room-in-two room target (drop from path) f (g ∙ rw t) (omega arith) ∙ ap (λ (x : List ℕ). roomed (length room) (target ++ x)) rest-from
 
 -- the number of components of a text that is a normalised path
 module _ (s : List ℕ) where

@@ -61,15 +61,6 @@ alone-of u e h = record { only = λ a k. at a (eqb-true (folded a) (folded u) k)
 pub alone-backslash : Alone 92
 alone-backslash = alone-of 92 (folded-above 92 (omega arith)) (λ a p q e. omega arith)
 
-pub alone-slash : Alone 47
-alone-slash = alone-of 47 (folded-below 47 (omega arith)) (λ a p q e. omega arith)
-
-pub alone-dot : Alone 46
-alone-dot = alone-of 46 (folded-below 46 (omega arith)) (λ a p q e. omega arith)
-
-pub alone-zero : Alone 0
-alone-zero = alone-of 0 (folded-below 0 (omega arith)) (λ a p q e. omega arith)
-
 -- equal names are an equivalence
 pub sameName-refl : (s : List ℕ) → sameName s s ≡ true
 unfolding sameName

@@ -285,16 +285,6 @@ pub count-nil : componentCount [] ≡ 0
 unfolding componentCount components
 count-nil = ap (λ (ps : List (List ℕ)). length (drop 1 ps)) pieces-nil
 
-module _ (s : List ℕ) (i : ℕ) where
-  pub components-hit : i < length s → getD s i 0 ≡ 92 → componentCount (drop i s) ≡ 1 + componentCount (drop (i + 1) s)
-  components-hit h e = rw (add-one i, drop-cons s i 0 h, count-backslash (getD s i 0) (drop (suc i) s) e) (omega arith)
-
-  pub components-miss : i < length s → (getD s i 0 ≡ 92 → ⊥) → componentCount (drop i s) ≡ componentCount (drop (i + 1) s)
-  components-miss h e = rw (add-one i, drop-cons s i 0 h, count-other (getD s i 0) (drop (suc i) s) e)
-
-  pub components-end : length s ≤ i → componentCount (drop i s) ≡ 0
-  components-end h = rw (drop-of-length-le s h) count-nil
-
 -- The first k components as a text: unit by unit.
 joined-some : (p : List ℕ) (s : List ℕ) (k : ℕ) → joined (p ∷ take (suc k) (pieces s)) ≡ p ++ (92 ∷ joined (take (suc k) (pieces s)))
 unfolding joined

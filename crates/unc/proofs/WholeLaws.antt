@@ -59,10 +59,6 @@ module _ (s : List ℕ) (h : isNormalised s ≡ true) where
   unfolding components
   components-of = ap (λ (x : List ℕ). drop 1 (pieces x)) opened ∙ ap (drop 1) (pieces-parted 92 (drop 1 s) refl)
 
-  pub count-of : componentCount s ≡ length (pieces (drop 1 s))
-  unfolding componentCount
-  count-of = ap length components-of
-
   -- what follows a backslash in it is good too
   pub rest-good : (a b : List ℕ) → drop 1 s ≡ a ++ (92 ∷ b) → every goodComponent (pieces b) ≡ true
   rest-good a b e =

@@ -122,7 +122,3 @@ replaced target k s = target ++ drop k s
 -- a text written into a room of n units, or told to be too long for it
 unfoldable pub written : ℕ → List ℕ → Written
 written n s = choose (leb (length s) n) (Units (length s)) TooLong
-
--- the room after that
-unfoldable pub roomWith : List ℕ → List ℕ → List ℕ
-roomWith s room = choose (leb (length s) (length room)) (roomed (length room) s) room

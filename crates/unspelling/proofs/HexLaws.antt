@@ -28,13 +28,6 @@ pub digit-letter : (u : ℕ) → 58 ≤ u → u - 55 ≡ digitOf u
 unfolding digitOf
 digit-letter u h = sym (choose-no _ _ (lt-leb u 57 (omega arith)))
 
-pub digit-small : (u : ℕ) → u < 65536 → digitOf u < 65536
-digit-small u h = go (lt-or-le u 58)
-  where
-    go : (u < 58) ⊎ (58 ≤ u) → digitOf u < 65536
-    go (inl l) = omega (arith, digit-decimal u l)
-    go (inr l) = omega (arith, digit-letter u l)
-
 -- the test of a digit
 pub hex-low : (u : ℕ) → u < 48 → false ≡ hexDigit u
 unfolding hexDigit

@@ -240,14 +240,6 @@ module _ {path tried : List ℕ} {q : Asking} (w : Waiting path tried q) where
       go (inl y) h = inl (eqb-true (q .entry) 0 (and-left _ _ y), party-told path q (and-right (eqb (q .entry) 0) _ y))
       go (inr n) h = inr (domain-told path q (rw n at h))
 
-  pub dc-party : q .kind ≡ Dc → (q .party ≡ 0) × (q .began ≡ 0)
-  unfolding askedInForm
-  dc-party e = party-told path q (and-left _ _ (and-right (namesDomain path q) _ (asked-as e)))
-
-  pub sysvol-party : q .kind ≡ Sysvol → q .party ≡ q .began
-  unfolding askedInForm oneParty
-  sysvol-party e = eqb-true (q .party) (q .began) (and-left _ _ (and-right (namesDomain path q) _ (asked-as e)))
-
   -- a request: its size, and no path tried
   pub request-size : hasTried (q .kind) ≡ false → (1024 ≤ q .size) × (q .size ≤ 57344)
   request-size n = size-told (q .size) (size-of path q (q .kind) n (w .form))
@@ -255,26 +247,9 @@ module _ {path tried : List ℕ} {q : Asking} (w : Waiting path tried q) where
   pub request-tried : hasTried (q .kind) ≡ false → tried ≡ []
   request-tried n = none-tried (q .kind) tried n (w .tried-form)
 
-  -- an I/O try: no size, and the path tried
-  pub io-size : q .kind ≡ Io → q .size ≡ 0
-  unfolding askedInForm
-  io-size e = eqb-true (q .size) 0 (and-left _ _ (and-right (namesPrefix path q) _ (asked-as e)))
-
   pub io-count : q .kind ≡ Io → 1 ≤ normalisedCount tried
   unfolding hasTried goodTried
   io-count e = leb-true 1 (normalisedCount tried) (ap (λ k. goodTried (hasTried k) tried) (sym e) ∙ w .tried-form)
-
-  pub io-tried : q .kind ≡ Io → length tried ≤ 256
-  io-tried e = count-short tried (io-count e)
-
--- kinds but I/O have no path tried
-pub no-tried : (k : Kind) → (k ≡ Io → ⊥) → hasTried k ≡ false
-unfolding hasTried
-no-tried Dc n = refl
-no-tried Root n = refl
-no-tried Link n = refl
-no-tried Sysvol n = refl
-no-tried Io n = absurd (n refl)
 
 -- texts of a next move in form fit their rooms
 tried-short : (has : Bool) (t : List ℕ) → goodTried has t ≡ true → length t ≤ 256

@@ -4,7 +4,7 @@ ghost use Prim.Native.Nat.{_+_, _<_, _≤_};
 ghost use lib.ListN.{length, getD};
 ghost use Rattle.namelists.specs.NameLists.{readDomains};
 ghost use Rattle.namelists.specs.Found.{answerOf};
-ghost use Rattle.wire.specs.Wire.{answerNumber, bitOf, bitsOf, headOf, keptOf, noKept, HeadOf, TargetOf, DcOf, DcsOf, Good, DomainOf};
+ghost use Rattle.wire.specs.Wire.{answerNumber, bitOf, bitsOf, headOf, keptOf, HeadOf, TargetOf, DcOf, DcsOf, Good, DomainOf};
 ghost use Rattle.referral.specs.Replies.{referralCount, entries};
 ghost use Rattle.referral.specs.declared.Answer.the-variants.{Says};
 use referral::Answer;

@@ -1,6 +1,5 @@
 use denote.Ref.{now}
 use mathlib.Core.Path.{sym, ap, _∙_}
-use Prim.Native.Nat.{_-_}
 use native.Mathlib.Omega.{arith}
 use Rattle.spans.proofs.UnitLaws.{ended-at, unended-at}
 use Rattle.namelists.specs.NameLists.{dcOf}

@@ -1,6 +1,5 @@
 -- The DC name in a text.
 use denote.Ref.{now}
-use Prim.Native.Nat.{_-_}
 use native.Mathlib.Omega.{arith}
 use Rattle.spans.specs.Spans.{spanned}
 use Rattle.namelists.specs.NameLists.{bare}

@@ -1,7 +1,7 @@
 -- The domain name of an entry.
 use denote.Ref.{now}
 use mathlib.Core.Path.{sym, ap, _∙_}
-use Prim.Native.Nat.{ℕ, _+_, _-_}
+use Prim.Native.Nat.{ℕ, _+_}
 use native.Mathlib.Omega.{arith}
 use Rattle.spans.specs.Bytes.{textAt}
 use Rattle.spans.proofs.UnitLaws.{ended-at, unended-at}

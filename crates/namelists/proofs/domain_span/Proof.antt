@@ -1,7 +1,6 @@
 -- The domain name in a text.
 use denote.Ref.{now}
 use mathlib.Core.Path.{sym, ap, _∙_}
-use Prim.Native.Nat.{_-_}
 use native.Mathlib.Omega.{arith}
 use Rattle.spans.specs.Spans.{spanned, partOf}
 use Rattle.spans.proofs.UnitLaws.{length-spanned, inside-is}

@@ -1,7 +1,6 @@
 -- The first entry of a DC reply: its numbers, then its names.
 use mathlib.Core.Path.{ap}
 use denote.Ref.{now}
-use Prim.Native.Nat.{_-_}
 use native.Mathlib.Omega.{arith}
 use Rattle.reader.specs.declared.Offsets.{Offsets}
 use Rattle.reader.specs.declared.Marks.{Marks}

@@ -1,7 +1,7 @@
 -- The first 8 DC names: the loop stores one of them each turn.
 use denote.Ref.{now}
 use mathlib.Core.Path.{_≡_, _∙_}
-use Prim.Native.Nat.{_+_, _-_, _≤_}
+use Prim.Native.Nat.{_-_, _≤_}
 use lib.ListN.{length, take}
 use native.Mathlib.Omega.{arith}
 use Rattle.spans.specs.Spans.{spanned}

@@ -1,6 +1,5 @@
 -- Nothing is handed on.
 use mathlib.Core.Path.{refl}
-use Prim.Native.Nat.{_-_}
 use Rattle.namelists.specs.Found.{noDcs}
 use Rattle.namelists.proofs.no_dcs.Statement.{statement}
 use Rattle.namelists.proofs.no_dcs.Tie as tie

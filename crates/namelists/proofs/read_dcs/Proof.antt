@@ -1,7 +1,6 @@
 -- A DC reply is read: its length, the number of its entries, its first entry.
 use denote.Ref.{now}
 use mathlib.Core.Path.{ap, sym, _∙_}
-use Prim.Native.Nat.{_-_}
 use lib.ListN.{take}
 use native.Mathlib.Omega.{arith}
 use Rattle.reader.specs.declared.Header.{Header}

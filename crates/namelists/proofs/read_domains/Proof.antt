@@ -1,7 +1,6 @@
 -- A domain reply is read: its length, the number of its entries, its entries.
 use denote.Ref.{now}
 use mathlib.Core.Path.{ap, sym, _∙_}
-use Prim.Native.Nat.{_-_}
 use native.Mathlib.Omega.{arith}
 use Rattle.reader.specs.declared.Header.{Header}
 use Rattle.referral.specs.Replies.{entries}

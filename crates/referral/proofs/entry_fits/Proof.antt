@@ -1,7 +1,6 @@
 -- An entry lies inside the reply and is as long as its fixed part.
 use mathlib.Core.Path.{ap}
 use denote.Ref.{now}
-use Prim.Native.Nat.{_-_}
 use native.Mathlib.Omega.{arith}
 use Rattle.reader.specs.declared.Start.{Start}
 use Rattle.referral.specs.Replies.{sizeAt}

@@ -1,5 +1,4 @@
 -- TargetFailback by version and header.
-use Prim.Native.Nat.{_-_}
 use Rattle.referral.proofs.ReplyLaws.{failback-other, failback-flag}
 use borrow.Author.Needs.{needs}
 use Rattle.referral.proofs.failback_in.Statement.{statement}

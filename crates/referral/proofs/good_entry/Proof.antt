@@ -1,6 +1,5 @@
 -- One entry, held to the first one.
 use denote.Ref.{now}
-use Prim.Native.Nat.{_-_}
 use native.Mathlib.Omega.{arith}
 use borrow.Author.Tests.{not-true, not-false}
 use Rattle.referral.specs.Replies.{prefixAt, targetAt}

@@ -1,7 +1,6 @@
 -- The numbers of an entry, held to those of the first one.
 use mathlib.Core.Path.{ap}
 use denote.Ref.{now}
-use Prim.Native.Nat.{_-_}
 use native.Mathlib.Omega.{arith}
 use Rattle.reader.specs.declared.Marks.{Marks}
 use Rattle.reader.specs.declared.Start.{Start}

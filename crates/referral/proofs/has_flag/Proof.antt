@@ -1,5 +1,4 @@
 -- Whether a flag is set.
-use Prim.Native.Nat.{_-_}
 use Rattle.referral.proofs.EntryLaws.{flag-is}
 use borrow.Author.Needs.{needs}
 use Rattle.referral.proofs.has_flag.Statement.{statement}

@@ -1,5 +1,4 @@
 -- Versions 3 and 4 are read.
-use Prim.Native.Nat.{_-_}
 use Rattle.referral.proofs.EntryLaws.{readable-three, readable-other}
 use Rattle.referral.proofs.is_readable.Statement.{statement}
 use Rattle.referral.proofs.is_readable.Tie as tie

@@ -1,6 +1,6 @@
 -- Where the next entry starts.
 use mathlib.Core.Path.{ap}
-use Prim.Native.Nat.{ℕ, _+_, _-_}
+use Prim.Native.Nat.{ℕ, _+_}
 use Rattle.reader.specs.declared.Start.{Start}
 use Rattle.referral.specs.Replies.{sizeAt}
 use borrow.Author.Needs.{needs}

@@ -1,6 +1,5 @@
 -- Nothing is handed on.
 use mathlib.Core.Path.{refl}
-use Prim.Native.Nat.{_-_}
 use Rattle.referral.specs.Found.{noReferral}
 use Rattle.referral.proofs.no_referral.Statement.{statement}
 use Rattle.referral.proofs.no_referral.Tie as tie

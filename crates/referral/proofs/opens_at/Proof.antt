@@ -1,7 +1,6 @@
 -- Whether a target set opens before a target.
 use mathlib.Core.Path.{ap}
 use denote.Ref.{now}
-use Prim.Native.Nat.{_-_}
 use Rattle.reader.specs.declared.Marks.{Marks}
 use Rattle.reader.specs.declared.Start.{Start}
 use Rattle.referral.proofs.TargetLaws.{opens-first, opens-other, opens-flag}

@@ -1,7 +1,6 @@
 -- The path at a byte.
 use denote.Ref.{now}
 use mathlib.Core.Path.{sym, ap, _∙_}
-use Prim.Native.Nat.{_-_}
 use native.Mathlib.Omega.{arith}
 use Rattle.spans.proofs.UnitLaws.{ended-at, unended-at}
 use Rattle.referral.specs.Replies.{pathOf}

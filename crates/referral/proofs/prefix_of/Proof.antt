@@ -1,7 +1,7 @@
 -- The DFSPath of an entry.
 use denote.Ref.{now}
 use mathlib.Core.Path.{ap, _∙_}
-use Prim.Native.Nat.{_+_, _-_}
+use Prim.Native.Nat.{_+_}
 use Rattle.spans.specs.Bytes.{textAt}
 use Rattle.reader.specs.declared.Offsets.{Offsets}
 use Rattle.referral.specs.Replies.{pathOf, textOf, prefixAt}

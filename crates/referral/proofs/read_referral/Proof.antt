@@ -1,7 +1,7 @@
 -- A reply is read: its length, the number of its entries, its entries, its prefix.
 use denote.Ref.{now}
 use mathlib.Core.Path.{sym, ap, _∙_}
-use Prim.Native.Nat.{ℕ, _-_}
+use Prim.Native.Nat.{ℕ}
 use native.Mathlib.Omega.{arith}
 use Rattle.reader.specs.declared.Header.{Header}
 use Rattle.referral.specs.Replies.{goodEntry, entries}

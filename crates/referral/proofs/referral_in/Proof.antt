@@ -1,7 +1,7 @@
 -- What a reply says, field by field.
 use denote.Ref.{now}
 use mathlib.Core.Path.{ap, _∙_}
-use Prim.Native.Nat.{ℕ, _-_}
+use Prim.Native.Nat.{ℕ}
 use lib.ListN.{take}
 use native.Mathlib.Omega.{arith}
 use Rattle.reader.specs.declared.Marks.{Marks}

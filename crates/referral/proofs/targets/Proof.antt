@@ -5,7 +5,7 @@ use Rattle.reader.specs.declared.Header.{Header}
 use Rattle.referral.proofs.TargetLaws.{toCome, come-all, target-next, kept-next, left-fits, left-next}
 use denote.Ref.{now}
 use mathlib.Core.Path.{ap, _≡_, sym, _∙_}
-use Prim.Native.Nat.{_+_, _-_, _≤_}
+use Prim.Native.Nat.{_-_, _≤_}
 use lib.ListN.{length, take}
 use native.Mathlib.Omega.{arith}
 use Rattle.referral.specs.Replies.{goodEntry, starts, entries}

@@ -1,6 +1,5 @@
 -- A unit as two bytes, the low one first.
 use denote.Ref.{now}
-use Prim.Native.Nat.{_-_}
 use native.Mathlib.Omega.{arith}
 use Rattle.referral.proofs.RequestLaws.{pair-stored}
 use borrow.Author.Needs.{needs}

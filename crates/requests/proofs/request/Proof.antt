@@ -1,6 +1,5 @@
 -- A request into a lent buffer, in three pieces.
 use denote.Ref.{now}
-use Prim.Native.Nat.{_-_}
 use native.Mathlib.Omega.{arith}
 use Rattle.referral.proofs.RequestLaws.{length-request, request-short, request-written}
 use borrow.Author.Needs.{needs}

@@ -1,7 +1,6 @@
 -- The number of bytes of a request.
 use denote.Ref.{now}
 use mathlib.Core.Path.{sym}
-use Prim.Native.Nat.{_-_}
 use Rattle.referral.proofs.RequestLaws.{length-request}
 use borrow.Author.Needs.{needs}
 use Rattle.requests.proofs.request_length.Statement.{statement}

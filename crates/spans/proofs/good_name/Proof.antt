@@ -1,6 +1,6 @@
 -- A name that is no path: one good component of at most 255 units.
 use mathlib.Core.Path.{_∙_, sym, ap}
-use Prim.Native.Nat.{ℕ, _-_}
+use Prim.Native.Nat.{ℕ}
 use lib.Dec.{leb}
 use denote.Ref.{now}
 use native.Mathlib.Omega.{arith}

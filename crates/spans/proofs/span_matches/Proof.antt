@@ -1,6 +1,6 @@
 -- Whether a prefix in the bytes matches a path.
 use mathlib.Core.Path.{_∙_, sym, ap}
-use Prim.Native.Nat.{ℕ, _-_}
+use Prim.Native.Nat.{ℕ}
 use lib.ListN.{getD, take}
 use lib.Seq.{length-take-le}
 use denote.Ref.{now}

@@ -1,7 +1,6 @@
 -- Number k of domain i.
 use denote.Ref.{now}
 use mathlib.Core.Path.{refl, ap, _∙_}
-use Prim.Native.Nat.{_-_}
 use native.Mathlib.Omega.{arith}
 use Rattle.namelists.specs.NameLists.{domainAt}
 use Rattle.wire.specs.Wire.{spanOf}

@@ -1,7 +1,6 @@
 -- A domain reply is read, then its domain i.
 use denote.Ref.{now}
 use mathlib.Core.Path.{sym, _∙_}
-use Prim.Native.Nat.{_-_}
 use native.Mathlib.Omega.{arith}
 use Rattle.referral.specs.Replies.{referralCount}
 use Rattle.namelists.specs.NameLists.{readDomains}

@@ -17,12 +17,14 @@ use spans::Span;
 
 const BACKSLASH: u16 = 92;
 
+// A DC reply: the first `count` places of `kept` are the DC names, as spans of the reply.
 pub struct DcsFound {
     pub answer: Answer,
     pub kept: [Span; 8],
     pub count: usize,
 }
 
+// A name without a leading backslash.
 fn bare(r: &[u8], s: Span) -> Span
     requires { ⌜ Inside (now r) s ⌝ }
     ensures name { λ v. ⌜ spanned (now (r .entry)) v ≡ bare (spanned (now (r .entry)) s) ⌝ }
@@ -38,6 +40,7 @@ fn bare(r: &[u8], s: Span) -> Span
     spans::part(s, 1, n)
 }
 
+// The DC name in a text; no units where it is not one.
 fn dc_span(r: &[u8], s: Span) -> Span
     requires { ⌜ Inside (now r) s ⌝ }
     ensures name { λ v. ⌜ spanned (now (r .entry)) v ≡ dcOf (ended (spanned (now (r .entry)) s)) ⌝ }
@@ -50,6 +53,7 @@ fn dc_span(r: &[u8], s: Span) -> Span
     Span { from: 0, units: 0 }
 }
 
+// The domain name in a text "\domain"; no units where it is not one.
 fn domain_span(r: &[u8], s: Span) -> Span
     requires { ⌜ Inside (now r) s ⌝ }
     ensures name { λ v. ⌜ spanned (now (r .entry)) v ≡ domainOf (ended (spanned (now (r .entry)) s)) ⌝ }
@@ -69,6 +73,7 @@ fn domain_span(r: &[u8], s: Span) -> Span
     Span { from: 0, units: 0 }
 }
 
+// The domain name of the entry at e.
 pub fn domain_at(r: &[u8], e: usize) -> Span
     requires { ⌜ (e + 13 < length (now r)) × (length (now r) < 4294967296) ⌝ }
     ensures name { λ v. ⌜ spanned (now (r .entry)) v ≡ domainAt (now (r .entry)) e ⌝ }
@@ -82,11 +87,13 @@ pub fn domain_at(r: &[u8], e: usize) -> Span
     domain_span(r, Span { from: at, units })
 }
 
+// A DC name, and where the text after it starts.
 struct Dc {
     name: Span,
     next: usize,
 }
 
+// The DC name at a byte; no units where there is none.
 fn dc_at(r: &[u8], at: usize) -> Dc
     ensures name { λ v. ⌜ spanned (now (r .entry)) (v .name) ≡ dcOf (textAt (now (r .entry)) at) ⌝ }
     ensures next { λ v. ⌜ v .next ≡ at + bytesPast (textAt (now (r .entry)) at) ⌝ }
@@ -105,6 +112,7 @@ fn dc_at(r: &[u8], at: usize) -> Dc
     }
 }
 
+// Whether the n texts from a byte on are DC names.
 fn good_names(r: &[u8], n: usize, from: usize) -> bool
     ensures { λ v. ⌜ v ≡ every isRead (map dcOf (textsAt n from (now (r .entry)))) ⌝ }
 {
@@ -122,6 +130,7 @@ fn good_names(r: &[u8], n: usize, from: usize) -> bool
     true
 }
 
+// The first 8 of the n DC names from a byte on.
 fn names(r: &[u8], n: usize, from: usize) -> [Span; 8]
     ensures names { λ v. ⌜ map (spanned (now (r .entry))) (take (min n 8) v) ≡ take 8 (map dcOf (textsAt n from (now (r .entry)))) ⌝ }
     ensures inside { λ v. ⌜ every (inside (now (r .entry))) v ≡ true ⌝ }
@@ -140,6 +149,7 @@ fn names(r: &[u8], n: usize, from: usize) -> [Span; 8]
     kept
 }
 
+// The first entry of a DC reply: its version, its flag, and all its DC names.
 fn good_dcs(r: &[u8]) -> bool
     requires { ⌜ 8 ≤ length (now r) ⌝ }
     ensures { λ v. ⌜ v ≡ goodDcs (now (r .entry)) ⌝ }
@@ -164,6 +174,7 @@ fn good_dcs(r: &[u8]) -> bool
     good_names(r, n, 8 + o)
 }
 
+// What a good DC reply says.
 fn dcs_in(r: &[u8]) -> DcsFound
     requires { ⌜ 26 ≤ length (now r) ⌝ }
     ensures found { λ v. ⌜ denotedDcs (now (r .entry)) v ≡ says (take 8 (dcNames (now (r .entry)))) ⌝ }
@@ -180,6 +191,7 @@ fn dcs_in(r: &[u8]) -> DcsFound
     }
 }
 
+// A DC reply that says nothing.
 fn no_dcs(answer: Answer) -> DcsFound
     ensures { λ v. ⌜ v ≡ noDcs answer ⌝ }
 {
@@ -190,6 +202,7 @@ fn no_dcs(answer: Answer) -> DcsFound
     }
 }
 
+// A DC reply, with the size asked for.
 pub fn read_dcs(r: &[u8], size: u32) -> DcsFound
     ensures found { λ v. ⌜ denotedDcs (now (r .entry)) v ≡ readDcs size (now (r .entry)) ⌝ }
     ensures within { λ v. ⌜ Within (now (r .entry)) v ⌝ }
@@ -210,6 +223,7 @@ pub fn read_dcs(r: &[u8], size: u32) -> DcsFound
     dcs_in(r)
 }
 
+// The entry at e of a domain reply.
 fn good_domain(r: &[u8], e: usize) -> bool
     requires { ⌜ (e ≤ length (now r)) × (length (now r) < 4294967296) ⌝ }
     ensures { λ v. ⌜ v ≡ goodDomain (now (r .entry)) e ⌝ }
@@ -229,6 +243,7 @@ fn good_domain(r: &[u8], e: usize) -> bool
     d.units != 0
 }
 
+// All entries of a domain reply.
 fn good_domains(r: &[u8]) -> bool
     requires { ⌜ (8 ≤ length (now r)) × (length (now r) < 4294967296) ⌝ }
     ensures { λ v. ⌜ v ≡ every (goodDomain (now (r .entry))) (entries (now (r .entry))) ⌝ }
@@ -247,6 +262,8 @@ fn good_domains(r: &[u8]) -> bool
     true
 }
 
+// A domain reply, with the size asked for. Of one that says something the names are read one by one: `domain_at` of the entry at 8, then
+// of each that `referral::next_entry` gives.
 pub fn read_domains(r: &[u8], size: u32) -> Answer
     ensures { λ v. ⌜ v ≡ answerOf (readDomains size (now (r .entry))) ⌝ }
 {

@@ -47,24 +47,11 @@ pub struct ReferralFound {
     pub targets: usize,
 }
 
-// A DC reply: the first `count` places of `kept` are the DC names.
 // What writing a request answers.
 pub enum Asked {
     Bytes(usize),
     TooShort,
 }
-
-// A DC name, and where the text after it starts.
-// The DC name at a byte; no units where there is none.
-// Whether the n texts from a byte on are DC names.
-// The first 8 of the n DC names from a byte on.
-// The first entry of a DC reply.
-// What a good DC reply says.
-// A DC reply, with the size asked for.
-// The entry at e of a domain reply.
-// All entries of a domain reply.
-// A domain reply, with the size asked for. Of one that says something the names are read one by one: `domain_at` of the entry at 8, then
-// of each that `next_entry` gives.
 
 // Whether the flag m, a power of two, is set.
 pub fn has_flag(m: u32, f: u32) -> bool
@@ -126,10 +113,6 @@ fn target_of(r: &[u8], e: usize) -> Span
     path_at(r, e + o.third as usize)
 }
 
-// A name without a leading backslash.
-// The DC name in a text; no units where it is not one.
-// The domain name in a text "\domain"; no units where it is not one.
-// The domain name of the entry at e.
 // Where the entry after the one at e starts.
 pub fn next_entry(r: &[u8], e: usize) -> usize
     requires { ⌜ (e + 3 < length (now r)) × (length (now r) < 4294967296) ⌝ }
@@ -155,6 +138,7 @@ pub fn entry_fits(r: &[u8], e: usize, fixed: usize) -> bool
     size <= r.len() - e
 }
 
+// Versions 3 and 4 are read.
 pub fn is_readable(v: u16) -> bool
     ensures { λ r. ⌜ r ≡ readable v ⌝ }
 {
@@ -325,6 +309,7 @@ fn referral_in(r: &[u8], prefix: Span) -> ReferralFound
     }
 }
 
+// A reply that says nothing: all its fields are zero.
 fn no_referral(answer: Answer) -> ReferralFound
     ensures { λ v. ⌜ v ≡ noReferral answer ⌝ }
 {

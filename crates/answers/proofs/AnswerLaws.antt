@@ -16,7 +16,7 @@ use Rattle.caches.proofs.MemoryLaws.{encode-decode}
 use Rattle.lookup.specs.Lookup.{withKey}
 use Rattle.lookup.specs.declared.Found.the-variants.{At}
 use Rattle.referral.specs.Replies as replies
-use Rattle.referral.specs.Found.{answered}
+use Rattle.referral.specs.Found.{replyOf}
 use Rattle.referral.specs.declared.Answer.{Answer}
 use Rattle.referral.specs.declared.Answer.the-variants.{Malformed, Nothing, Says}
 use Rattle.namelists.specs.NameLists.{readDcs}
@@ -49,16 +49,16 @@ same-left b doms order = go (told b)
 -- what a reader's answer denotes
 module _ (asked : ℕ) (reply : List ℕ) (f : DcsFound) (d : denotedDcs reply f ≡ readDcs asked reply) where
   says-malformed : f .answer ≡ Malformed → readDcs asked reply ≡ replies.malformed
-  unfolding denotedDcs answered
-  says-malformed h = sym d ∙ ap (λ (a : Answer). answered a (map (spanned reply) (take (f .count) (f .kept)))) h
+  unfolding denotedDcs replyOf
+  says-malformed h = sym d ∙ ap (λ (a : Answer). replyOf a (map (spanned reply) (take (f .count) (f .kept)))) h
 
   says-nothing : f .answer ≡ Nothing → readDcs asked reply ≡ replies.nothing
-  unfolding denotedDcs answered
-  says-nothing h = sym d ∙ ap (λ (a : Answer). answered a (map (spanned reply) (take (f .count) (f .kept)))) h
+  unfolding denotedDcs replyOf
+  says-nothing h = sym d ∙ ap (λ (a : Answer). replyOf a (map (spanned reply) (take (f .count) (f .kept)))) h
 
   says-names : f .answer ≡ Says → readDcs asked reply ≡ replies.says (map (spanned reply) (take (f .count) (f .kept)))
-  unfolding denotedDcs answered
-  says-names h = sym d ∙ ap (λ (a : Answer). answered a (map (spanned reply) (take (f .count) (f .kept)))) h
+  unfolding denotedDcs replyOf
+  says-names h = sym d ∙ ap (λ (a : Answer). replyOf a (map (spanned reply) (take (f .count) (f .kept)))) h
 
 module _ (refs doms rooms : List ℕ) (len left size clock room : ℕ) (hit : Bool) (asked : ℕ) (reply : List ℕ) (f : DcsFound)
     (d : denotedDcs reply f ≡ readDcs asked reply) (st : Standing len rooms) (order : inOrder domains doms ≡ true) where

@@ -18,7 +18,7 @@ use Rattle.laws.proofs.Tests.{both-ways, refuted, not-both}
 use Rattle.laws.proofs.Parts.{roomed-blank}
 use Rattle.laws.proofs.Listed.{length-listed, getD-listed, listed-same, map-listed, every-listed, listed-every, sameList-true}
 use Rattle.unc.specs.Names.{goodName}
-use Rattle.places.specs.Layout.{unitAt, wideAt, flagAt, flagUnit, textAt, listCount, written, textsOf, marksOf, settingsOf, tidy, zeros}
+use Rattle.places.specs.Layout.{unitAt, wideAt, flagAt, flagUnit, textAt, listCount, written, placeTexts, marksOf, settingsOf, tidy, zeros}
 use Rattle.places.proofs.WrittenLaws.{same-written, written-mark, written-setting}
 use Rattle.places.proofs.TidyLaws.{tidy-told}
 use Rattle.places.proofs.ZeroLaws.{zero-at, zeros-all}
@@ -43,19 +43,19 @@ flag-unit u h = go (lt-or-le u 1)
     go (inr k) = choose-yes 1 0 (eq-eqb u 1 (omega arith)) ∙ (let z : 1 ≡ u = omega arith in z)
 
 -- the texts of a place are the entry's key and list
-texts-listed : (piece : List ℕ) → textsOf piece ≡ textAt 0 piece ∷ listed (listCount piece) (λ j. textAt (1 + j) piece)
-unfolding textsOf listed
+texts-listed : (piece : List ℕ) → placeTexts piece ≡ textAt 0 piece ∷ listed (listCount piece) (λ j. textAt (1 + j) piece)
+unfolding placeTexts listed
 texts-listed piece =
     rw (one-add (listCount piece))
     (λ i. textAt 0 piece ∷ listed-same (listCount piece) (λ j. textAt (suc j) piece) (λ j. textAt (1 + j) piece) (λ j h. ap (λ (n : ℕ). textAt n piece) (sym (one-add j))) i)
 
 module _ (piece : List ℕ) where
-  referral-texts : textsOf piece ≡ referralOf piece .prefix ∷ map (λ t. t .path) (referralOf piece .targets)
+  referral-texts : placeTexts piece ≡ referralOf piece .prefix ∷ map (λ t. t .path) (referralOf piece .targets)
   unfolding referralOf targetOf
   referral-texts =
       texts-listed piece ∙ (λ i. textAt 0 piece ∷ sym (map-listed (λ (t : Target). t .path) (listCount piece) (λ j. targetOf j piece)) i)
 
-  domain-texts : textsOf piece ≡ domainOf piece .name ∷ domainOf piece .dcs
+  domain-texts : placeTexts piece ≡ domainOf piece .name ∷ domainOf piece .dcs
   unfolding domainOf
   domain-texts = texts-listed piece
 
@@ -111,7 +111,7 @@ module _ (piece : List ℕ) (whole : length piece ≡ 2336) (low : unitAt 22 pie
 
   -- with its flags 0 or 1 a place is written again as it is read
   written-again : goodFlags piece ≡ true
-      → referralUnits (referralOf piece) ≡ written (textsOf piece) (unitAt 10 piece) (marksOf piece) (settingsOf piece)
+      → referralUnits (referralOf piece) ≡ written (placeTexts piece) (unitAt 10 piece) (marksOf piece) (settingsOf piece)
   unfolding referralUnits referralOf
   written-again h = λ i. written (sym (referral-texts piece) i) (unitAt 10 piece) (marks-again h i) (settings-again h i)
 
@@ -232,11 +232,11 @@ module _ (piece : List ℕ) (whole : length piece ≡ 2336) where
 
   -- without marks and settings a place is written again as it is read
   bare-again : zeros (part 11 15 piece) ≡ true
-      → domainUnits (domainOf piece) ≡ written (textsOf piece) (unitAt 10 piece) (marksOf piece) (settingsOf piece)
+      → domainUnits (domainOf piece) ≡ written (placeTexts piece) (unitAt 10 piece) (marksOf piece) (settingsOf piece)
   unfolding domainUnits domainOf marksOf settingsOf
   bare-again h =
       ap (λ (ts : List (List ℕ)). written ts (unitAt 10 piece) [] []) (sym (domain-texts piece))
-      ∙ sym (same-written (textsOf piece) (unitAt 10 piece) (marksOf piece) (settingsOf piece) [] []
+      ∙ sym (same-written (placeTexts piece) (unitAt 10 piece) (marksOf piece) (settingsOf piece) [] []
       (roomed-blank 8 (marksOf piece) (simp length-listed (omega arith))
       (λ i u. let v : i < listCount piece = simp length-listed at u in
       getD-listed (listCount piece) (λ k. unitAt (11 + k) piece) i 0 v ∙ bare-at h (11 + i) (omega arith) (omega arith)))

@@ -21,7 +21,7 @@ use Rattle.laws.proofs.Listed.{length-listed, getD-listed, drop-listed, drop-li
 use Rattle.unc.specs.Names.{sameName, goodName}
 use Rattle.unc.specs.Paths.{normalisedCount}
 use Rattle.unc.proofs.NameLaws.{sameName-unlike}
-use Rattle.places.specs.Layout.{placeCount, placeAt, unitAt, roomAt, textAt, listCount, textsOf, zeros, blank}
+use Rattle.places.specs.Layout.{placeCount, placeAt, unitAt, roomAt, textAt, listCount, placeTexts, zeros, blank}
 use Rattle.places.proofs.LayoutLaws.{length-place}
 use Rattle.caches.specs.Entries.{Place}
 use Rattle.caches.specs.Order.{goodPrefix, goodReferral, goodDomain, distinct}
@@ -46,7 +46,7 @@ text-prefix t e h = ap (leb 2) e ∙ sym (choose-no _ _ h)
 
 -- the loop over the texts of a place
 pub textsFrom : Bool → List ℕ → ℕ → Bool
-textsFrom d piece j = every (goodText d) (drop j (textsOf piece))
+textsFrom d piece j = every (goodText d) (drop j (placeTexts piece))
 
 pub texts-start : (d : Bool) (piece : List ℕ) → goodTexts d piece ≡ textsFrom d piece 0
 unfolding goodTexts textsFrom
@@ -58,16 +58,16 @@ module _ (d : Bool) (piece : List ℕ) (j : ℕ) (whole : length piece ≡ 2336)
 
   pub texts-more : {r : Bool} {t : List ℕ} → t ≡ textAt j (placeAt 0 piece) → r ≡ goodText d t → r ≡ true → j ≤ unitAt 9 piece
       → textsFrom d piece j ≡ textsFrom d piece (j + 1)
-  unfolding textsFrom textsOf
+  unfolding textsFrom placeTexts
   texts-more e f h u = every-next (goodText d) (1 + listCount piece) (λ i. textAt i piece) j (omega arith) (text-tested e f ∙ h)
 
   pub texts-stop : {r : Bool} {t : List ℕ} → t ≡ textAt j (placeAt 0 piece) → r ≡ goodText d t → r ≡ false → j ≤ unitAt 9 piece
       → textsFrom d piece j ≡ false
-  unfolding textsFrom textsOf
+  unfolding textsFrom placeTexts
   texts-stop e f h u = every-stop (goodText d) (1 + listCount piece) (λ i. textAt i piece) j (omega arith) (text-tested e f ∙ h)
 
   pub texts-end : unitAt 9 piece < j → textsFrom d piece j ≡ true
-  unfolding textsFrom textsOf
+  unfolding textsFrom placeTexts
   texts-end u = every-end (goodText d) (1 + listCount piece) (λ i. textAt i piece) j (omega arith)
 
 -- the loop over the flags

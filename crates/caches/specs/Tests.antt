@@ -8,7 +8,7 @@ use Rattle.laws.specs.Choice.{choose}
 use Rattle.laws.specs.Lists.{every}
 use Rattle.laws.specs.Listed.{listed}
 use Rattle.unc.specs.Names.{sameName, goodName}
-use Rattle.places.specs.Layout.{placeCount, placeAt, unitAt, textAt, textsOf}
+use Rattle.places.specs.Layout.{placeCount, placeAt, unitAt, textAt, placeTexts}
 use Rattle.caches.specs.Order.{goodPrefix}
 use Rattle.caches.specs.Memory.{referrals, domains, inOrder, ordered}
 
@@ -18,7 +18,7 @@ goodText domain t = choose domain (goodName t) (goodPrefix t)
 
 -- the key and the list of a place
 unfoldable pub goodTexts : Bool → List ℕ → Bool
-goodTexts domain piece = every (goodText domain) (textsOf piece)
+goodTexts domain piece = every (goodText domain) (placeTexts piece)
 
 -- the set boundaries, root, Interlink and TargetFailback are 0 or 1
 unfoldable pub goodFlags : List ℕ → Bool

@@ -32,38 +32,38 @@ use Rattle.script.specs.declared.Last.the-variants.{Stopped}
 use Rattle.script.specs.declared.Due.{Due}
 use Rattle.script.specs.declared.Due.the-variants as due
 use Rattle.calling.specs.declared.Done.{Done}
-use Rattle.calling.specs.Calling.{Lent, lent, Called, called, told, request, startMade, ioMade, referralMade, made, Made, Refused}
+use Rattle.calling.specs.Calling.{LentMemory, lentMemory, CallLeft, callLeft, callTold, requestRoom, startMade, ioMade, referralMade, made, CallMade, Refused}
 
 -- what a call gave back
 module _ (s : Script) (o : Outcome) (refs doms texts d m : List ℕ) {k b : ℕ} (e : k ≡ refusalNumber (o .verdict)) (p : Put d 0 (outcomeLines k refs doms (o .walk) texts) m b) where
   told-by : (t : Script) → t ≡ choose (eqb (refusalNumber (o .verdict)) 0) s (after Stopped s)
-      → Made (told s (answered o texts [] refs doms)) (record { script = t; walk = o .walk; bytes = b }) refs doms texts d m
-  unfolding told
+      → CallMade (callTold s (answered o texts [] refs doms)) (record { script = t; walk = o .walk; bytes = b }) refs doms texts d m
+  unfolding callTold
   told-by t h = record {
-    left = λ i. called (h i) (o .walk) refs doms texts (outcomeLines (refusalNumber (o .verdict)) refs doms (o .walk) texts);
+    left = λ i. callLeft (h i) (o .walk) refs doms texts (outcomeLines (refusalNumber (o .verdict)) refs doms (o .walk) texts);
     printed = put-same (ap (λ (x : ℕ). outcomeLines x refs doms (o .walk) texts) e) p;
   }
 
-  pub told-taken : k ≡ 0 → Made (told s (answered o texts [] refs doms)) (record { script = s; walk = o .walk; bytes = b }) refs doms texts d m
+  pub told-taken : k ≡ 0 → CallMade (callTold s (answered o texts [] refs doms)) (record { script = s; walk = o .walk; bytes = b }) refs doms texts d m
   told-taken h = told-by s (sym (choose-yes _ _ (eq-eqb _ 0 (sym e ∙ h))))
 
-  pub told-refused : (k ≡ 0 → ⊥) → {t : Script} → t ≡ after Stopped s → Made (told s (answered o texts [] refs doms)) (record { script = t; walk = o .walk; bytes = b }) refs doms texts d m
+  pub told-refused : (k ≡ 0 → ⊥) → {t : Script} → t ≡ after Stopped s → CallMade (callTold s (answered o texts [] refs doms)) (record { script = t; walk = o .walk; bytes = b }) refs doms texts d m
   told-refused h {t} w = told-by t (w ∙ sym (choose-no _ _ (ne-eqb _ 0 (λ z. h (e ∙ z)))))
 
 -- the bytes of a request are not printed
-told-answer : (s : Script) {o : Outcome} {texts out refs doms : List ℕ} {a : Answered} → answered o texts out refs doms ≡ a → told s (answered o texts [] refs doms) ≡ told s a
-unfolding told
-told-answer s e = ap (told s) e
+told-answer : (s : Script) {o : Outcome} {texts out refs doms : List ℕ} {a : Answered} → answered o texts out refs doms ≡ a → callTold s (answered o texts [] refs doms) ≡ callTold s a
+unfolding callTold
+told-answer s e = ap (callTold s) e
 
 module _ {r : Done} {refs doms texts d m : List ℕ} where
-  made-as : {x y : Called} → x ≡ y → Made x r refs doms texts d m → Made y r refs doms texts d m
-  made-as e x = subst (λ (z : Called). Made z r refs doms texts d m) e x
+  made-as : {x y : CallLeft} → x ≡ y → CallMade x r refs doms texts d m → CallMade y r refs doms texts d m
+  made-as e x = subst (λ (z : CallLeft). CallMade z r refs doms texts d m) e x
 
   -- the buffer q that was lent for the request is as the definition has it
-  module _ (s : Script) {q : List ℕ} (w : q ≡ request) where
+  module _ (s : Script) {q : List ℕ} (w : q ≡ requestRoom) where
     pub start-made : (walk : Walk) (before path boot : List ℕ) {o : Outcome} {out : List ℕ} {p b : ℕ} → p ≡ min (s .path) (length path) → b ≡ min (s .boot) (length boot)
         → left o texts out ≡ startCall refs doms before walk (take p path) (take b boot) (s .limit) (s .size) (s .clock) q
-        → Made (told s (answered o texts [] refs doms)) r refs doms texts d m → Made (startMade s (lent walk refs doms before path boot [])) r refs doms texts d m
+        → CallMade (callTold s (answered o texts [] refs doms)) r refs doms texts d m → CallMade (startMade s (lentMemory walk refs doms before path boot [])) r refs doms texts d m
     unfolding startMade
     start-made walk before path boot {o} {out} {p} {b} hp hb e =
         made-as
@@ -71,55 +71,55 @@ module _ {r : Done} {refs doms texts d m : List ℕ} where
         (λ i. record { left = (e ∙ (λ j. startCall refs doms before walk (take-least (s .path) path p hp j) (take-least (s .boot) boot b hb j) (s .limit) (s .size) (s .clock) (w j))) i; refs = refs; doms = doms }))
 
     pub io-made : (walk : Walk) (refs₀ texts₀ : List ℕ) {o : Outcome} {out : List ℕ} → answered o texts out refs doms ≡ ioCall refs₀ doms texts₀ walk (s .status) (s .clock) q
-        → Made (told s (answered o texts [] refs doms)) r refs doms texts d m → Made (ioMade s (lent walk refs₀ doms texts₀ [] [] [])) r refs doms texts d m
+        → CallMade (callTold s (answered o texts [] refs doms)) r refs doms texts d m → CallMade (ioMade s (lentMemory walk refs₀ doms texts₀ [] [] [])) r refs doms texts d m
     unfolding ioMade
     io-made walk refs₀ texts₀ e = made-as (told-answer s (e ∙ ap (ioCall refs₀ doms texts₀ walk (s .status) (s .clock)) w))
 
     pub referral-made : (walk : Walk) (refs₀ doms₀ texts₀ reply : List ℕ) {o : Outcome} {out : List ℕ} {k : ℕ} → k ≡ min (s .reply) (length reply)
         → answered o texts out refs doms ≡ referralCall refs₀ doms₀ texts₀ walk (s .status) (take k reply) (s .clock) q
-        → Made (told s (answered o texts [] refs doms)) r refs doms texts d m → Made (referralMade s (lent walk refs₀ doms₀ texts₀ [] [] reply)) r refs doms texts d m
+        → CallMade (callTold s (answered o texts [] refs doms)) r refs doms texts d m → CallMade (referralMade s (lentMemory walk refs₀ doms₀ texts₀ [] [] reply)) r refs doms texts d m
     unfolding referralMade
     referral-made walk refs₀ doms₀ texts₀ reply {o} {out} {k} hk e =
         made-as (told-answer s (e ∙ (λ j. referralCall refs₀ doms₀ texts₀ walk (s .status) (take-least (s .reply) reply k hk j) (s .clock) (w j))))
 
   -- the call that is due
   module _ (s : Script) {e : Due} where
-    pub due-start : e ≡ due.Start → (walk : Walk) (texts₀ path boot reply : List ℕ) → Made (startMade s (lent walk refs doms texts₀ path boot [])) r refs doms texts d m
-        → Made (made e s (lent walk refs doms texts₀ path boot reply)) r refs doms texts d m
+    pub due-start : e ≡ due.Start → (walk : Walk) (texts₀ path boot reply : List ℕ) → CallMade (startMade s (lentMemory walk refs doms texts₀ path boot [])) r refs doms texts d m
+        → CallMade (made e s (lentMemory walk refs doms texts₀ path boot reply)) r refs doms texts d m
     unfolding made startMade
-    due-start h walk texts₀ path boot reply = made-as (ap (λ (x : Due). made x s (lent walk refs doms texts₀ path boot reply)) (sym h))
+    due-start h walk texts₀ path boot reply = made-as (ap (λ (x : Due). made x s (lentMemory walk refs doms texts₀ path boot reply)) (sym h))
 
-    pub due-io : e ≡ due.Io → (walk : Walk) (refs₀ texts₀ path boot reply : List ℕ) → Made (ioMade s (lent walk refs₀ doms texts₀ [] [] [])) r refs doms texts d m
-        → Made (made e s (lent walk refs₀ doms texts₀ path boot reply)) r refs doms texts d m
+    pub due-io : e ≡ due.Io → (walk : Walk) (refs₀ texts₀ path boot reply : List ℕ) → CallMade (ioMade s (lentMemory walk refs₀ doms texts₀ [] [] [])) r refs doms texts d m
+        → CallMade (made e s (lentMemory walk refs₀ doms texts₀ path boot reply)) r refs doms texts d m
     unfolding made ioMade
-    due-io h walk refs₀ texts₀ path boot reply = made-as (ap (λ (x : Due). made x s (lent walk refs₀ doms texts₀ path boot reply)) (sym h))
+    due-io h walk refs₀ texts₀ path boot reply = made-as (ap (λ (x : Due). made x s (lentMemory walk refs₀ doms texts₀ path boot reply)) (sym h))
 
-    pub due-referral : e ≡ due.Referral → (walk : Walk) (refs₀ doms₀ texts₀ path boot reply : List ℕ) → Made (referralMade s (lent walk refs₀ doms₀ texts₀ [] [] reply)) r refs doms texts d m
-        → Made (made e s (lent walk refs₀ doms₀ texts₀ path boot reply)) r refs doms texts d m
+    pub due-referral : e ≡ due.Referral → (walk : Walk) (refs₀ doms₀ texts₀ path boot reply : List ℕ) → CallMade (referralMade s (lentMemory walk refs₀ doms₀ texts₀ [] [] reply)) r refs doms texts d m
+        → CallMade (made e s (lentMemory walk refs₀ doms₀ texts₀ path boot reply)) r refs doms texts d m
     unfolding made referralMade
-    due-referral h walk refs₀ doms₀ texts₀ path boot reply = made-as (ap (λ (x : Due). made x s (lent walk refs₀ doms₀ texts₀ path boot reply)) (sym h))
+    due-referral h walk refs₀ doms₀ texts₀ path boot reply = made-as (ap (λ (x : Due). made x s (lentMemory walk refs₀ doms₀ texts₀ path boot reply)) (sym h))
 
 -- no call is due, or a refusal
 module _ (s : Script) {e : Due} (walk : Walk) (refs doms texts path boot reply d : List ℕ) where
-  pub due-none : e ≡ due.None → Made (made e s (lent walk refs doms texts path boot reply)) (record { script = s; walk = walk; bytes = 0 }) refs doms texts d d
+  pub due-none : e ≡ due.None → CallMade (made e s (lentMemory walk refs doms texts path boot reply)) (record { script = s; walk = walk; bytes = 0 }) refs doms texts d d
   unfolding made
-  due-none h = made-as (ap (λ (x : Due). made x s (lent walk refs doms texts path boot reply)) (sym h)) (record { left = refl; printed = nothing-put d 0 refl })
+  due-none h = made-as (ap (λ (x : Due). made x s (lentMemory walk refs doms texts path boot reply)) (sym h)) (record { left = refl; printed = nothing-put d 0 refl })
 
-  pub due-refusal : e ≡ due.Refusal → {r : Done} {m : List ℕ} → Refused s walk r d m → Made (made e s (lent walk refs doms texts path boot reply)) r refs doms texts d m
+  pub due-refusal : e ≡ due.Refusal → {r : Done} {m : List ℕ} → Refused s walk r d m → CallMade (made e s (lentMemory walk refs doms texts path boot reply)) r refs doms texts d m
   unfolding made
   due-refusal h x =
-      made-as (ap (λ (y : Due). made y s (lent walk refs doms texts path boot reply)) (sym h))
-      (record { left = λ i. called (x .script i) (x .walk i) refs doms texts (refusedLine 0); printed = x .printed })
+      made-as (ap (λ (y : Due). made y s (lentMemory walk refs doms texts path boot reply)) (sym h))
+      (record { left = λ i. callLeft (x .script i) (x .walk i) refs doms texts (refusedLine 0); printed = x .printed })
 
 pub refusal-room : (m : ℕ) → 4931 ≤ m → 0 + length (refusedLine 0) ≤ m
 refusal-room m h = omega (arith, refused-bytes 0)
 
 -- the most bytes that a call prints
-told-bytes : (s : Script) (a : Answered) → length (told s a .printed) ≤ 4931
-unfolding told
+told-bytes : (s : Script) (a : Answered) → length (callTold s a .printed) ≤ 4931
+unfolding callTold
 told-bytes s a = outcome-bytes _ _ _ _ _
 
-pub made-bytes : (e : Due) (s : Script) (h : Lent) → length (made e s h .printed) ≤ 4931
+pub made-bytes : (e : Due) (s : Script) (h : LentMemory) → length (made e s h .printed) ≤ 4931
 unfolding made startMade ioMade referralMade
 made-bytes due.None s h = omega arith
 made-bytes due.Start s h = told-bytes s _
@@ -127,11 +127,11 @@ made-bytes due.Io s h = told-bytes s _
 made-bytes due.Referral s h = told-bytes s _
 made-bytes due.Refusal s h = omega (arith, refused-bytes 0)
 
-told-all : (s : Script) (a : Answered) → every isByte (told s a .printed) ≡ true
-unfolding told
+told-all : (s : Script) (a : Answered) → every isByte (callTold s a .printed) ≡ true
+unfolding callTold
 told-all s a = outcome-all _ _ _ _ _
 
-made-all : (e : Due) (s : Script) (h : Lent) → every isByte (made e s h .printed) ≡ true
+made-all : (e : Due) (s : Script) (h : LentMemory) → every isByte (made e s h .printed) ≡ true
 unfolding made startMade ioMade referralMade every
 made-all due.None s h = refl
 made-all due.Start s h = told-all s _
@@ -140,7 +140,7 @@ made-all due.Referral s h = told-all s _
 made-all due.Refusal s h = refused-all 0
 
 -- and they lie in the buffer
-module _ (e : Due) (s : Script) (h : Lent) {r : Done} {refs doms texts d o : List ℕ} (m : Made (made e s h) r refs doms texts d o) (fits : 4931 ≤ length d) where
+module _ (e : Due) (s : Script) (h : LentMemory) {r : Done} {refs doms texts d o : List ℕ} (m : CallMade (made e s h) r refs doms texts d o) (fits : 4931 ≤ length d) where
   pub made-within : r .bytes ≤ length o
   made-within = let b = made-bytes e s h in let n = m .printed .end in let l = length-put (m .printed) (omega arith) in omega arith
 

@@ -18,7 +18,7 @@ use Rattle.script.specs.declared.Due.the-variants as due
 use Rattle.calling.specs.declared.Done.{Done}
 
 -- the walk that the program holds, and all memory that it lends
-pub record Lent : Type 0 where
+pub record LentMemory : Type 0 where
   pub walk : Walk
   pub refs : List ℕ
   pub doms : List ℕ
@@ -27,12 +27,12 @@ pub record Lent : Type 0 where
   pub boot : List ℕ
   pub reply : List ℕ
 
-abbrev pub lent : Walk → List ℕ → List ℕ → List ℕ → List ℕ → List ℕ → List ℕ → Lent
-lent walk refs doms texts path boot reply =
+abbrev pub lentMemory : Walk → List ℕ → List ℕ → List ℕ → List ℕ → List ℕ → List ℕ → LentMemory
+lentMemory walk refs doms texts path boot reply =
     record { walk = walk; refs = refs; doms = doms; texts = texts; path = path; boot = boot; reply = reply }
 
 -- what a call leaves: what was read, the walk, both caches and the walk's texts; and what is printed
-pub record Called : Type 0 where
+pub record CallLeft : Type 0 where
   pub script : Script
   pub walk : Walk
   pub refs : List ℕ
@@ -40,38 +40,38 @@ pub record Called : Type 0 where
   pub texts : List ℕ
   pub printed : List ℕ
 
-abbrev pub called : Script → Walk → List ℕ → List ℕ → List ℕ → List ℕ → Called
-called script walk refs doms texts printed = record { script = script; walk = walk; refs = refs; doms = doms; texts = texts; printed = printed }
+abbrev pub callLeft : Script → Walk → List ℕ → List ℕ → List ℕ → List ℕ → CallLeft
+callLeft script walk refs doms texts printed = record { script = script; walk = walk; refs = refs; doms = doms; texts = texts; printed = printed }
 
 -- "A refusal prints refused= and its number .., then stops."
-unfoldable pub told : Script → Answered → Called
-told s a =
-    called (choose (eqb (refusalNumber (a .left .verdict)) 0) s (after Stopped s)) (a .left .walk) (a .refs) (a .doms) (a .left .texts)
+unfoldable pub callTold : Script → Answered → CallLeft
+callTold s a =
+    callLeft (choose (eqb (refusalNumber (a .left .verdict)) 0) s (after Stopped s)) (a .left .walk) (a .refs) (a .doms) (a .left .texts)
     (outcomeLines (refusalNumber (a .left .verdict)) (a .refs) (a .doms) (a .left .walk) (a .left .texts))
 
 -- the buffer for a request holds every one
-unfoldable pub request : List ℕ
-request = replicate 516 0
+unfoldable pub requestRoom : List ℕ
+requestRoom = replicate 516 0
 
-unfoldable pub startMade : Script → Lent → Called
-startMade s h = told s (record {
-  left = startCall (h .refs) (h .doms) (h .texts) (h .walk) (take (s .path) (h .path)) (take (s .boot) (h .boot)) (s .limit) (s .size) (s .clock) request;
+unfoldable pub startMade : Script → LentMemory → CallLeft
+startMade s h = callTold s (record {
+  left = startCall (h .refs) (h .doms) (h .texts) (h .walk) (take (s .path) (h .path)) (take (s .boot) (h .boot)) (s .limit) (s .size) (s .clock) requestRoom;
   refs = h .refs;
   doms = h .doms;
 })
 
-unfoldable pub ioMade : Script → Lent → Called
-ioMade s h = told s (ioCall (h .refs) (h .doms) (h .texts) (h .walk) (s .status) (s .clock) request)
+unfoldable pub ioMade : Script → LentMemory → CallLeft
+ioMade s h = callTold s (ioCall (h .refs) (h .doms) (h .texts) (h .walk) (s .status) (s .clock) requestRoom)
 
-unfoldable pub referralMade : Script → Lent → Called
-referralMade s h = told s (referralCall (h .refs) (h .doms) (h .texts) (h .walk) (s .status) (take (s .reply) (h .reply)) (s .clock) request)
+unfoldable pub referralMade : Script → LentMemory → CallLeft
+referralMade s h = callTold s (referralCall (h .refs) (h .doms) (h .texts) (h .walk) (s .status) (take (s .reply) (h .reply)) (s .clock) requestRoom)
 
 -- nothing is called
-abbrev pub uncalled : Script → List ℕ → Lent → Called
-uncalled s printed h = called s (h .walk) (h .refs) (h .doms) (h .texts) printed
+abbrev pub uncalled : Script → List ℕ → LentMemory → CallLeft
+uncalled s printed h = callLeft s (h .walk) (h .refs) (h .doms) (h .texts) printed
 
 -- the call that is due; "0: input not of this form"
-unfoldable pub made : Due → Script → Lent → Called
+unfoldable pub made : Due → Script → LentMemory → CallLeft
 made due.None s h = uncalled s [] h
 made due.Start s h = startMade s h
 made due.Io s h = ioMade s h
@@ -79,8 +79,8 @@ made due.Referral s h = referralMade s h
 made due.Refusal s h = uncalled (after Stopped s) (refusedLine 0) h
 
 -- a call's answer and the memory after it: what is printed stands at the beginning of d
-pub record Made (x : Called) (r : Done) (refs doms texts d o : List ℕ) : Type 0 where
-  pub left : called (r .script) (r .walk) refs doms texts (x .printed) ≡ x
+pub record CallMade (x : CallLeft) (r : Done) (refs doms texts d o : List ℕ) : Type 0 where
+  pub left : callLeft (r .script) (r .walk) refs doms texts (x .printed) ≡ x
   pub printed : Put d 0 (x .printed) o (r .bytes)
 
 -- the input is refused: the same, of what does not touch the caches

@@ -4,7 +4,7 @@ ghost use mathlib.Core.Path.{_≡_};
 ghost use Prim.Native.Nat.{_≤_};
 ghost use lib.ListN.{length};
 ghost use Rattle.resolve.specs.Calls.{answered};
-ghost use Rattle.calling.specs.Calling.{lent, request, told, startMade, ioMade, referralMade, made, Made, Refused};
+ghost use Rattle.calling.specs.Calling.{lentMemory, requestRoom, callTold, startMade, ioMade, referralMade, made, CallMade, Refused};
 use closing::Outcome;
 use script::Due;
 use script::Last;
@@ -20,7 +20,7 @@ pub struct Done {
 
 // A buffer for a request.
 fn no_request() -> [u8; 516]
-    ensures bytes { λ r. ⌜ r ≡ request ⌝ }
+    ensures bytes { λ r. ⌜ r ≡ requestRoom ⌝ }
     ensures count { λ r. ⌜ 516 ≡ length r ⌝ }
 {
     [0; 516]
@@ -29,7 +29,7 @@ fn no_request() -> [u8; 516]
 // What a call gave back, printed.
 fn tell(s: Script, o: Outcome, refs: &[u16], doms: &[u16], texts: &[u16], out: &mut [u16]) -> Done
     requires { ⌜ 4931 ≤ length (now out) ⌝ }
-    ensures { λ r. ⌜ Made (told s (answered o (now (texts .entry)) [] (now (refs .entry)) (now (doms .entry)))) r (now (refs .entry)) (now (doms .entry)) (now (texts .entry)) (now (out .entry)) (now (out .exit)) ⌝ }
+    ensures { λ r. ⌜ CallMade (callTold s (answered o (now (texts .entry)) [] (now (refs .entry)) (now (doms .entry)))) r (now (refs .entry)) (now (doms .entry)) (now (texts .entry)) (now (out .entry)) (now (out .exit)) ⌝ }
 {
     let verdict = o.verdict;
     let number = holding::refusal_number(verdict);
@@ -75,7 +75,7 @@ fn start(
     out: &mut [u16],
 ) -> Done
     requires { ⌜ 4931 ≤ length (now out) ⌝ }
-    ensures { λ r. ⌜ Made (startMade s (lent walk (now (refs .entry)) (now (doms .entry)) (now (texts .entry)) (now (path .entry)) (now (boot .entry)) [])) r (now (refs .entry)) (now (doms .entry)) (now (texts .exit)) (now (out .entry)) (now (out .exit)) ⌝ }
+    ensures { λ r. ⌜ CallMade (startMade s (lentMemory walk (now (refs .entry)) (now (doms .entry)) (now (texts .entry)) (now (path .entry)) (now (boot .entry)) [])) r (now (refs .entry)) (now (doms .entry)) (now (texts .exit)) (now (out .entry)) (now (out .exit)) ⌝ }
 {
     let n = rooms::least(s.path, path.len());
     let b = rooms::least(s.boot, boot.len());
@@ -104,7 +104,7 @@ fn answer_io(
     out: &mut [u16],
 ) -> Done
     requires { ⌜ 4931 ≤ length (now out) ⌝ }
-    ensures { λ r. ⌜ Made (ioMade s (lent walk (now (refs .entry)) (now (doms .entry)) (now (texts .entry)) [] [] [])) r (now (refs .exit)) (now (doms .entry)) (now (texts .exit)) (now (out .entry)) (now (out .exit)) ⌝ }
+    ensures { λ r. ⌜ CallMade (ioMade s (lentMemory walk (now (refs .entry)) (now (doms .entry)) (now (texts .entry)) [] [] [])) r (now (refs .exit)) (now (doms .entry)) (now (texts .exit)) (now (out .entry)) (now (out .exit)) ⌝ }
 {
     let mut request = no_request();
     let o = resolve::answer_io(refs, doms, walk, texts, s.status, s.clock, &mut request);
@@ -121,7 +121,7 @@ fn answer_referral(
     out: &mut [u16],
 ) -> Done
     requires { ⌜ 4931 ≤ length (now out) ⌝ }
-    ensures { λ r. ⌜ Made (referralMade s (lent walk (now (refs .entry)) (now (doms .entry)) (now (texts .entry)) [] [] (now (reply .entry)))) r (now (refs .exit)) (now (doms .exit)) (now (texts .exit)) (now (out .entry)) (now (out .exit)) ⌝ }
+    ensures { λ r. ⌜ CallMade (referralMade s (lentMemory walk (now (refs .entry)) (now (doms .entry)) (now (texts .entry)) [] [] (now (reply .entry)))) r (now (refs .exit)) (now (doms .exit)) (now (texts .exit)) (now (out .entry)) (now (out .exit)) ⌝ }
 {
     let n = rooms::least(s.reply, reply.len());
     let mut request = no_request();
@@ -152,7 +152,7 @@ pub fn make(
     out: &mut [u16],
 ) -> Done
     requires { ⌜ 4931 ≤ length (now out) ⌝ }
-    ensures { λ r. ⌜ Made (made due s (lent walk (now (refs .entry)) (now (doms .entry)) (now (texts .entry)) (now (path .entry)) (now (boot .entry)) (now (reply .entry)))) r (now (refs .exit)) (now (doms .exit)) (now (texts .exit)) (now (out .entry)) (now (out .exit)) ⌝ }
+    ensures { λ r. ⌜ CallMade (made due s (lentMemory walk (now (refs .entry)) (now (doms .entry)) (now (texts .entry)) (now (path .entry)) (now (boot .entry)) (now (reply .entry)))) r (now (refs .exit)) (now (doms .exit)) (now (texts .exit)) (now (out .entry)) (now (out .exit)) ⌝ }
 {
     match due {
         Due::None => Done {

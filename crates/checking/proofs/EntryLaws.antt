@@ -31,7 +31,7 @@ use Rattle.reading.specs.Entries.{targetSaid, entrySaid}
 use Rattle.reading.proofs.SaidLaws.{Listable}
 use Rattle.checking.specs.declared.Step.{Step}
 use Rattle.checking.specs.declared.Step.the-variants.{Wrong, Least}
-use Rattle.checking.specs.Tests.{atMost, isNumberLine, isKindLine, laterLine, goodLine, leastFor, hintStep, stepOf, goesOn, goodLines, goodEntry}
+use Rattle.checking.specs.Tests.{atMost, isNumberLine, isKindLine, laterLine, goodLine, leastFor, hintStep, stepOf, testedAfter, goodLines, goodEntryLines}
 use Rattle.checking.proofs.StepLaws.{target-line}
 use Rattle.checking.proofs.SpelledLaws.{units-said}
 
@@ -146,30 +146,30 @@ kind-good true = refl
 kind-good false = refl
 
 -- the tests of a list of lines, line by line
-chosen : (b : Bool) (n : ℕ) (f : ℕ → Bool) → goesOn (choose b (Least n) Wrong) f ≡ (b && f n)
-unfolding goesOn choose
+chosen : (b : Bool) (n : ℕ) (f : ℕ → Bool) → testedAfter (choose b (Least n) Wrong) f ≡ (b && f n)
+unfolding testedAfter choose
 chosen true n f = refl
 chosen false n f = refl
 
 lines-cons : (j m : ℕ) (l : List ℕ) (ls : List (List ℕ)) → (j ≡ 6 → ⊥) → goodLines j m (l ∷ ls) ≡ (goodLine j l && goodLines (suc j) m ls)
 unfolding goodLines stepOf
 lines-cons j m l ls h =
-    ap (λ (x : Step). goesOn x (λ (k : ℕ). goodLines (suc j) k ls)) (choose-no _ _ (ne-eqb j 6 h))
+    ap (λ (x : Step). testedAfter x (λ (k : ℕ). goodLines (suc j) k ls)) (choose-no _ _ (ne-eqb j 6 h))
     ∙ chosen (goodLine j l) m (λ (k : ℕ). goodLines (suc j) k ls)
 
 hint-cons : (m : ℕ) (l : List ℕ) (ls : List (List ℕ)) → goodLines 6 m (l ∷ ls) ≡ (isNumberLine hintKey 4294967295 l && goodLines 7 (8 + decimalOf (valueOf hintKey l)) ls)
-unfolding goodLines stepOf hintStep leastFor goesOn isNumberLine atMost choose
+unfolding goodLines stepOf hintStep leastFor testedAfter isNumberLine atMost choose
 hint-cons m l ls = go (told (number-test hintKey l))
   where
     go : (number-test hintKey l ≡ true) ⊎ (number-test hintKey l ≡ false)
-        → goesOn (leastFor (numberSaid hintKey l)) (λ (k : ℕ). goodLines 7 k ls) ≡ (atMost 4294967295 (numberSaid hintKey l) && goodLines 7 (8 + decimalOf (valueOf hintKey l)) ls)
+        → testedAfter (leastFor (numberSaid hintKey l)) (λ (k : ℕ). goodLines 7 k ls) ≡ (atMost 4294967295 (numberSaid hintKey l) && goodLines 7 (8 + decimalOf (valueOf hintKey l)) ls)
     go (inl k) =
         let d : ℕ = decimalOf (valueOf hintKey l) in
         let z = test-told hintKey d l k (omega arith) in
-        ap (λ (x : Number). goesOn (leastFor x) (λ (i : ℕ). goodLines 7 i ls)) (number-yes hintKey l k)
+        ap (λ (x : Number). testedAfter (leastFor x) (λ (i : ℕ). goodLines 7 i ls)) (number-yes hintKey l k)
         ∙ sym (ap (λ (x : Number). atMost 4294967295 x && goodLines 7 (8 + d) ls) (number-yes hintKey l k) ∙ and-yes-left (goodLines 7 (8 + d) ls) (le-leb d 4294967295 (omega (arith, z .small))))
     go (inr k) =
-        ap (λ (x : Number). goesOn (leastFor x) (λ (i : ℕ). goodLines 7 i ls)) (number-no hintKey l k)
+        ap (λ (x : Number). testedAfter (leastFor x) (λ (i : ℕ). goodLines 7 i ls)) (number-no hintKey l k)
         ∙ sym (ap (λ (x : Number). atMost 4294967295 x && goodLines 7 (8 + decimalOf (valueOf hintKey l)) ls) (number-no hintKey l k))
 
 -- the lines of targets
@@ -205,14 +205,14 @@ targets-good (t ∷ ts) j m a h f n =
 
 -- the seven lines before them
 module _ (a b c d e f g : List ℕ) (ts : List (List ℕ)) where
-  pub seven : goodEntry (a ∷ b ∷ c ∷ d ∷ e ∷ f ∷ g ∷ ts)
+  pub seven : goodEntryLines (a ∷ b ∷ c ∷ d ∷ e ∷ f ∷ g ∷ ts)
       ≡ (isPathLine prefixKey a
       && (isKindLine b
       && (isNumberLine interlinkKey 1 c
       && (isNumberLine failbackKey 1 d
       && (isNumberLine ttlKey 4294967295 e
       && (isNumberLine takenKey 4294967295 f && (isNumberLine hintKey 4294967295 g && goodLines 7 (8 + decimalOf (valueOf hintKey g)) ts)))))))
-  unfolding goodEntry goodLine laterLine choose
+  unfolding goodEntryLines goodLine laterLine choose
   seven =
       lines-cons 0 8 a (b ∷ c ∷ d ∷ e ∷ f ∷ g ∷ ts) (λ z. omega arith)
       ∙ ap (λ (x : Bool). isPathLine prefixKey a && x)
@@ -272,7 +272,7 @@ record Head (a b c d e f g : List ℕ) (ts : List (List ℕ)) : Type 0 where
   hint : NumberTold hintKey 4294967295 g
   targets : TargetsTold ts 7 (8 + decimalOf (valueOf hintKey g))
 
-head-told : (a b c d e f g : List ℕ) (ts : List (List ℕ)) → goodEntry (a ∷ b ∷ c ∷ d ∷ e ∷ f ∷ g ∷ ts) ≡ true → Head a b c d e f g ts
+head-told : (a b c d e f g : List ℕ) (ts : List (List ℕ)) → goodEntryLines (a ∷ b ∷ c ∷ d ∷ e ∷ f ∷ g ∷ ts) ≡ true → Head a b c d e f g ts
 head-told a b c d e f g ts h =
     let h₀ = sym (seven a b c d e f g ts) ∙ h in
     let h₁ = and-right (isPathLine prefixKey a) _ h₀ in
@@ -331,11 +331,11 @@ module _ (a b c d e f g : List ℕ) (ts : List (List ℕ)) (w : Head a b c d e f
     paths = saids-units ts (w .targets .each);
   }
 
-entry-short : (g : List (List ℕ)) → length g ≤ 6 → goodEntry g ≡ true → ⊥
-unfolding goodEntry
+entry-short : (g : List (List ℕ)) → length g ≤ 6 → goodEntryLines g ≡ true → ⊥
+unfolding goodEntryLines
 entry-short g l h = short g 0 8 (omega arith) (omega arith) h
 
-pub entry-told : (g : List (List ℕ)) → goodEntry g ≡ true → EntryTold g
+pub entry-told : (g : List (List ℕ)) → goodEntryLines g ≡ true → EntryTold g
 entry-told [] h = absurd (entry-short [] (omega arith) h)
 entry-told (a ∷ []) h = absurd (entry-short (a ∷ []) (omega arith) h)
 entry-told (a ∷ b ∷ []) h = absurd (entry-short (a ∷ b ∷ []) (omega arith) h)
@@ -364,7 +364,7 @@ hint-value : (n : ℕ) → n < 4294967296 → decimalOf (valueOf hintKey (number
 unfolding numberLine
 hint-value n h = ap decimalOf (value-of hintKey (decimal n)) ∙ decimal-says n h
 
-pub entry-good : (e : Referral) → Listable e → goodEntry (entryLines e) ≡ true
+pub entry-good : (e : Referral) → Listable e → goodEntryLines (entryLines e) ≡ true
 unfolding entryLines settingLines countLines
 entry-good e l =
     let r = referral-told e (l .good) in

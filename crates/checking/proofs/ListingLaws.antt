@@ -26,7 +26,7 @@ use Rattle.reading.proofs.SaidLaws.{listable-told, told-listable, Said, listing
 use Rattle.checking.specs.declared.Checked.{Checked}
 use Rattle.checking.specs.declared.Checked.the-variants.{Bad, Entries}
 use Rattle.checking.specs.Checked.{checked}
-use Rattle.checking.specs.Tests.{goodEntry, counted, prefixLines, isEnded}
+use Rattle.checking.specs.Tests.{goodEntryLines, counted, prefixLines, isEnded}
 use Rattle.checking.proofs.TextLaws.{lines-here, lines-later, cut}
 use Rattle.checking.proofs.SpelledLaws.{spelled-same}
 use Rattle.checking.proofs.EntryLaws.{entry-told, entry-good}
@@ -124,20 +124,20 @@ all-joined es =
     sym (lines-cut (allLines es) (all-later es))
     ∙ (ap linesOf (sym (all-text es) ∙ listing-joined es) ∙ lines-cut (joined (map entryLines es)) (joined-later es))
 
-entries-form : (gs : List (List (List ℕ))) → every goodEntry gs ≡ true → map entryLines (map entrySaid gs) ≡ gs
+entries-form : (gs : List (List (List ℕ))) → every goodEntryLines gs ≡ true → map entryLines (map entrySaid gs) ≡ gs
 unfolding every
 entries-form [] h = refl
 entries-form (g ∷ gs) h =
-    let p = entry-told g (and-left (goodEntry g) _ h) .form in
-    λ i. p i ∷ entries-form gs (and-right (goodEntry g) _ h) i
+    let p = entry-told g (and-left (goodEntryLines g) _ h) .form in
+    λ i. p i ∷ entries-form gs (and-right (goodEntryLines g) _ h) i
 
-groups-listable : (gs : List (List (List ℕ))) → every goodEntry gs ≡ true → every listable (map entrySaid gs) ≡ true
+groups-listable : (gs : List (List (List ℕ))) → every goodEntryLines gs ≡ true → every listable (map entrySaid gs) ≡ true
 unfolding every
 groups-listable [] h = refl
 groups-listable (g ∷ gs) h =
-    and-both (told-listable (entrySaid g) (entry-told g (and-left (goodEntry g) _ h) .good)) (groups-listable gs (and-right (goodEntry g) _ h))
+    and-both (told-listable (entrySaid g) (entry-told g (and-left (goodEntryLines g) _ h) .good)) (groups-listable gs (and-right (goodEntryLines g) _ h))
 
-entries-good : (es : List Referral) → every listable es ≡ true → every goodEntry (map entryLines es) ≡ true
+entries-good : (es : List Referral) → every listable es ≡ true → every goodEntryLines (map entryLines es) ≡ true
 unfolding every
 entries-good [] h = refl
 entries-good (e ∷ es) h = and-both (entry-good e (listable-told e (and-left (listable e) _ h))) (entries-good es (and-right (listable e) _ h))
@@ -181,7 +181,7 @@ prefixes-same : (es : List Referral) → every listable es ≡ true → distinct
 prefixes-same es h = ap distinct (all-prefixes es) ∙ distinct-same es h
 
 -- Sound and complete
-tests-said : (text : List ℕ) → isEnded text ≡ true → every goodEntry (groups (linesOf text)) ≡ true → distinct (prefixLines (linesOf text)) ≡ true → Said text (entriesSaid text)
+tests-said : (text : List ℕ) → isEnded text ≡ true → every goodEntryLines (groups (linesOf text)) ≡ true → distinct (prefixLines (linesOf text)) ≡ true → Said text (entriesSaid text)
 unfolding entriesSaid
 tests-said text a b c =
     let gs = groups (linesOf text) in
@@ -197,21 +197,21 @@ tests-said text a b c =
 said-lines : (text : List ℕ) (es : List Referral) → Said text es → linesOf text ≡ joined (map entryLines es)
 said-lines text es s = ap linesOf (s .form ∙ listing-joined es) ∙ lines-cut (joined (map entryLines es)) (joined-later es)
 
-said-tests : (text : List ℕ) (es : List Referral) → Said text es → (isEnded text && (every goodEntry (groups (linesOf text)) && distinct (prefixLines (linesOf text)))) ≡ true
+said-tests : (text : List ℕ) (es : List Referral) → Said text es → (isEnded text && (every goodEntryLines (groups (linesOf text)) && distinct (prefixLines (linesOf text)))) ≡ true
 said-tests text es s =
     let l = said-lines text es s in
     let g : groups (linesOf text) ≡ map entryLines es = ap groups (l ∙ sym (all-joined es)) ∙ groups-all es in
     and-both (ap isEnded (s .form ∙ listing-joined es) ∙ text-ended (joined (map entryLines es)))
-    (and-both (ap (every goodEntry) g ∙ entries-good es (s .each))
+    (and-both (ap (every goodEntryLines) g ∙ entries-good es (s .each))
     (ap (λ (x : List (List ℕ)). distinct (prefixLines x)) l ∙ (prefixes-same es (s .each) ∙ s .apart)))
 
-pub listing-tests : (text : List ℕ) → isListing text ≡ (isEnded text && (every goodEntry (groups (linesOf text)) && distinct (prefixLines (linesOf text))))
+pub listing-tests : (text : List ℕ) → isListing text ≡ (isEnded text && (every goodEntryLines (groups (linesOf text)) && distinct (prefixLines (linesOf text))))
 listing-tests text =
     both-ways _ _ (λ h. said-tests text (entriesSaid text) (listing-sound text h))
     (λ h.
     let k = and-right (isEnded text) _ h in
     listing-complete text (entriesSaid text)
-    (tests-said text (and-left (isEnded text) _ h) (and-left (every goodEntry (groups (linesOf text))) _ k) (and-right (every goodEntry (groups (linesOf text))) _ k)))
+    (tests-said text (and-left (isEnded text) _ h) (and-left (every goodEntryLines (groups (linesOf text))) _ k) (and-right (every goodEntryLines (groups (linesOf text))) _ k)))
 
 said-count : (text : List ℕ) → length (groups (linesOf text)) ≡ length (entriesSaid text)
 unfolding entriesSaid
@@ -230,7 +230,7 @@ module _ (text : List ℕ) where
   pub check-unended : {b : Bool} → b ≡ isEnded text → b ≡ false → Bad ≡ checked text
   check-unended e h = bad (listing-tests text ∙ and-no-left _ (sym e ∙ h))
 
-  counted-bad : counted (linesOf text) ≡ Bad → every goodEntry (groups (linesOf text)) ≡ false
+  counted-bad : counted (linesOf text) ≡ Bad → every goodEntryLines (groups (linesOf text)) ≡ false
   unfolding counted
   counted-bad h = refuted _ (λ k. wrong (sym (choose-yes _ _ k) ∙ h))
     where
@@ -240,9 +240,9 @@ module _ (text : List ℕ) where
   pub check-bad : {r : Checked} → r ≡ counted (linesOf text) → r ≡ Bad → Bad ≡ checked text
   check-bad e h = bad (listing-tests text ∙ and-no-right (isEnded text) (and-no-left _ (counted-bad (sym e ∙ h))))
 
-  counted-good : {n : ℕ} → counted (linesOf text) ≡ Entries n → (every goodEntry (groups (linesOf text)) ≡ true) × (n ≡ length (groups (linesOf text)))
+  counted-good : {n : ℕ} → counted (linesOf text) ≡ Entries n → (every goodEntryLines (groups (linesOf text)) ≡ true) × (n ≡ length (groups (linesOf text)))
   unfolding counted
-  counted-good {n} h = go (told (every goodEntry (groups (linesOf text))))
+  counted-good {n} h = go (told (every goodEntryLines (groups (linesOf text))))
     where
       wrong : Bad ≡ Entries n → ⊥
       wrong e = let z : _≡_ {A = ℕ} 0 1 = cc in omega arith
@@ -250,13 +250,13 @@ module _ (text : List ℕ) where
       inside : {m : ℕ} → Entries m ≡ Entries n → n ≡ m
       inside e = cc
 
-      go : (every goodEntry (groups (linesOf text)) ≡ true) ⊎ (every goodEntry (groups (linesOf text)) ≡ false)
-          → (every goodEntry (groups (linesOf text)) ≡ true) × (n ≡ length (groups (linesOf text)))
+      go : (every goodEntryLines (groups (linesOf text)) ≡ true) ⊎ (every goodEntryLines (groups (linesOf text)) ≡ false)
+          → (every goodEntryLines (groups (linesOf text)) ≡ true) × (n ≡ length (groups (linesOf text)))
       go (inl k) = (k, inside (sym (choose-yes _ _ k) ∙ h))
       go (inr k) = absurd (wrong (sym (choose-no _ _ k) ∙ h))
 
   pub check-equal : {b : Bool} → b ≡ distinct (prefixLines (linesOf text)) → b ≡ false → Bad ≡ checked text
-  check-equal e h = bad (listing-tests text ∙ and-no-right (isEnded text) (and-no-right (every goodEntry (groups (linesOf text))) (sym e ∙ h)))
+  check-equal e h = bad (listing-tests text ∙ and-no-right (isEnded text) (and-no-right (every goodEntryLines (groups (linesOf text))) (sym e ∙ h)))
 
   pub check-good : {a b : Bool} {r : Checked} {n : ℕ} → a ≡ isEnded text → a ≡ true → r ≡ counted (linesOf text) → r ≡ Entries n → b ≡ distinct (prefixLines (linesOf text)) → b ≡ true → Entries n ≡ checked text
   unfolding checked

@@ -23,7 +23,7 @@ use Rattle.checking.specs.declared.Checked.{Checked}
 use Rattle.checking.specs.declared.Checked.the-variants.{Bad, Entries}
 use Rattle.checking.specs.declared.Step.{Step}
 use Rattle.checking.specs.declared.Step.the-variants.{Wrong, Least}
-use Rattle.checking.specs.Tests.{stepOf, goesOn, goodLines, goodEntry, counted, prefixLines, apartFrom, isEnded}
+use Rattle.checking.specs.Tests.{stepOf, testedAfter, goodLines, goodEntryLines, counted, prefixLines, apartFrom, isEnded}
 
 -- the first line of a text
 length-here : (u : ℕ) (s : List ℕ) → u ≡ 10 → lineLength (u ∷ s) ≡ 0
@@ -144,7 +144,7 @@ ended-some (u ∷ s) h = ap (λ (n : ℕ). eqb (getD (u ∷ s) n 0) 10) (let e :
 -- what is left to test in line j of an entry of at least m lines, after n entries
 pub rested : ℕ → ℕ → ℕ → List (List (List ℕ)) → Checked
 rested j m n [] = Entries n
-rested j m n (g ∷ gs) = choose (goodLines j m g && every goodEntry gs) (Entries (n + suc (length gs))) Bad
+rested j m n (g ∷ gs) = choose (goodLines j m g && every goodEntryLines gs) (Entries (n + suc (length gs))) Bad
 
 groups-open : (l : List ℕ) (ls : List (List ℕ)) → opensEntry ls ≡ true → groups (l ∷ ls) ≡ (l ∷ []) ∷ groups ls
 unfolding groups
@@ -154,10 +154,10 @@ groups-on : (l : List ℕ) (ls : List (List ℕ)) → opensEntry ls ≡ false �
 unfolding groups
 groups-on l ls h = choose-no _ _ h
 
-start-all : (gs : List (List (List ℕ))) → choose (every goodEntry gs) (Entries (length gs)) Bad ≡ rested 0 8 0 gs
-unfolding rested every goodEntry choose
+start-all : (gs : List (List (List ℕ))) → choose (every goodEntryLines gs) (Entries (length gs)) Bad ≡ rested 0 8 0 gs
+unfolding rested every goodEntryLines choose
 start-all [] = refl
-start-all (g ∷ gs) = ap (λ (n : ℕ). choose (goodLines 0 8 g && every goodEntry gs) (Entries n) Bad) (let e : suc (length gs) ≡ 0 + suc (length gs) = omega arith in e)
+start-all (g ∷ gs) = ap (λ (n : ℕ). choose (goodLines 0 8 g && every goodEntryLines gs) (Entries n) Bad) (let e : suc (length gs) ≡ 0 + suc (length gs) = omega arith in e)
 
 pub rested-start : (ls : List (List ℕ)) → counted ls ≡ rested 0 8 0 (groups ls)
 unfolding counted
@@ -169,8 +169,8 @@ rested-end j m n ls e = ap (λ (x : List (List ℕ)). rested j m n (groups x)) e
 
 -- a line that is wrong
 wrong-lines : (j m : ℕ) (l : List ℕ) (g : List (List ℕ)) → stepOf j m l ≡ Wrong → goodLines j m (l ∷ g) ≡ false
-unfolding goodLines goesOn
-wrong-lines j m l g e = ap (λ (x : Step). goesOn x (λ (k : ℕ). goodLines (suc j) k g)) e
+unfolding goodLines testedAfter
+wrong-lines j m l g e = ap (λ (x : Step). testedAfter x (λ (k : ℕ). goodLines (suc j) k g)) e
 
 wrong-group : (j m n : ℕ) (l : List ℕ) (g : List (List ℕ)) (gs : List (List (List ℕ))) → stepOf j m l ≡ Wrong → rested j m n ((l ∷ g) ∷ gs) ≡ Bad
 unfolding rested
@@ -190,8 +190,8 @@ rested-wrong j m n l ls e = go (told (opensEntry ls))
 
 -- a line that is right
 right-lines : (j m k : ℕ) (l : List ℕ) (g : List (List ℕ)) → stepOf j m l ≡ Least k → goodLines j m (l ∷ g) ≡ goodLines (suc j) k g
-unfolding goodLines goesOn
-right-lines j m k l g e = ap (λ (x : Step). goesOn x (λ (i : ℕ). goodLines (suc j) i g)) e
+unfolding goodLines testedAfter
+right-lines j m k l g e = ap (λ (x : Step). testedAfter x (λ (i : ℕ). goodLines (suc j) i g)) e
 
 last-lines : (j k : ℕ) → goodLines j k [] ≡ leb k j
 unfolding goodLines
@@ -217,7 +217,7 @@ some-group (l ∷ ls) h e = go (told (opensEntry ls)) (groups ls) refl
 on-group : (j m n k : ℕ) (l : List ℕ) (gs : List (List (List ℕ))) → stepOf j m l ≡ Least k → (gs ≡ [] → ⊥) → rested j m n (onFirst l gs) ≡ rested (suc j) k n gs
 unfolding onFirst rested
 on-group j m n k l [] e h = absurd (h refl)
-on-group j m n k l (g ∷ gs) e h = ap (λ (b : Bool). choose (b && every goodEntry gs) (Entries (n + suc (length gs))) Bad) (right-lines j m k l g e)
+on-group j m n k l (g ∷ gs) e h = ap (λ (b : Bool). choose (b && every goodEntryLines gs) (Entries (n + suc (length gs))) Bad) (right-lines j m k l g e)
 
 pub rested-on : (j m n k : ℕ) (l : List ℕ) (ls : List (List ℕ)) → stepOf j m l ≡ Least k → opensEntry ls ≡ false → rested j m n (groups (l ∷ ls)) ≡ rested (j + 1) k n (groups ls)
 rested-on j m n k l ls e h =
@@ -231,12 +231,12 @@ rested-short j m n k l ls e h s =
     ap (rested j m n) (groups-open l ls h)
     ∙ choose-no _ _ (and-no-left _ (right-lines j m k l [] e ∙ (last-lines (suc j) k ∙ lt-leb k (suc j) (omega arith))))
 
-all-right : (n : ℕ) (b : Bool) (gs : List (List (List ℕ))) → b ≡ true → choose (b && every goodEntry gs) (Entries (n + suc (length gs))) Bad ≡ rested 0 8 (n + 1) gs
-unfolding rested every choose goodEntry
+all-right : (n : ℕ) (b : Bool) (gs : List (List (List ℕ))) → b ≡ true → choose (b && every goodEntryLines gs) (Entries (n + suc (length gs))) Bad ≡ rested 0 8 (n + 1) gs
+unfolding rested every choose goodEntryLines
 all-right n b [] e = ap (λ (x : Bool). choose (x && true) (Entries (n + 1)) Bad) e
 all-right n b (g ∷ gs) e =
-    (λ i. choose (e i && (goodLines 0 8 g && every goodEntry gs)) (Entries (n + suc (suc (length gs)))) Bad)
-    ∙ ap (λ (x : ℕ). choose (goodLines 0 8 g && every goodEntry gs) (Entries x) Bad) (let z : n + suc (suc (length gs)) ≡ n + 1 + suc (length gs) = omega arith in z)
+    (λ i. choose (e i && (goodLines 0 8 g && every goodEntryLines gs)) (Entries (n + suc (suc (length gs)))) Bad)
+    ∙ ap (λ (x : ℕ). choose (goodLines 0 8 g && every goodEntryLines gs) (Entries x) Bad) (let z : n + suc (suc (length gs)) ≡ n + 1 + suc (length gs) = omega arith in z)
 
 pub rested-done : (j m n k : ℕ) (l : List ℕ) (ls : List (List ℕ)) → stepOf j m l ≡ Least k → opensEntry ls ≡ true → k ≤ j + 1 → rested j m n (groups (l ∷ ls)) ≡ rested 0 8 (n + 1) (groups ls)
 unfolding rested

@@ -54,22 +54,22 @@ unfoldable pub stepOf : ℕ → ℕ → List ℕ → Step
 stepOf j n line = choose (eqb j 6) (hintStep line) (choose (goodLine j line) (Least n) Wrong)
 
 -- what is tested after a step
-unfoldable pub goesOn : Step → (ℕ → Bool) → Bool
-goesOn Wrong f = false
-goesOn (Least n) f = f n
+unfoldable pub testedAfter : Step → (ℕ → Bool) → Bool
+testedAfter Wrong f = false
+testedAfter (Least n) f = f n
 
 -- the lines from line j on, of an entry of at least n lines
 unfoldable pub goodLines : ℕ → ℕ → List (List ℕ) → Bool
 goodLines j n [] = leb n j
-goodLines j n (l ∷ ls) = goesOn (stepOf j n l) (λ m. goodLines (suc j) m ls)
+goodLines j n (l ∷ ls) = testedAfter (stepOf j n l) (λ m. goodLines (suc j) m ls)
 
 -- the lines of an entry
-unfoldable pub goodEntry : List (List ℕ) → Bool
-goodEntry ls = goodLines 0 8 ls
+unfoldable pub goodEntryLines : List (List ℕ) → Bool
+goodEntryLines ls = goodLines 0 8 ls
 
 -- lines that are those of entries, and of how many
 unfoldable pub counted : List (List ℕ) → Checked
-counted ls = choose (every goodEntry (groups ls)) (Entries (length (groups ls))) Bad
+counted ls = choose (every goodEntryLines (groups ls)) (Entries (length (groups ls))) Bad
 
 -- the lines of prefixes
 unfoldable pub prefixLines : List (List ℕ) → List (List ℕ)

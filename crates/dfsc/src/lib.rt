@@ -5,9 +5,9 @@ ghost use mathlib.Core.List.{[]};
 ghost use lib.ListN.{length};
 ghost use Rattle.referral.specs.Found.{bufferWith};
 ghost use Rattle.domains.specs.Domains.{domainsNumber, domainsAfter, requestNumber};
-ghost use Rattle.listing.specs.Listed.{listed, bufferAfter};
+ghost use Rattle.listing.specs.Listed.{listAnswer, bufferAfter};
 ghost use Rattle.reading.specs.Read.{readNumber, readAfter};
-ghost use Rattle.holding.specs.Units.{unitsLeft, startUnits, answerLeft, referralUnits, ioUnits, seen};
+ghost use Rattle.holding.specs.Units.{unitsLeft, startUnits, answerLeft, referralAnswerUnits, ioAnswerUnits, seen};
 ghost use Rattle.holding.specs.Units.{partySeen, nameSeen, questionSeen, pathSeen, endSeen};
 ghost use Rattle.holding.specs.Listing.{listResult};
 use referral::Asked;
@@ -54,7 +54,7 @@ pub extern "C" fn dfsc_answer_referral(
     clock: u32,
     out: &mut [u8],
 ) -> u32
-    ensures { λ r. ⌜ answerLeft r (now (walk .exit)) (now (out .exit)) (now (refs .exit)) (now (doms .exit)) ≡ referralUnits (now (refs .entry)) (now (doms .entry)) (now (walk .entry)) status (now (reply .entry)) clock (now (out .entry)) ⌝ }
+    ensures { λ r. ⌜ answerLeft r (now (walk .exit)) (now (out .exit)) (now (refs .exit)) (now (doms .exit)) ≡ referralAnswerUnits (now (refs .entry)) (now (doms .entry)) (now (walk .entry)) status (now (reply .entry)) clock (now (out .entry)) ⌝ }
 {
     let n = holding::head_units(walk);
     let w = holding::held(walk);
@@ -72,7 +72,7 @@ pub extern "C" fn dfsc_answer_io(
     clock: u32,
     out: &mut [u8],
 ) -> u32
-    ensures { λ r. ⌜ answerLeft r (now (walk .exit)) (now (out .exit)) (now (refs .exit)) (now (doms .entry)) ≡ ioUnits (now (refs .entry)) (now (doms .entry)) (now (walk .entry)) status clock (now (out .entry)) ⌝ }
+    ensures { λ r. ⌜ answerLeft r (now (walk .exit)) (now (out .exit)) (now (refs .exit)) (now (doms .entry)) ≡ ioAnswerUnits (now (refs .entry)) (now (doms .entry)) (now (walk .entry)) status clock (now (out .entry)) ⌝ }
 {
     let n = holding::head_units(walk);
     let w = holding::held(walk);
@@ -160,7 +160,7 @@ pub extern "C" fn dfsc_read_domains(reply: &[u8], size: u32, doms: &mut [u16]) -
 // The referral cache as text: its units, or 2^32 times 4 or 10.
 #[no_mangle]
 pub extern "C" fn dfsc_list(refs: &[u16], out: &mut [u16]) -> u64
-    ensures answer { λ r. ⌜ r ≡ listResult (listed (now (refs .entry)) (length (now (out .entry)))) ⌝ }
+    ensures answer { λ r. ⌜ r ≡ listResult (listAnswer (now (refs .entry)) (length (now (out .entry)))) ⌝ }
     ensures buffer { λ r. ⌜ now (out .exit) ≡ bufferAfter (now (refs .entry)) (now (out .entry)) ⌝ }
 {
     let answer = listing::list(refs, out);

@@ -30,27 +30,27 @@ use Rattle.lookup.specs.Lookup.{entryAt, withKey}
 use Rattle.lookup.specs.declared.Found.the-variants.{At}
 use Rattle.lookup.proofs.LookupLaws.{KeyAt, key-found, used-inside}
 use Rattle.lookup.proofs.StoreLaws.{entry-good, entry-is, entry-start, kept-in-order}
-use Rattle.referral.specs.Found.{inside}
+use Rattle.referral.specs.Found.{isInside}
 use Rattle.referral.specs.declared.Answer.the-variants.{Says}
 use Rattle.namelists.specs.NameLists.{readDcs}
-use Rattle.namelists.specs.Found.{denotedDcs, Within}
+use Rattle.namelists.specs.Found.{denotedDcs, DcsInside}
 use Rattle.namelists.specs.declared.DcsFound.{DcsFound}
 use Rattle.namelists.proofs.SaysLaws.{SoundDcs, says-dcs, dcs-says}
 use Rattle.entries.specs.Writing.{addAll, addDc, addText}
 use Rattle.entries.proofs.WritingLaws.{shortName}
 use Rattle.entries.proofs.PieceLaws.{key-shape, dcs-written}
 use Rattle.storing.specs.Stored.{withDcs, dcsStored}
-use Rattle.domains.specs.Domains.{nameFits, DomainAt, StorableDcs}
+use Rattle.domains.specs.Domains.{goodNameSpan, DomainAt, StorableDcs}
 
 -- a name that fits lies inside the reply and is short
-module _ (r : List ℕ) (s : Span) (h : nameFits r s ≡ true) where
+module _ (r : List ℕ) (s : Span) (h : goodNameSpan r s ≡ true) where
   pub fits-inside : Inside r s
-  unfolding nameFits inside
-  fits-inside = leb-true _ _ (and-left (inside r s) _ h)
+  unfolding goodNameSpan isInside
+  fits-inside = leb-true _ _ (and-left (isInside r s) _ h)
 
   pub fits-good : goodName (spanned r s) ≡ true
-  unfolding nameFits
-  fits-good = and-right (inside r s) _ h
+  unfolding goodNameSpan
+  fits-good = and-right (isInside r s) _ h
 
   pub fits-short : s .units ≤ 256
   fits-short = let l : length (spanned r s) ≤ 255 = name-short (spanned r s) fits-good in omega (arith, length-spanned r s)
@@ -59,10 +59,10 @@ module _ (r : List ℕ) (s : Span) (h : nameFits r s ≡ true) where
   fits-room = (fits-inside, fits-short)
 
 -- names that fit are good and short
-pub all-good : (r : List ℕ) (ss : List Span) → every (nameFits r) ss ≡ true → every goodName (map (spanned r) ss) ≡ true
+pub all-good : (r : List ℕ) (ss : List Span) → every (goodNameSpan r) ss ≡ true → every goodName (map (spanned r) ss) ≡ true
 unfolding every
 all-good r [] h = refl
-all-good r (s ∷ ss) h = and-both (fits-good r s (and-left (nameFits r s) _ h)) (all-good r ss (and-right (nameFits r s) _ h))
+all-good r (s ∷ ss) h = and-both (fits-good r s (and-left (goodNameSpan r s) _ h)) (all-good r ss (and-right (goodNameSpan r s) _ h))
 
 pub good-short : (ts : List (List ℕ)) → every goodName ts ≡ true → every shortName ts ≡ true
 unfolding every
@@ -119,17 +119,17 @@ domain-found raw order name i h =
     }
 
 -- what the reader found can be stored
-both-fit : (r : List ℕ) (ss : List Span) → every (inside r) ss ≡ true → every goodName (map (spanned r) ss) ≡ true → every (nameFits r) ss ≡ true
-unfolding every nameFits
+both-fit : (r : List ℕ) (ss : List Span) → every (isInside r) ss ≡ true → every goodName (map (spanned r) ss) ≡ true → every (goodNameSpan r) ss ≡ true
+unfolding every goodNameSpan
 both-fit r [] h k = refl
 both-fit r (s ∷ ss) h k =
-    and-both (and-both (and-left (inside r s) _ h) (and-left (goodName (spanned r s)) _ k))
-    (both-fit r ss (and-right (inside r s) _ h) (and-right (goodName (spanned r s)) _ k))
+    and-both (and-both (and-left (isInside r s) _ h) (and-left (goodName (spanned r s)) _ k))
+    (both-fit r ss (and-right (isInside r s) _ h) (and-right (goodName (spanned r s)) _ k))
 
-pub storable-dcs : (size : ℕ) (r : List ℕ) (f : DcsFound) → denotedDcs r f ≡ readDcs size r → Within r f → f .answer ≡ Says → StorableDcs r f
+pub storable-dcs : (size : ℕ) (r : List ℕ) (f : DcsFound) → denotedDcs r f ≡ readDcs size r → DcsInside r f → f .answer ≡ Says → StorableDcs r f
 storable-dcs size r f e w h =
     let s : SoundDcs (map (spanned r) (take (f .count) (f .kept))) = says-dcs size r _ (sym e ∙ dcs-says r f h) in
-    record { few = w .few; good = both-fit r (take (f .count) (f .kept)) (every-take (inside r) (f .count) (f .kept) (w .kept-within)) (s .good) }
+    record { few = w .few; good = both-fit r (take (f .count) (f .kept)) (every-take (isInside r) (f .count) (f .kept) (w .kept-within)) (s .good) }
 
 -- the cache after the store
 module _ (raw : List ℕ) (i : ℕ) (at : DomainAt i raw) (r : List ℕ) (f : DcsFound) (s : StorableDcs r f) where

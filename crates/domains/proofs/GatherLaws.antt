@@ -12,12 +12,12 @@ use Rattle.unc.specs.Names.{goodName}
 use Rattle.spans.specs.Spans.{spanned, Inside}
 use Rattle.spans.specs.declared.Span.{Span}
 use Rattle.referral.specs.Replies.{referralCount, sizeAt, starts, entries}
-use Rattle.referral.specs.Found.{inside}
+use Rattle.referral.specs.Found.{isInside}
 use Rattle.referral.proofs.EntryLaws.{starts-cons, starts-none, entries-start}
 use Rattle.namelists.specs.NameLists.{goodDomain, domainAt}
 use Rattle.namelists.proofs.SaysLaws.{left-fits, left-name, left-next}
 use Rattle.storing.specs.Stored.{once}
-use Rattle.domains.specs.Domains.{nameFits}
+use Rattle.domains.specs.Domains.{goodNameSpan}
 use Rattle.domains.specs.Gathering.{withName, shown, Fit, Added, WellFormed, Gathered}
 use Rattle.domains.specs.declared.Names.{Names}
 use Rattle.domains.proofs.OnceLaws.{unlike, once-start, once-step, once-all, once-full, none-kept}
@@ -55,8 +55,8 @@ module _ (r : List ℕ) (n : ℕ) (v : Names) (e i : ℕ) (g : Going r n v e i) 
     pub going-fits : (18 ≤ sizeAt r e) × (e + sizeAt r e ≤ length r)
     going-fits = left-fits r n i e h (g .left)
 
-    pub going-name : (s : Span) → spanned r s ≡ domainAt r e → Inside r s → nameFits r s ≡ true
-    unfolding nameFits inside
+    pub going-name : (s : Span) → spanned r s ≡ domainAt r e → Inside r s → goodNameSpan r s ≡ true
+    unfolding goodNameSpan isInside
     going-name s p u = and-both (le-leb (s .from + 2 * s .units) (length r) u) (ap goodName p ∙ left-name r n i e h (g .left))
 
     pub going-next : (s : Span) (w : Names) (z : ℕ) → spanned r s ≡ domainAt r e → Added r v s w → z ≡ e + sizeAt r e → Going r n w z (i + 1)

@@ -21,7 +21,7 @@ use Rattle.caches.specs.Order.{distinct}
 use Rattle.storing.specs.Stored.{keepUnless, others, once}
 use Rattle.spans.specs.Spans.{spanned}
 use Rattle.spans.specs.declared.Span.{Span}
-use Rattle.domains.specs.Domains.{nameFits}
+use Rattle.domains.specs.Domains.{goodNameSpan}
 use Rattle.domains.specs.Gathering.{isNew, withName, shown, Fit, Added}
 use Rattle.domains.specs.declared.Names.{Names}
 
@@ -131,7 +131,7 @@ module _ (r : List ℕ) (v : Names) (s : Span) (fit : Fit r v) {b : Bool} (e : b
   added-none h = record { fit = fit; are = sym (choose-no (shown r v ++ (spanned r s ∷ [])) (shown r v) (sym e ∙ h)) }
 
   pub added-one : (w : Names) → w .kept ≡ set (v .kept) (v .count) s → w .count ≡ v .count + 1 → v .count < 33
-      → nameFits r s ≡ true → b ≡ true → Added r v s w
+      → goodNameSpan r s ≡ true → b ≡ true → Added r v s w
   unfolding withName every
   added-one w p q l g h =
       let room : length (v .kept) ≡ 33 = fit .room in
@@ -142,7 +142,7 @@ module _ (r : List ℕ) (v : Names) (s : Span) (fit : Fit r v) {b : Bool} (e : b
         fit = record {
           room = ap length p ∙ (length-set (v .kept) (v .count) s ∙ fit .room);
           few = omega arith;
-          good = ap (every (nameFits r)) k ∙ (every-append (nameFits r) (take (v .count) (v .kept)) (s ∷ []) ∙ and-both (fit .good) (and-both g refl));
+          good = ap (every (goodNameSpan r)) k ∙ (every-append (goodNameSpan r) (take (v .count) (v .kept)) (s ∷ []) ∙ and-both (fit .good) (and-both g refl));
         };
         are = (λ i. map (spanned r) (take (q i) (p i)))
             ∙ (sym (filled-next (spanned r) (v .kept) (v .count) s u refl refl ∙ append-nil (map (spanned r) (take (v .count + 1) (set (v .kept) (v .count) s))))
@@ -152,7 +152,7 @@ module _ (r : List ℕ) (v : Names) (s : Span) (fit : Fit r v) {b : Bool} (e : b
 -- nothing is kept yet
 pub none-kept : (r : List ℕ) (v : Names) → v .count ≡ 0 → length (v .kept) ≡ 33 → Fit r v
 unfolding every
-none-kept r v h l = record { room = l; few = omega arith; good = ap (λ (n : ℕ). every (nameFits r) (take n (v .kept))) h }
+none-kept r v h l = record { room = l; few = omega arith; good = ap (λ (n : ℕ). every (goodNameSpan r) (take n (v .kept))) h }
 
 -- the names kept once are those of the list, no two of them equal
 module _ (n : List ℕ) where

@@ -27,7 +27,7 @@ use Rattle.namelists.specs.NameLists.{readDomains, domainAt, goodDomain}
 use Rattle.namelists.specs.Found.{answerOf}
 use Rattle.namelists.proofs.SaysLaws.{SoundDomains, says-domains, domain-name-good}
 use Rattle.storing.specs.Stored.{once, domainPlaces}
-use Rattle.domains.specs.Domains.{refusalNumber, goodSize, namesNumber, domainsNumber, namesIn, cacheAfter, domainsAfter}
+use Rattle.domains.specs.Domains.{domainsRefusal, goodSize, namesNumber, domainsNumber, namesIn, cacheAfter, domainsAfter}
 use Rattle.domains.specs.Gathering.{shown, WellFormed, Gathered}
 use Rattle.domains.specs.declared.Names.{Names}
 use Rattle.domains.proofs.OnceLaws.{once-every, once-distinct}
@@ -71,15 +71,15 @@ module _ (r : List ℕ) (v : Names) (g : Gathered r v) (raw : List ℕ) (right :
       sym l ∙ (ap length (g .are) ∙ length-take 33 (once names))
 
   pub too-many : length raw / 2336 < v .count
-      → (refusalNumber TooMany ≡ namesNumber (length raw / 2336) (says (map (domainAt r) (entries r)))) × (raw ≡ cacheAfter (refusalNumber TooMany) (map (domainAt r) (entries r)) raw)
-  unfolding names namesNumber refusalNumber
+      → (domainsRefusal TooMany ≡ namesNumber (length raw / 2336) (says (map (domainAt r) (entries r)))) × (raw ≡ cacheAfter (domainsRefusal TooMany) (map (domainAt r) (entries r)) raw)
+  unfolding names namesNumber domainsRefusal
   too-many h =
       let u : length raw / 2336 < length (once names) = omega (arith, counted) in
       (sym (choose-no 0 6 (lt-leb (length (once names)) (length raw / 2336) u)), unchanged 6 names raw (λ z. omega arith))
 
   pub all-placed : v .count ≤ length raw / 2336 → {o : List ℕ} → o ≡ encode domains (domainPlaces (length raw / 2336) (shown r v))
-      → (refusalNumber Done ≡ namesNumber (length raw / 2336) (says (map (domainAt r) (entries r)))) × (o ≡ cacheAfter (refusalNumber Done) (map (domainAt r) (entries r)) raw)
-  unfolding names namesNumber refusalNumber
+      → (domainsRefusal Done ≡ namesNumber (length raw / 2336) (says (map (domainAt r) (entries r)))) × (o ≡ cacheAfter (domainsRefusal Done) (map (domainAt r) (entries r)) raw)
+  unfolding names namesNumber domainsRefusal
   all-placed h e =
       let most : length raw / 2336 ≤ 32 = size-told raw right .most in
       let u : length (once names) ≤ length raw / 2336 = omega (arith, counted) in (
@@ -99,13 +99,13 @@ module _ (size : ℕ) (r raw : List ℕ) where
   unfolding domainsAfter
   refused n e h = (e, unchanged (domainsNumber size r raw) (namesIn (readDomains size r)) raw (λ z. h (e ∙ z)))
 
-  pub not-in-order : {b : Bool} → b ≡ rightSize raw → b ≡ false → (refusalNumber NotInOrder ≡ domainsNumber size r raw) × (raw ≡ domainsAfter size r raw)
-  unfolding refusalNumber domainsNumber
+  pub not-in-order : {b : Bool} → b ≡ rightSize raw → b ≡ false → (domainsRefusal NotInOrder ≡ domainsNumber size r raw) × (raw ≡ domainsAfter size r raw)
+  unfolding domainsRefusal domainsNumber
   not-in-order e h = refused 4 (sym (choose-no _ 4 (sym e ∙ h))) (λ z. omega arith)
 
   module _ (right : rightSize raw ≡ true) where
-    pub bad-size : goodSize size ≡ false → (refusalNumber BadSize ≡ domainsNumber size r raw) × (raw ≡ domainsAfter size r raw)
-    unfolding refusalNumber domainsNumber
+    pub bad-size : goodSize size ≡ false → (domainsRefusal BadSize ≡ domainsNumber size r raw) × (raw ≡ domainsAfter size r raw)
+    unfolding domainsRefusal domainsNumber
     bad-size h = refused 3 (sym (choose-yes _ 4 right ∙ choose-no _ 3 h)) (λ z. omega arith)
 
     module _ (fine : goodSize size ≡ true) where
@@ -113,8 +113,8 @@ module _ (size : ℕ) (r raw : List ℕ) where
       unfolding domainsNumber
       number-is = choose-yes _ 4 right ∙ choose-yes _ 3 fine
 
-      pub unreadable : {a : Answer} → a ≡ answerOf (readDomains size r) → (a ≡ Says → ⊥) → (refusalNumber Unreadable ≡ domainsNumber size r raw) × (raw ≡ domainsAfter size r raw)
-      unfolding refusalNumber
+      pub unreadable : {a : Answer} → a ≡ answerOf (readDomains size r) → (a ≡ Says → ⊥) → (domainsRefusal Unreadable ≡ domainsNumber size r raw) × (raw ≡ domainsAfter size r raw)
+      unfolding domainsRefusal
       unreadable e h = refused 7 (sym (number-is ∙ unread (placeCount raw) (readDomains size r) (λ z. h (e ∙ sym z)))) (λ z. omega arith)
 
       module _ {a : Answer} (e : a ≡ answerOf (readDomains size r)) (h : a ≡ Says) where
@@ -126,11 +126,11 @@ module _ (size : ℕ) (r raw : List ℕ) where
             let l : length r ≤ size = sound .within in
             record { header = sound .header; short = omega arith; good = sound .good }
 
-        pub was-read : (v : DomainsRead) {o : List ℕ} → refusalNumber v ≡ namesNumber (placeCount raw) (says (map (domainAt r) (entries r)))
-            → o ≡ cacheAfter (refusalNumber v) (map (domainAt r) (entries r)) raw → (refusalNumber v ≡ domainsNumber size r raw) × (o ≡ domainsAfter size r raw)
+        pub was-read : (v : DomainsRead) {o : List ℕ} → domainsRefusal v ≡ namesNumber (placeCount raw) (says (map (domainAt r) (entries r)))
+            → o ≡ cacheAfter (domainsRefusal v) (map (domainAt r) (entries r)) raw → (domainsRefusal v ≡ domainsNumber size r raw) × (o ≡ domainsAfter size r raw)
         unfolding domainsAfter namesIn
         was-read v p q =
-            let n : refusalNumber v ≡ domainsNumber size r raw = p ∙ (ap (namesNumber (placeCount raw)) (sym (sound .is)) ∙ sym number-is) in
+            let n : domainsRefusal v ≡ domainsNumber size r raw = p ∙ (ap (namesNumber (placeCount raw)) (sym (sound .is)) ∙ sym number-is) in
             (n, q ∙ (λ i. cacheAfter (n i) (namesIn (sym (sound .is) i)) raw))
 
 -- an answer that is the first or the second of the three

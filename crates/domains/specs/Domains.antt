@@ -16,7 +16,7 @@ use Rattle.caches.specs.Memory.{domains, rightSize, decode, encode, inOrder}
 use Rattle.lookup.specs.Lookup.{entryAt}
 use Rattle.referral.specs.Request.{request}
 use Rattle.referral.specs.Replies.{Reply, malformed, nothing, says}
-use Rattle.referral.specs.Found.{inside}
+use Rattle.referral.specs.Found.{isInside}
 use Rattle.referral.specs.declared.Asked.{Asked}
 use Rattle.referral.specs.declared.Asked.the-variants.{Bytes, TooShort}
 use Rattle.namelists.specs.NameLists.{readDomains}
@@ -26,8 +26,8 @@ use Rattle.domains.specs.declared.DomainsRead.{DomainsRead}
 use Rattle.domains.specs.declared.DomainsRead.the-variants.{Done, NotInOrder, BadSize, TooMany, Unreadable}
 
 -- A DC reply: a span inside the reply that is a good name
-unfoldable pub nameFits : List ℕ → Span → Bool
-nameFits r s = inside r s && goodName (spanned r s)
+unfoldable pub goodNameSpan : List ℕ → Span → Bool
+goodNameSpan r s = isInside r s && goodName (spanned r s)
 
 -- place i of a domain cache in order holds an entry
 pub record DomainAt (i : ℕ) (raw : List ℕ) : Type 0 where
@@ -38,15 +38,15 @@ pub record DomainAt (i : ℕ) (raw : List ℕ) : Type 0 where
 -- a DC reply that can be stored: at most 8 names, each a good one
 pub record StorableDcs (r : List ℕ) (f : DcsFound) : Type 0 where
   pub few : f .count ≤ 8
-  pub good : every (nameFits r) (take (f .count) (f .kept)) ≡ true
+  pub good : every (goodNameSpan r) (take (f .count) (f .kept)) ≡ true
 
 -- A domain reply: the numbers of its answers, 0 where it is read
-unfoldable pub refusalNumber : DomainsRead → ℕ
-refusalNumber Done = 0
-refusalNumber BadSize = 3
-refusalNumber NotInOrder = 4
-refusalNumber TooMany = 6
-refusalNumber Unreadable = 7
+unfoldable pub domainsRefusal : DomainsRead → ℕ
+domainsRefusal Done = 0
+domainsRefusal BadSize = 3
+domainsRefusal NotInOrder = 4
+domainsRefusal TooMany = 6
+domainsRefusal Unreadable = 7
 
 -- "size not 1,024 to 57,344" is 3
 unfoldable pub goodSize : ℕ → Bool

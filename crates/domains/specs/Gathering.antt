@@ -12,7 +12,7 @@ use Rattle.spans.specs.declared.Span.{Span}
 use Rattle.referral.specs.Replies.{entries}
 use Rattle.namelists.specs.NameLists.{goodDomain, domainAt}
 use Rattle.storing.specs.Stored.{once}
-use Rattle.domains.specs.Domains.{nameFits}
+use Rattle.domains.specs.Domains.{goodNameSpan}
 use Rattle.domains.specs.declared.Names.{Names}
 
 -- none of the names is equal to this one
@@ -31,7 +31,7 @@ shown r v = map (spanned r) (take (v .count) (v .kept))
 pub record Fit (r : List ℕ) (v : Names) : Type 0 where
   pub room : length (v .kept) ≡ 33
   pub few : v .count ≤ 33
-  pub good : every (nameFits r) (take (v .count) (v .kept)) ≡ true
+  pub good : every (goodNameSpan r) (take (v .count) (v .kept)) ≡ true
 
 -- a name was added, if it is new
 pub record Added (r : List ℕ) (before : Names) (s : Span) (v : Names) : Type 0 where

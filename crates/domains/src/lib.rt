@@ -13,7 +13,7 @@ ghost use Rattle.referral.specs.Replies.{entries, says};
 ghost use Rattle.namelists.specs.NameLists.{domainAt};
 ghost use Rattle.entries.specs.Writing.{addAll, addDc};
 ghost use Rattle.storing.specs.Stored.{dcsStored, domainPlaces};
-ghost use Rattle.domains.specs.Domains.{nameFits, DomainAt, StorableDcs, refusalNumber, namesNumber, domainsNumber, cacheAfter, domainsAfter, askedNumber, requestNumber};
+ghost use Rattle.domains.specs.Domains.{goodNameSpan, DomainAt, StorableDcs, domainsRefusal, namesNumber, domainsNumber, cacheAfter, domainsAfter, askedNumber, requestNumber};
 ghost use Rattle.domains.specs.Gathering.{isNew, Fit, Added, WellFormed, Gathered};
 use namelists::DcsFound;
 use places::PLACE;
@@ -46,7 +46,7 @@ struct Names {
 
 // The DCs of the reply into place i, which has none.
 fn add_dcs(cache: &mut [u16], i: usize, reply: &[u8], kept: [Span; 8], count: usize)
-    requires { ⌜ (i < length (now cache) / 2336) × ((count ≤ 8) × (every (nameFits (now reply)) (take count kept) ≡ true)) ⌝ }
+    requires { ⌜ (i < length (now cache) / 2336) × ((count ≤ 8) × (every (goodNameSpan (now reply)) (take count kept) ≡ true)) ⌝ }
     ensures { λ r. ⌜ now (cache .exit) ≡ changed i (addAll addDc 0 (map (spanned (now (reply .entry))) (take count kept))) (now (cache .entry)) ⌝ }
 {
     let mut n = 0;
@@ -70,7 +70,7 @@ pub fn store_dcs(cache: &mut [u16], i: usize, reply: &[u8], found: DcsFound)
 
 // Whether no name of those kept is equal to this one.
 fn is_new(reply: &[u8], kept: [Span; 33], count: usize, s: Span) -> bool
-    requires { ⌜ (count ≤ 33) × ((every (nameFits (now reply)) (take count kept) ≡ true) × Inside (now reply) s) ⌝ }
+    requires { ⌜ (count ≤ 33) × ((every (goodNameSpan (now reply)) (take count kept) ≡ true) × Inside (now reply) s) ⌝ }
     ensures { λ r. ⌜ r ≡ isNew (map (spanned (now (reply .entry))) (take count kept)) (spanned (now (reply .entry)) s) ⌝ }
 {
     let mut j = 0;
@@ -86,7 +86,7 @@ fn is_new(reply: &[u8], kept: [Span; 33], count: usize, s: Span) -> bool
 
 // The names with one more, if it is new.
 fn add_once(reply: &[u8], names: Names, s: Span) -> Names
-    requires { ⌜ (names .count < 33) × (Fit (now reply) names × (nameFits (now reply) s ≡ true)) ⌝ }
+    requires { ⌜ (names .count < 33) × (Fit (now reply) names × (goodNameSpan (now reply) s ≡ true)) ⌝ }
     ensures { λ v. ⌜ Added (now (reply .entry)) names s v ⌝ }
 {
     let mut kept = names.kept;
@@ -127,7 +127,7 @@ fn gather(reply: &[u8]) -> Names
 
 // The names into the first places of a cache; every other place becomes free.
 fn put_domains(cache: &mut [u16], reply: &[u8], kept: [Span; 33], count: usize)
-    requires { ⌜ (rightSize (now cache) ≡ true) × ((count ≤ length (now cache) / 2336) × (every (nameFits (now reply)) (take count kept) ≡ true)) ⌝ }
+    requires { ⌜ (rightSize (now cache) ≡ true) × ((count ≤ length (now cache) / 2336) × (every (goodNameSpan (now reply)) (take count kept) ≡ true)) ⌝ }
     ensures { λ r. ⌜ now (cache .exit) ≡ encode domains (domainPlaces (length (now (cache .entry)) / 2336) (map (spanned (now (reply .entry))) (take count kept))) ⌝ }
 {
     let units = cache.len();
@@ -143,8 +143,8 @@ fn put_domains(cache: &mut [u16], reply: &[u8], kept: [Span; 33], count: usize)
 // A well-formed domain reply into a cache, if it has places enough. Nothing is written before its different names are counted.
 fn replace(reply: &[u8], cache: &mut [u16]) -> DomainsRead
     requires { ⌜ WellFormed (now reply) × (rightSize (now cache) ≡ true) ⌝ }
-    ensures answer { λ v. ⌜ refusalNumber v ≡ namesNumber (length (now (cache .entry)) / 2336) (says (map (domainAt (now (reply .entry))) (entries (now (reply .entry))))) ⌝ }
-    ensures cache { λ v. ⌜ now (cache .exit) ≡ cacheAfter (refusalNumber v) (map (domainAt (now (reply .entry))) (entries (now (reply .entry)))) (now (cache .entry)) ⌝ }
+    ensures answer { λ v. ⌜ domainsRefusal v ≡ namesNumber (length (now (cache .entry)) / 2336) (says (map (domainAt (now (reply .entry))) (entries (now (reply .entry))))) ⌝ }
+    ensures cache { λ v. ⌜ now (cache .exit) ≡ cacheAfter (domainsRefusal v) (map (domainAt (now (reply .entry))) (entries (now (reply .entry)))) (now (cache .entry)) ⌝ }
 {
     let names = gather(reply);
     let kept = names.kept;
@@ -158,7 +158,7 @@ fn replace(reply: &[u8], cache: &mut [u16]) -> DomainsRead
 
 // A domain reply replaces the domain cache. A refusal changes nothing.
 pub fn read_domains(reply: &[u8], size: u32, cache: &mut [u16]) -> DomainsRead
-    ensures answer { λ v. ⌜ refusalNumber v ≡ domainsNumber size (now (reply .entry)) (now (cache .entry)) ⌝ }
+    ensures answer { λ v. ⌜ domainsRefusal v ≡ domainsNumber size (now (reply .entry)) (now (cache .entry)) ⌝ }
     ensures cache { λ v. ⌜ now (cache .exit) ≡ domainsAfter size (now (reply .entry)) (now (cache .entry)) ⌝ }
 {
     if !caches::right_size(cache) {

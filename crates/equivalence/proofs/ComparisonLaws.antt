@@ -20,7 +20,7 @@ use Rattle.laws.proofs.Parts.{part-cons, part-none}
 use Rattle.unc.specs.Names.{sameName}
 use Rattle.unc.proofs.NameLaws.{sameName-sym}
 use Rattle.spans.specs.Spans.{spanned, Inside}
-use Rattle.referral.specs.Found.{inside, keptInside}
+use Rattle.referral.specs.Found.{isInside, keptInside}
 use Rattle.referral.specs.declared.Kept.{Kept}
 use Rattle.places.specs.Layout.{placeAt, textAt, listCount}
 use Rattle.caches.specs.Memory.{referralOf, targetOf}
@@ -42,7 +42,7 @@ module _ (r x : List ℕ) (k : Kept) where
 
 -- a kept target below the count lies in the reply
 pub kept-inside : (r : List ℕ) (ks : List Kept) (n j : ℕ) (z : Kept) → every (keptInside r) (take n ks) ≡ true → j < n → n ≤ length ks → Inside r (getD ks j z .path)
-unfolding keptInside inside
+unfolding keptInside isInside
 kept-inside r ks n j z h l f =
     leb-true _ _ (sym (ap (keptInside r) (getD-take n ks j z l)) ∙ every-at (keptInside r) (take n ks) h j z (omega (arith, length-take-le n ks f)))
 

@@ -25,7 +25,7 @@ use Rattle.lookup.specs.declared.Found.{Found}
 use Rattle.lookup.specs.declared.Found.the-variants.{At, Nothing}
 use Rattle.referral.specs.Replies as replies
 use Rattle.referral.specs.Replies.{readReferral}
-use Rattle.referral.specs.Found.{Within, referralShown, answered, denoted}
+use Rattle.referral.specs.Found.{ReferralInside, referralShown, replyOf, denoted}
 use Rattle.referral.specs.declared.ReferralFound.{ReferralFound}
 use Rattle.referral.specs.declared.Answer.{Answer}
 use Rattle.referral.specs.declared.Answer.the-variants as answer
@@ -42,13 +42,13 @@ use Rattle.steps.specs.declared.Rested.{Rested}
 use Rattle.moves.specs.Moves.{Packed, joined, packed, Ready}
 use Rattle.moves.proofs.MoveLaws.{packed-end, standing-long, standing-path}
 use Rattle.questions.specs.Questions.{restFits}
-use Rattle.rounds.specs.Rounds.{questionOf, restsAt, domainThere}
+use Rattle.rounds.specs.Rounds.{questionOf, failureRests, domainThere}
 use Rattle.rounds.proofs.RoundLaws.{place-named, there-gone, in-use-same, in-use-dc}
 use Rattle.rounds.proofs.QuietLaws.{quiet-goes, quiet-fails, untried-fails, rests-core}
 use Rattle.answers.specs.Answers.{domainsLeft}
 use Rattle.answers.proofs.AnswerLaws.{goes-stops}
 use Rattle.hints.specs.Hints.{referralsLeft, Answering}
-use Rattle.events.specs.Events.{Using, Asked}
+use Rattle.events.specs.Events.{Using, NameInPath}
 use Rattle.events.proofs.SaidLaws.{first-whole, said-storable, said-matches}
 
 -- an equal turn
@@ -106,7 +106,7 @@ module _ (refs doms rooms : List ℕ) (order : inOrder referrals refs ≡ true) 
 
   -- a referral that fails calls for an end or a question
   pub failing : Standing len rooms → (q : Asking) (status : ℕ) {r : Rested}
-      → r ≡ restedOf (restsAt left (coreOf (take len rooms) size hit) (referralFails (cachesOf refs doms) (coreOf (take len rooms) size hit) (questionOf q []) status))
+      → r ≡ restedOf (failureRests left (coreOf (take len rooms) size hit) (referralFails (cachesOf refs doms) (coreOf (take len rooms) size hit) (questionOf q []) status))
       → record { caches = cachesOf refs doms; core = coreOf (take len rooms) size hit; called = referralFails (cachesOf refs doms) (coreOf (take len rooms) size hit) (questionOf q []) status } ≡ t
       → (joined r rooms ≡ packed (turned left clock t)) × ((refs ≡ referralsLeft room left clock t refs) × (doms ≡ domainsLeft room left clock t doms))
   unfolding turned packed questionOf
@@ -231,23 +231,23 @@ module _ (c : Caches) (p : List ℕ) (s : ℕ) (a b : Bool) (q : Asking) where
 
 -- what a reader's answer denotes
 module _ (size : ℕ) (name reply : List ℕ) (f : ReferralFound) (d : denoted reply f ≡ readReferral size name reply) where
-  read-as : {a : Answer} → f .answer ≡ a → answered a (referralShown reply f) ≡ readReferral size name reply
+  read-as : {a : Answer} → f .answer ≡ a → replyOf a (referralShown reply f) ≡ readReferral size name reply
   unfolding denoted
-  read-as h = ap (λ (x : Answer). answered x (referralShown reply f)) (sym h) ∙ d
+  read-as h = ap (λ (x : Answer). replyOf x (referralShown reply f)) (sym h) ∙ d
 
   module _ (c : Caches) (w : Core) (q : Asking) (clock : ℕ) where
     pub read-malformed : f .answer ≡ answer.Malformed
         → record { caches = c; core = w; called = ends end.Malformed 0 } ≡ referralAnswer c w (questionOf q []) clock (readReferral size name reply)
-    unfolding answered referralAnswer
+    unfolding replyOf referralAnswer
     read-malformed h = ap (referralAnswer c w (questionOf q []) clock) (read-as h)
 
     pub read-nothing : f .answer ≡ answer.Nothing
         → record { caches = c; core = w; called = ends (emptyEnd (q .kind)) pathNotFound } ≡ referralAnswer c w (questionOf q []) clock (readReferral size name reply)
-    unfolding answered referralAnswer questionOf
+    unfolding replyOf referralAnswer questionOf
     read-nothing h = ap (referralAnswer c w (questionOf q []) clock) (read-as h)
 
     pub read-says : f .answer ≡ answer.Says → referralAnswer c w (questionOf q []) clock (replies.says (referralShown reply f)) ≡ referralAnswer c w (questionOf q []) clock (readReferral size name reply)
-    unfolding answered
+    unfolding replyOf
     read-says h = ap (referralAnswer c w (questionOf q []) clock) (read-as h)
 
 -- a reply that says something: step 8.1.2, or the store
@@ -266,8 +266,8 @@ module _ (c : Caches) (path : List ℕ) (size : ℕ) (hit : Bool) (q : Asking) (
   said-stored h = stored-hit c path size true hit q (referralShown reply f) clock ∙ sym (choose-no _ _ (sym (cover-any q f reply) ∙ (sym e ∙ h)))
 
 -- what a reply that says something is stored with
-pub answering : (refs doms rooms : List ℕ) (len : ℕ) (q : Asking) (name : ℕ) → Asked refs doms rooms len q name → (size : ℕ) (reply : List ℕ) (f : ReferralFound)
-    → denoted reply f ≡ readReferral size (take name rooms) reply → Within reply f → f .answer ≡ answer.Says → Answering refs doms rooms len q reply f
+pub answering : (refs doms rooms : List ℕ) (len : ℕ) (q : Asking) (name : ℕ) → NameInPath refs doms rooms len q name → (size : ℕ) (reply : List ℕ) (f : ReferralFound)
+    → denoted reply f ≡ readReferral size (take name rooms) reply → ReferralInside reply f → f .answer ≡ answer.Says → Answering refs doms rooms len q reply f
 answering refs doms rooms len q name k size reply f d w h = record {
   storing = record {
     ready = record { order = k .there .awaiting .refs-order; standing = k .there .awaiting .standing; good = k .there .awaiting .good };
@@ -288,14 +288,14 @@ name-units rooms len name st h = sym (length-take-le name rooms (omega (arith, h
 
 -- the name asked
 module _ (refs doms rooms : List ℕ) (len : ℕ) (q : Asking) (u : Using refs doms rooms len q) where
-  pub asked-two : {n : ℕ} → n ≡ length (firstOf 2 (take len rooms)) → Asked refs doms rooms len q n
+  pub asked-two : {n : ℕ} → n ≡ length (firstOf 2 (take len rooms)) → NameInPath refs doms rooms len q n
   asked-two e = record {
     there = u;
     within = omega (arith, spans 2 (take len rooms) .inside, standing-path len rooms (u .awaiting .standing));
     whole = λ p h. first-whole 2 (take len rooms) p (subst (λ (s : List ℕ). matches p s ≡ true) (ap (λ (m : ℕ). take m (take len rooms)) e ∙ spans 2 (take len rooms) .begin) h);
   }
 
-  pub asked-all : Asked refs doms rooms len q len
+  pub asked-all : NameInPath refs doms rooms len q len
   asked-all = record {
     there = u;
     within = omega arith;

@@ -22,7 +22,7 @@ use Rattle.caches.specs.Order.{goodPrefix, goodTarget, firstOpensNone, goodRefe
 use Rattle.caches.proofs.KindLaws.{prefix-short, good-referral}
 use Rattle.referral.specs.Replies as replies
 use Rattle.referral.specs.Replies.{entries, prefixAt, targetAt, isRead, goodFields, goodEntry, laterTarget, keptTargets, referralIn, readReferral, says}
-use Rattle.referral.specs.Found.{Within, keptInside, inside, targetShown, referralShown, denoted}
+use Rattle.referral.specs.Found.{ReferralInside, keptInside, isInside, targetShown, referralShown, denoted}
 use Rattle.referral.specs.declared.Kept.{Kept}
 use Rattle.referral.specs.declared.ReferralFound.{ReferralFound}
 use Rattle.referral.specs.declared.Answer.the-variants.{Says}
@@ -108,7 +108,7 @@ targets-good size asked r x h =
 
 -- every kept target fits its place
 one : (r : List ℕ) (k : Kept) → keptInside r k ≡ true → pathGood (targetShown r k) ≡ true → keptFits r k ≡ true
-unfolding keptFits keptInside inside targetShown pathGood
+unfolding keptFits keptInside isInside targetShown pathGood
 one r k h g = let l : length (spanned r (k .path)) ≤ 256 = prefix-short _ g in and-both h (le-leb (k .path .units) 256 (omega (arith, length-spanned r (k .path))))
 
 kept-fit : (r : List ℕ) (ks : List Kept) → every (keptInside r) ks ≡ true → every pathGood (map (targetShown r) ks) ≡ true → every (keptFits r) ks ≡ true
@@ -152,7 +152,7 @@ module _ (size : ℕ) (asked r : List ℕ) (f : ReferralFound) (e : denoted r f 
   good-targets : every pathGood (referralShown r f .targets) ≡ true
   good-targets = targets-good size asked r (referralShown r f) (sym e ∙ denoted-says r f h)
 
-  pub said-storable : Within r f → Storable r f
+  pub said-storable : ReferralInside r f → Storable r f
   unfolding referralShown
   said-storable w = record {
     inside = w .prefix-within;

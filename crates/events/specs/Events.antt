@@ -28,7 +28,7 @@ pub record Using (refs doms rooms : List ℕ) (len : ℕ) (q : Asking) : Type 0 
   pub used : inUse (cachesOf refs doms) (coreOf (take len rooms) 0 true) (questionOf q []) ≡ true
 
 -- the name asked is the first `name` units of the path; a prefix that matches it matches the path
-pub record Asked (refs doms rooms : List ℕ) (len : ℕ) (q : Asking) (name : ℕ) : Type 0 where
+pub record NameInPath (refs doms rooms : List ℕ) (len : ℕ) (q : Asking) (name : ℕ) : Type 0 where
   pub there : Using refs doms rooms len q
   pub within : name ≤ len
   pub whole : (p : List ℕ) → matches p (take name (take len rooms)) ≡ true → matches p (take len rooms) ≡ true

@@ -13,7 +13,7 @@ ghost use Rattle.moves.specs.Moves.{joined, packed};
 ghost use Rattle.rounds.specs.Rounds.{questionOf};
 ghost use Rattle.answers.specs.Answers.{domainsLeft};
 ghost use Rattle.hints.specs.Hints.{referralsLeft, Answering};
-ghost use Rattle.events.specs.Events.{Using, Asked};
+ghost use Rattle.events.specs.Events.{Using, NameInPath};
 use lookup::Found;
 use referral::Answer;
 use referral::ReferralFound;
@@ -115,7 +115,7 @@ pub fn referral_reply(
     clock: u32,
     room: usize,
 ) -> Rested
-    requires { ⌜ Asked (now refs) (now doms) (now rooms) len q name ⌝ }
+    requires { ⌜ NameInPath (now refs) (now doms) (now rooms) len q name ⌝ }
     ensures rest { λ r. ⌜ joined r (now (rooms .exit)) ≡ packed (turned left clock (referralAnswer (cachesOf (now (refs .entry)) (now (doms .entry))) (coreOf (take len (now (rooms .entry))) size hit) (questionOf q []) clock (readReferral (q .size) (take name (take len (now (rooms .entry)))) (now (reply .entry))))) ⌝ }
     ensures refs { λ r. ⌜ now (refs .exit) ≡ referralsLeft room left clock (referralAnswer (cachesOf (now (refs .entry)) (now (doms .entry))) (coreOf (take len (now (rooms .entry))) size hit) (questionOf q []) clock (readReferral (q .size) (take name (take len (now (rooms .entry)))) (now (reply .entry)))) (now (refs .entry)) ⌝ }
     ensures doms { λ r. ⌜ now (doms .exit) ≡ domainsLeft room left clock (referralAnswer (cachesOf (now (refs .entry)) (now (doms .entry))) (coreOf (take len (now (rooms .entry))) size hit) (questionOf q []) clock (readReferral (q .size) (take name (take len (now (rooms .entry)))) (now (reply .entry)))) (now (doms .entry)) ⌝ }

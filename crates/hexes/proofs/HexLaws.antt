@@ -20,7 +20,7 @@ use Rattle.laws.proofs.Orders.{lt-or-le}
 use Rattle.laws.proofs.Tests.{not-both}
 use Rattle.unspelling.specs.Reading.{digitOf, hexDigit}
 use Rattle.unspelling.proofs.HexLaws.{hex-low, hex-decimal, hex-between, hex-letter, digit-decimal, digit-letter}
-use Rattle.hexes.specs.Hexes.{upper, isHex, hexValue, hexFrom, hexNumber, bytesOf}
+use Rattle.hexes.specs.Hexes.{upper, isHex, hexValue, hexFrom, hexNumber, hexBytes}
 
 -- a unit by where it lies
 pub upper-low : (u : ℕ) → u < 97 → u ≡ upper u
@@ -99,14 +99,14 @@ number-said s {a} {b} {c} {d} l ea eb ec ed =
     equal ∙ ap hexNumber whole
 
 -- bytes
-pub length-bytes : (s : List ℕ) → length (bytesOf s) ≡ length s / 2
-unfolding bytesOf
+pub length-bytes : (s : List ℕ) → length (hexBytes s) ≡ length s / 2
+unfolding hexBytes
 length-bytes [] = refl
 length-bytes (a ∷ []) = refl
 length-bytes (a ∷ b ∷ s) = let r = length-bytes s in omega arith
 
-pub getD-bytes : (s : List ℕ) (i : ℕ) → i < length s / 2 → getD (bytesOf s) i 0 ≡ 16 * hexValue (getD s (2 * i) 0) + hexValue (getD s (2 * i + 1) 0)
-unfolding bytesOf hexNumber hexFrom
+pub getD-bytes : (s : List ℕ) (i : ℕ) → i < length s / 2 → getD (hexBytes s) i 0 ≡ 16 * hexValue (getD s (2 * i) 0) + hexValue (getD s (2 * i + 1) 0)
+unfolding hexBytes hexNumber hexFrom
 getD-bytes [] i h = absurd (omega arith)
 getD-bytes (a ∷ []) i h = absurd (omega arith)
 getD-bytes (a ∷ b ∷ s) zero h = omega arith

@@ -26,7 +26,7 @@ unfoldable pub hexNumber : List ℕ → ℕ
 hexNumber s = hexFrom 0 s
 
 -- the bytes that pairs of digits say
-unfoldable pub bytesOf : List ℕ → List ℕ
-bytesOf [] = []
-bytesOf (a ∷ []) = []
-bytesOf (a ∷ b ∷ s) = hexNumber (a ∷ b ∷ []) ∷ bytesOf s
+unfoldable pub hexBytes : List ℕ → List ℕ
+hexBytes [] = []
+hexBytes (a ∷ []) = []
+hexBytes (a ∷ b ∷ s) = hexNumber (a ∷ b ∷ []) ∷ hexBytes s

@@ -4,7 +4,7 @@ ghost use mathlib.Core.Bool.{true};
 ghost use Prim.Native.Nat.{_+_, _*_, _≤_, _<_};
 ghost use lib.ListN.{length, take, getD};
 ghost use Rattle.laws.specs.Lists.{every, pasted};
-ghost use Rattle.hexes.specs.Hexes.{upper, isHex, hexValue, hexNumber, bytesOf};
+ghost use Rattle.hexes.specs.Hexes.{upper, isHex, hexValue, hexNumber, hexBytes};
 ghost use Rattle.hexes.specs.Held.{nextRest, restFrom, heldAfter, lineAfter};
 
 // What is known of the bytes of a line that are not kept: there are none, or an even or an odd number of hex digits, or others.
@@ -101,8 +101,8 @@ pub fn number(s: &[u16]) -> u32
 // The bytes that pairs of digits say, as many as the buffer holds; answers how many.
 pub fn put_bytes(s: &[u16], out: &mut [u8]) -> usize
     requires { ⌜ every isHex (now s) ≡ true ⌝ }
-    ensures count { λ r. ⌜ r ≡ length (take (length (now (out .entry))) (bytesOf (now (s .entry)))) ⌝ }
-    ensures bytes { λ r. ⌜ now (out .exit) ≡ pasted (now (out .entry)) 0 (take (length (now (out .entry))) (bytesOf (now (s .entry)))) ⌝ }
+    ensures count { λ r. ⌜ r ≡ length (take (length (now (out .entry))) (hexBytes (now (s .entry)))) ⌝ }
+    ensures bytes { λ r. ⌜ now (out .exit) ≡ pasted (now (out .entry)) 0 (take (length (now (out .entry))) (hexBytes (now (s .entry)))) ⌝ }
 {
     let n = rooms::least(out.len(), s.len() / 2);
     let mut i = 0;

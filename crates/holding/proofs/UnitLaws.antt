@@ -27,7 +27,7 @@ use Rattle.walks.proofs.FormLaws.{form-told}
 use Rattle.steps.specs.Steps.{Turn}
 use Rattle.steps.specs.Rested.{cachesOf}
 use Rattle.turns.specs.Turns.{coreIn}
-use Rattle.packing.specs.Packing.{packed, unpacked}
+use Rattle.packing.specs.Packing.{packedWalk, unpacked}
 use Rattle.packing.specs.declared.Unpacked.{Unpacked}
 use Rattle.packing.specs.declared.Unpacked.the-variants.{Held, NotOfForm}
 use Rattle.packing.proofs.PackLaws.{length-packed}
@@ -38,7 +38,7 @@ use Rattle.closing.specs.declared.Verdict.{Verdict}
 use Rattle.closing.specs.declared.Verdict.the-variants.{Taken, BadPath, LongPath, BadSettings, NotInOrder, OutOfForm, ShortBuffer}
 use Rattle.shown.specs.Shown.{Given, given, partyCall, nameCall, pathCall, questionCall, endCall}
 use Rattle.shown.specs.declared.Shown.{Shown}
-use Rattle.holding.specs.Units.{noWalk, heldIn, walkIn, unitsLeft, headAfter, closedUnits, inUnits, startUnits, answerLeft, answerInUnits, referralUnits, ioUnits, shownResult, seen, asSeen, partySeen, nameSeen, questionSeen, pathSeen, endSeen}
+use Rattle.holding.specs.Units.{noWalk, heldIn, walkIn, unitsLeft, headAfter, closedUnits, inUnits, startUnits, answerLeft, answerInUnits, referralAnswerUnits, ioAnswerUnits, shownResult, seen, asSeen, partySeen, nameSeen, questionSeen, pathSeen, endSeen}
 
 -- the packed form and the texts, as parts of the units that are there
 module _ (units : List ℕ) {n : ℕ} (e : n ≡ min 32 (length units)) where
@@ -79,23 +79,23 @@ module _ (units : List ℕ) {n : ℕ} (e : n ≡ min 32 (length units)) where
     held-some w h = ap heldIn (sym h ∙ (u ∙ ap unpacked head-take))
 
   -- the units after a call
-  written : (w : Walk) (t : List ℕ) → 32 ≤ length units → pasted (take n units ++ t) 0 (packed w) ≡ packed w ++ t
+  written : (w : Walk) (t : List ℕ) → 32 ≤ length units → pasted (take n units ++ t) 0 (packedWalk w) ≡ packedWalk w ++ t
   unfolding pasted
   written w t l =
       let z : length (take n units) ≡ n = length-take-le n units (omega arith) in
-      let k : length (take n units) ≡ 0 + length (packed w) = omega (arith, length-packed w) in
-      ap (λ (x : List ℕ). packed w ++ x) (drop-at (take n units) t (0 + length (packed w)) k)
+      let k : length (take n units) ≡ 0 + length (packedWalk w) = omega (arith, length-packed w) in
+      ap (λ (x : List ℕ). packedWalk w ++ x) (drop-at (take n units) t (0 + length (packedWalk w)) k)
 
   closed-as : (m : ℕ) (w : Walk) (t : List ℕ) → (m ≡ 0 → 32 ≤ length units) → closedUnits m w (take n units ++ t) ≡ headAfter m w units ++ t
   unfolding closedUnits headAfter
   closed-as m w t h = go (eq-or-ne m 0)
     where
       go : (m ≡ 0) ⊎ (m ≡ 0 → ⊥)
-          → choose (eqb m 0) (pasted (take n units ++ t) 0 (packed w)) (take n units ++ t) ≡ choose (eqb m 0) (packed w) (take 32 units) ++ t
+          → choose (eqb m 0) (pasted (take n units ++ t) 0 (packedWalk w)) (take n units ++ t) ≡ choose (eqb m 0) (packedWalk w) (take 32 units) ++ t
       go (inl z) =
-          choose-yes _ _ (eq-eqb m 0 z) ∙ (written w t (h z) ∙ ap (λ (x : List ℕ). x ++ t) (sym (choose-yes (packed w) (take 32 units) (eq-eqb m 0 z))))
+          choose-yes _ _ (eq-eqb m 0 z) ∙ (written w t (h z) ∙ ap (λ (x : List ℕ). x ++ t) (sym (choose-yes (packedWalk w) (take 32 units) (eq-eqb m 0 z))))
       go (inr z) =
-          choose-no _ _ (ne-eqb m 0 z) ∙ (λ j. (head-take ∙ sym (choose-no (packed w) (take 32 units) (ne-eqb m 0 z))) j ++ t)
+          choose-no _ _ (ne-eqb m 0 z) ∙ (λ j. (head-take ∙ sym (choose-no (packedWalk w) (take 32 units) (ne-eqb m 0 z))) j ++ t)
 
   -- the units after their rest was lent and left as t
   back : (t : List ℕ) → take n units ++ (t ++ drop (length units - n) (drop n units)) ≡ take n units ++ t
@@ -216,8 +216,8 @@ module _ (refs doms units : List ℕ) (status : ℕ) (reply : List ℕ) (clock :
 
   pub referral-closed : {u : List ℕ} {r : ℕ} → r ≡ refusalNumber (o .verdict)
       → u ≡ closedUnits (refusalNumber (o .verdict)) (o .walk) (take n units ++ (t ++ drop (length units - n) (drop n units)))
-      → answerLeft r u out' refs' doms' ≡ referralUnits refs doms units status reply clock out
-  unfolding referralUnits
+      → answerLeft r u out' refs' doms' ≡ referralAnswerUnits refs doms units status reply clock out
+  unfolding referralAnswerUnits
   referral-closed k b = answer-closed (λ texts v. referralCall refs doms texts v status reply clock out) asked-taken units e a o t h k b
 
 module _ (refs doms units : List ℕ) (status clock : ℕ) (out : List ℕ) {n : ℕ} (e : n ≡ min 32 (length units)) {w : Walk} (a : w ≡ walkIn units)
@@ -232,8 +232,8 @@ module _ (refs doms units : List ℕ) (status clock : ℕ) (out : List ℕ) {n :
 
   pub io-closed : {u : List ℕ} {r : ℕ} → r ≡ refusalNumber (o .verdict)
       → u ≡ closedUnits (refusalNumber (o .verdict)) (o .walk) (take n units ++ (t ++ drop (length units - n) (drop n units)))
-      → answerLeft r u out' refs' doms' ≡ ioUnits refs doms units status clock out
-  unfolding ioUnits
+      → answerLeft r u out' refs' doms' ≡ ioAnswerUnits refs doms units status clock out
+  unfolding ioAnswerUnits
   io-closed k b = answer-closed (λ texts v. ioCall refs doms texts v status clock out) tried-taken units e a o t h k b
 
 -- the end of a call: nothing is written where it is refused
@@ -242,7 +242,7 @@ module _ (m : ℕ) (w : Walk) (units : List ℕ) {r : ℕ} (e : r ≡ m) where
   unfolding closedUnits
   close-refused h = sym (choose-no _ _ (ne-eqb m 0 (λ z. h (e ∙ z))))
 
-  pub close-taken : {u : List ℕ} → r ≡ 0 → u ≡ pasted units 0 (packed w) → u ≡ closedUnits m w units
+  pub close-taken : {u : List ℕ} → r ≡ 0 → u ≡ pasted units 0 (packedWalk w) → u ≡ closedUnits m w units
   unfolding closedUnits
   close-taken h k = k ∙ sym (choose-yes _ _ (eq-eqb m 0 (sym e ∙ h)))
 

@@ -9,8 +9,8 @@ use Rattle.loading.specs.declared.Loaded.{Loaded}
 -- the units of the text, or 2^32 times the number of the refusal
 unfoldable pub listResult : Answer → ℕ
 listResult (Units n) = n
-listResult NotInOrder = 4294967296 * lst.refusalNumber NotInOrder
-listResult TooShort = 4294967296 * lst.refusalNumber TooShort
+listResult NotInOrder = 4294967296 * lst.listRefusal NotInOrder
+listResult TooShort = 4294967296 * lst.listRefusal TooShort
 
 abbrev pub readRefusal : Loaded → ℕ
-readRefusal answer = red.refusalNumber answer
+readRefusal answer = red.loadRefusal answer

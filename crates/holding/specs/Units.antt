@@ -12,7 +12,7 @@ use Rattle.domains.specs.declared.DomainsRead.{DomainsRead}
 use Rattle.steps.specs.declared.End.the-variants.{Gone}
 use Rattle.steps.specs.declared.Next.the-variants.{Ends}
 use Rattle.walks.specs.declared.Walk.{Walk}
-use Rattle.packing.specs.Packing.{packed, unpacked}
+use Rattle.packing.specs.Packing.{packedWalk, unpacked}
 use Rattle.packing.specs.declared.Unpacked.{Unpacked}
 use Rattle.packing.specs.declared.Unpacked.the-variants.{Held, NotOfForm}
 use Rattle.closing.specs.Closing.{Left}
@@ -47,11 +47,11 @@ unitsLeft number walk out = record { number = number; walk = walk; out = out }
 
 -- the packed form is written where the call is taken, and stays where it is refused
 unfoldable pub headAfter : ℕ → Walk → List ℕ → List ℕ
-headAfter number w units = choose (eqb number 0) (packed w) (take 32 units)
+headAfter number w units = choose (eqb number 0) (packedWalk w) (take 32 units)
 
 -- the same, as the units are written
 unfoldable pub closedUnits : ℕ → Walk → List ℕ → List ℕ
-closedUnits number w units = choose (eqb number 0) (pasted units 0 (packed w)) units
+closedUnits number w units = choose (eqb number 0) (pasted units 0 (packedWalk w)) units
 
 unfoldable pub inUnits : List ℕ → Left → UnitsLeft
 inUnits units l =
@@ -75,12 +75,12 @@ unfoldable pub answerInUnits : List ℕ → Answered → AnswerLeft
 answerInUnits units a = record { left = inUnits units (a .left); refs = a .refs; doms = a .doms }
 
 -- `dfsc_answer_referral` and `dfsc_answer_io`
-unfoldable pub referralUnits : List ℕ → List ℕ → List ℕ → ℕ → List ℕ → ℕ → List ℕ → AnswerLeft
-referralUnits refs doms units status reply clock out =
+unfoldable pub referralAnswerUnits : List ℕ → List ℕ → List ℕ → ℕ → List ℕ → ℕ → List ℕ → AnswerLeft
+referralAnswerUnits refs doms units status reply clock out =
     answerInUnits units (referralCall refs doms (textsIn units) (walkIn units) status reply clock out)
 
-unfoldable pub ioUnits : List ℕ → List ℕ → List ℕ → ℕ → ℕ → List ℕ → AnswerLeft
-ioUnits refs doms units status clock out = answerInUnits units (ioCall refs doms (textsIn units) (walkIn units) status clock out)
+unfoldable pub ioAnswerUnits : List ℕ → List ℕ → List ℕ → ℕ → ℕ → List ℕ → AnswerLeft
+ioAnswerUnits refs doms units status clock out = answerInUnits units (ioCall refs doms (textsIn units) (walkIn units) status clock out)
 
 -- how many units are shown, or 65,536 times the number that says why there are none
 unfoldable pub shownResult : Shown → ℕ
@@ -115,7 +115,3 @@ pathSeen units out = asSeen (pathCall (walkIn units) (textsIn units) out)
 
 unfoldable pub endSeen : List ℕ → List ℕ → Seen
 endSeen units out = asSeen (endCall (walkIn units) (textsIn units) out)
-
--- `dfsc_read_domains`: the numbers of a domain reply
-abbrev pub domainsRefusal : DomainsRead → ℕ
-domainsRefusal read = dom.refusalNumber read

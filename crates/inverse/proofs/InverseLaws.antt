@@ -22,7 +22,7 @@ use Rattle.unspelling.proofs.HexLaws.{digit-back, unit-hex}
 use Rattle.unspelling.specs.declared.Spelled.the-variants.{Units}
 use Rattle.unspelling.specs.declared.Number.the-variants.{Value}
 use Rattle.listing.specs.Form.{pathLine, numberLine}
-use Rattle.lines.specs.Lines.{valueOf, hasKey, numberSaid}
+use Rattle.lines.specs.Lines.{valueOf, lineHasKey, numberSaid}
 use Rattle.hexes.specs.Hexes.{isHex, hexValue, hexFrom, hexNumber}
 use Rattle.hexes.proofs.HexLaws.{upper-low}
 use Rattle.script.specs.Script.{statusKey, isText, textSaid, textRead, textTaken, statusSaid}
@@ -30,8 +30,8 @@ use Rattle.printing.specs.Printed.{statusLine}
 use Rattle.inverse.specs.Inverse.{Inverse}
 
 -- a key and a value
-key-there : (key w : List ℕ) → hasKey key (key ++ w) ≡ true
-unfolding hasKey
+key-there : (key w : List ℕ) → lineHasKey key (key ++ w) ≡ true
+unfolding lineHasKey
 key-there key w = same-sameList key (take (length key) (key ++ w)) (sym (take-append-seam key w))
 
 value-there : (key w : List ℕ) → valueOf key (key ++ w) ≡ w

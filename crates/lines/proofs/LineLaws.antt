@@ -27,7 +27,7 @@ use Rattle.unspelling.specs.declared.Spelled.{Spelled}
 use Rattle.unspelling.specs.declared.Spelled.the-variants.{Bad, Units}
 use Rattle.unspelling.specs.declared.Number.{Number}
 use Rattle.unspelling.specs.declared.Number.the-variants.{None, Value}
-use Rattle.lines.specs.Lines.{lineLength, valueOf, hasKey, isPathLine, numberSaid}
+use Rattle.lines.specs.Lines.{lineLength, valueOf, lineHasKey, isPathLine, numberSaid}
 
 -- the end of a line
 pub end-here : (s : List ℕ) (i : ℕ) → i < length s → getD s i 0 ≡ 10 → lineLength (drop i s) ≡ 0
@@ -69,8 +69,8 @@ key-value (a ∷ key) w (b ∷ line) = ap (λ (t : Bool). eqb a b && t) (key-val
     assoc true u v = refl
     assoc false u v = refl
 
-pub key-short : (key line : List ℕ) → length line < length key → false ≡ hasKey key line
-unfolding hasKey
+pub key-short : (key line : List ℕ) → length line < length key → false ≡ lineHasKey key line
+unfolding lineHasKey
 key-short key line h = same-long key (take (length key) line) (λ e. few e (taken (length key) line))
   where
     taken : (n : ℕ) (l : List ℕ) → length (take n l) ≤ length l
@@ -80,12 +80,12 @@ key-short key line h = same-long key (take (length key) line) (λ e. few e (take
     few e k = omega arith
 
 -- a line of a path
-path-parts : (key line : List ℕ) → isPathLine key line ≡ ((hasKey key line && isSpelled (valueOf key line)) && goodPrefix (unspelled (valueOf key line)))
-unfolding isPathLine pathLine hasKey isSpelled valueOf
+path-parts : (key line : List ℕ) → isPathLine key line ≡ ((lineHasKey key line && isSpelled (valueOf key line)) && goodPrefix (unspelled (valueOf key line)))
+unfolding isPathLine pathLine lineHasKey isSpelled valueOf
 path-parts key line = ap (λ (t : Bool). t && goodPrefix (unspelled (drop (length key) line))) (key-value key (spelled (unspelled (drop (length key) line))) line)
 
 module _ (key line : List ℕ) where
-  pub path-other : {b : Bool} → b ≡ hasKey key line → b ≡ false → false ≡ isPathLine key line
+  pub path-other : {b : Bool} → b ≡ lineHasKey key line → b ≡ false → false ≡ isPathLine key line
   path-other e h = sym (path-parts key line ∙ and-no-left _ (and-no-left _ (sym e ∙ h)))
 
   spelled-bad : (s : List ℕ) → spelledForm s ≡ Bad → isSpelled s ≡ false
@@ -96,19 +96,19 @@ module _ (key line : List ℕ) where
       absurd-units e = let z : _≡_ {A = ℕ} 0 1 = cc in omega arith
 
   pub path-bad : {r : Spelled} → r ≡ spelledForm (valueOf key line) → r ≡ Bad → false ≡ isPathLine key line
-  path-bad e h = sym (path-parts key line ∙ and-no-left (goodPrefix (unspelled (valueOf key line))) (and-no-right (hasKey key line) (spelled-bad (valueOf key line) (sym e ∙ h))))
+  path-bad e h = sym (path-parts key line ∙ and-no-left (goodPrefix (unspelled (valueOf key line))) (and-no-right (lineHasKey key line) (spelled-bad (valueOf key line) (sym e ∙ h))))
 
-  pub path-said : {b g : Bool} → b ≡ hasKey key line → b ≡ true → isSpelled (valueOf key line) ≡ true → g ≡ goodPrefix (unspelled (valueOf key line)) → g ≡ isPathLine key line
+  pub path-said : {b g : Bool} → b ≡ lineHasKey key line → b ≡ true → isSpelled (valueOf key line) ≡ true → g ≡ goodPrefix (unspelled (valueOf key line)) → g ≡ isPathLine key line
   path-said e h k f = f ∙ sym (path-parts key line ∙ and-yes-left _ (and-both (sym e ∙ h) k))
 
   -- a line of a number
-  pub number-other : {b : Bool} → b ≡ hasKey key line → b ≡ false → None ≡ numberSaid key line
-  unfolding numberSaid numberLine hasKey valueOf
+  pub number-other : {b : Bool} → b ≡ lineHasKey key line → b ≡ false → None ≡ numberSaid key line
+  unfolding numberSaid numberLine lineHasKey valueOf
   number-other e h =
       sym (choose-no (Value (decimalOf (drop (length key) line))) None (and-no-right (ltb (decimalOf (drop (length key) line)) 4294967296) (key-value key (decimal (decimalOf (drop (length key) line))) line ∙ and-no-left _ (sym e ∙ h))))
 
-  pub number-read : {b : Bool} {r : Number} → b ≡ hasKey key line → b ≡ true → r ≡ decimalForm (valueOf key line) → r ≡ numberSaid key line
-  unfolding numberSaid numberLine hasKey valueOf decimalForm isDecimal
+  pub number-read : {b : Bool} {r : Number} → b ≡ lineHasKey key line → b ≡ true → r ≡ decimalForm (valueOf key line) → r ≡ numberSaid key line
+  unfolding numberSaid numberLine lineHasKey valueOf decimalForm isDecimal
   number-read e h f =
       f
       ∙ ap (λ (t : Bool). choose (ltb (decimalOf (drop (length key) line)) 4294967296 && t) (Value (decimalOf (drop (length key) line))) None)
@@ -138,8 +138,8 @@ pub value-there : (d t : List ℕ) (n : ℕ) {o : List ℕ} {r : ℕ} → n ≡ 
 unfolding part
 value-there d t n {o} e h w = ap (take n) (w .memory) ∙ (ap (λ (k : ℕ). take k (pasted d 0 t)) e ∙ part-pasted d 0 t (omega arith))
 
-pub key-fits : (key line : List ℕ) {b : Bool} → b ≡ hasKey key line → b ≡ true → length key ≤ length line
-unfolding hasKey
+pub key-fits : (key line : List ℕ) {b : Bool} → b ≡ lineHasKey key line → b ≡ true → length key ≤ length line
+unfolding lineHasKey
 key-fits key line e h =
     let k = ap length (sameList-true key (take (length key) line) (sym e ∙ h)) in
     let l : length (take (length key) line) ≤ length line = simp length-take (omega arith) in

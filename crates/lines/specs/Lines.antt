@@ -22,8 +22,8 @@ unfoldable pub valueOf : List ℕ → List ℕ → List ℕ
 valueOf key line = drop (length key) line
 
 -- a line begins with a key
-unfoldable pub hasKey : List ℕ → List ℕ → Bool
-hasKey key line = sameList key (take (length key) line)
+unfoldable pub lineHasKey : List ℕ → List ℕ → Bool
+lineHasKey key line = sameList key (take (length key) line)
 
 -- a line of a prefix or a target
 unfoldable pub isPathLine : List ℕ → List ℕ → Bool

@@ -6,7 +6,7 @@ ghost use lib.ListN.{length, take, drop};
 ghost use Rattle.laws.specs.Listed.{sameList};
 ghost use Rattle.caches.specs.Order.{goodPrefix};
 ghost use Rattle.unspelling.specs.Reading.{unspelled, isSpelled};
-ghost use Rattle.lines.specs.Lines.{lineLength, hasKey, isPathLine, numberSaid};
+ghost use Rattle.lines.specs.Lines.{lineLength, lineHasKey, isPathLine, numberSaid};
 use unspelling::Number;
 use unspelling::Spelled;
 
@@ -47,7 +47,7 @@ pub fn same_units(a: &[u16], b: &[u16]) -> bool
 
 // Whether a line begins with a key.
 pub fn has_key(key: &[u16], line: &[u16]) -> bool
-    ensures { λ r. ⌜ r ≡ hasKey (now (key .entry)) (now (line .entry)) ⌝ }
+    ensures { λ r. ⌜ r ≡ lineHasKey (now (key .entry)) (now (line .entry)) ⌝ }
 {
     let n = key.len();
     if line.len() < n {

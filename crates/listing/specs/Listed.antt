@@ -15,18 +15,18 @@ unfoldable pub textOf : List ℕ → List ℕ
 textOf raw = listing (decode referrals raw)
 
 -- the numbers of the answers, 0 where the cache is listed
-unfoldable pub refusalNumber : Answer → ℕ
-refusalNumber (Units n) = 0
-refusalNumber NotInOrder = 4
-refusalNumber TooShort = 10
+unfoldable pub listRefusal : Answer → ℕ
+listRefusal (Units n) = 0
+listRefusal NotInOrder = 4
+listRefusal TooShort = 10
 
 -- 4 before 10
 unfoldable pub listNumber : List ℕ → ℕ → ℕ
 listNumber raw room = choose (inOrder referrals raw) (choose (leb (length (textOf raw)) room) 0 10) 4
 
 -- and the answer: how many units the text has
-unfoldable pub listed : List ℕ → ℕ → Answer
-listed raw room = choose (inOrder referrals raw) (choose (leb (length (textOf raw)) room) (Units (length (textOf raw))) TooShort) NotInOrder
+unfoldable pub listAnswer : List ℕ → ℕ → Answer
+listAnswer raw room = choose (inOrder referrals raw) (choose (leb (length (textOf raw)) room) (Units (length (textOf raw))) TooShort) NotInOrder
 
 -- "Bytes past what is written stay"; with a refusal all do
 unfoldable pub bufferAfter : List ℕ → List ℕ → List ℕ

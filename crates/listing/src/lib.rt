@@ -7,7 +7,7 @@ ghost use Rattle.places.specs.Layout.{placeAt, flagAt, flagUnit};
 ghost use Rattle.caches.specs.Memory.{referralOf};
 ghost use Rattle.spelling.specs.Spelling.{spelled, decimal, Put};
 ghost use Rattle.listing.specs.Form.{kindKey, kindWord, pathLine, numberLine, ended, linesText, targetLines, settingLines, countLines, entryText};
-ghost use Rattle.listing.specs.Listed.{textOf, refusalNumber, listNumber, listed, bufferAfter};
+ghost use Rattle.listing.specs.Listed.{textOf, listRefusal, listNumber, listAnswer, bufferAfter};
 use places::PLACE;
 
 const LINE_END: u16 = 10;
@@ -230,8 +230,8 @@ fn put_listing(cache: &[u16], out: &mut [u16]) -> usize
 
 // The referral cache as text into a lent buffer; answers how many units were written. A refusal changes nothing.
 pub fn list(referrals: &[u16], out: &mut [u16]) -> Answer
-    ensures number { λ v. ⌜ refusalNumber v ≡ listNumber (now (referrals .entry)) (length (now (out .entry))) ⌝ }
-    ensures answer { λ v. ⌜ v ≡ listed (now (referrals .entry)) (length (now (out .entry))) ⌝ }
+    ensures number { λ v. ⌜ listRefusal v ≡ listNumber (now (referrals .entry)) (length (now (out .entry))) ⌝ }
+    ensures answer { λ v. ⌜ v ≡ listAnswer (now (referrals .entry)) (length (now (out .entry))) ⌝ }
     ensures buffer { λ v. ⌜ now (out .exit) ≡ bufferAfter (now (referrals .entry)) (now (out .entry)) ⌝ }
 {
     if !caches::referrals_in_order(referrals) {

@@ -16,7 +16,7 @@ use Rattle.reading.specs.Read.{isListing, placed, readNumber, readAfter}
 use Rattle.checking.specs.Checked.{checked}
 use Rattle.checking.specs.declared.Checked as tested
 use Rattle.checking.specs.declared.Checked.the-variants.{Bad, Entries}
-use Rattle.loading.specs.Loaded.{refusalNumber}
+use Rattle.loading.specs.Loaded.{loadRefusal}
 use Rattle.loading.specs.declared.Loaded.the-variants.{Done, NotInOrder, NotListing, TooMany}
 
 -- what the test of a text tells
@@ -51,23 +51,23 @@ module _ (text raw : List ℕ) where
   unfolding readAfter
   kept n h e = sym (choose-no _ raw (ne-eqb (readNumber text raw) 0 (λ z. omega arith)))
 
-  pub no-places : rightSize raw ≡ false → (refusalNumber NotInOrder ≡ readNumber text raw) × (raw ≡ readAfter text raw)
-  unfolding refusalNumber readNumber
+  pub no-places : rightSize raw ≡ false → (loadRefusal NotInOrder ≡ readNumber text raw) × (raw ≡ readAfter text raw)
+  unfolding loadRefusal readNumber
   no-places h = let e : 4 ≡ readNumber text raw = sym (choose-no _ 4 h) in (e, kept 4 (omega arith) e)
 
   module _ (size : rightSize raw ≡ true) where
-    pub no-listing : isListing text ≡ false → (refusalNumber NotListing ≡ readNumber text raw) × (raw ≡ readAfter text raw)
-    unfolding refusalNumber readNumber
+    pub no-listing : isListing text ≡ false → (loadRefusal NotListing ≡ readNumber text raw) × (raw ≡ readAfter text raw)
+    unfolding loadRefusal readNumber
     no-listing h = let e : 8 ≡ readNumber text raw = sym (choose-yes _ 4 size ∙ choose-no _ 8 h) in (e, kept 8 (omega arith) e)
 
     module _ (form : isListing text ≡ true) where
-      pub too-many : placeCount raw < length (entriesSaid text) → (refusalNumber TooMany ≡ readNumber text raw) × (raw ≡ readAfter text raw)
-      unfolding refusalNumber readNumber
+      pub too-many : placeCount raw < length (entriesSaid text) → (loadRefusal TooMany ≡ readNumber text raw) × (raw ≡ readAfter text raw)
+      unfolding loadRefusal readNumber
       too-many h = let e : 9 ≡ readNumber text raw = sym (choose-yes _ 4 size ∙ (choose-yes _ 8 form ∙ choose-no 0 9 (lt-leb _ _ h))) in (e, kept 9 (omega arith) e)
 
       pub was-read : {o : List ℕ} → length (entriesSaid text) ≤ placeCount raw → o ≡ encode referrals (placed (placeCount raw) (entriesSaid text))
-          → (refusalNumber Done ≡ readNumber text raw) × (o ≡ readAfter text raw)
-      unfolding refusalNumber readNumber readAfter
+          → (loadRefusal Done ≡ readNumber text raw) × (o ≡ readAfter text raw)
+      unfolding loadRefusal readNumber readAfter
       was-read h e =
           let z : readNumber text raw ≡ 0 = choose-yes _ 4 size ∙ (choose-yes _ 8 form ∙ choose-yes 0 9 (le-leb _ _ h)) in
           (sym z, e ∙ sym (choose-yes _ raw (eq-eqb _ 0 z)))

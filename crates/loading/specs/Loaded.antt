@@ -3,8 +3,8 @@ use Prim.Native.Nat.{ℕ}
 use Rattle.loading.specs.declared.Loaded as answer
 use Rattle.loading.specs.declared.Loaded.the-variants.{Done, NotInOrder, NotListing, TooMany}
 
-unfoldable pub refusalNumber : answer.Loaded → ℕ
-refusalNumber Done = 0
-refusalNumber NotInOrder = 4
-refusalNumber NotListing = 8
-refusalNumber TooMany = 9
+unfoldable pub loadRefusal : answer.Loaded → ℕ
+loadRefusal Done = 0
+loadRefusal NotInOrder = 4
+loadRefusal NotListing = 8
+loadRefusal TooMany = 9

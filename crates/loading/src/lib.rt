@@ -1,7 +1,7 @@
 // A text read into a referral cache: document 01, "The listing" and "Numbers given back".
 ghost use mathlib.Core.Path.{_≡_};
 ghost use Rattle.reading.specs.Read.{readNumber, readAfter};
-ghost use Rattle.loading.specs.Loaded.{refusalNumber};
+ghost use Rattle.loading.specs.Loaded.{loadRefusal};
 use checking::Checked;
 use places::PLACE;
 
@@ -15,7 +15,7 @@ pub enum Loaded {
 
 // A listing replaces the referral cache. The whole text is tested before anything is written: a refusal changes nothing.
 pub fn read(text: &[u16], refs: &mut [u16]) -> Loaded
-    ensures number { λ v. ⌜ refusalNumber v ≡ readNumber (now (text .entry)) (now (refs .entry)) ⌝ }
+    ensures number { λ v. ⌜ loadRefusal v ≡ readNumber (now (text .entry)) (now (refs .entry)) ⌝ }
     ensures cache { λ v. ⌜ now (refs .exit) ≡ readAfter (now (text .entry)) (now (refs .entry)) ⌝ }
 {
     if !caches::right_size(refs) {

@@ -13,7 +13,7 @@ use Rattle.laws.specs.Choice.{choose}
 use Rattle.laws.specs.Lists.{part, pasted}
 use Rattle.laws.proofs.Choices.{choose-yes, choose-no, and-left, and-right, and-both}
 use Rattle.laws.proofs.Orders.{told}
-use Rattle.unc.specs.Paths.{components, componentCount, isNormalised, normalisedCount, matches, isSysvol, replaced, written, pathUnits}
+use Rattle.unc.specs.Paths.{components, componentCount, isNormalised, normalisedCount, matches, isSysvol, replaced, writtenWithin, pathUnits}
 use Rattle.unc.specs.Names.{sameName}
 use Rattle.unc.proofs.MatchLaws.{atEnd, matches-units}
 use Rattle.unc.proofs.NameLaws.{sameName-trans, sameName-length}
@@ -145,7 +145,7 @@ module _ (refs texts : List ℕ) (len i : ℕ) (s : Standing len texts) (u : Usa
     new-path = λ k. replaced (a k) (length (b k)) (take len texts)
 
     -- step 8
-    module _ (left began : ℕ) (hit : Bool) (some : left ≡ 0 → ⊥) {g : Written} (f : g ≡ written 256 (replaced t (length p) (take len texts))) {o : List ℕ}
+    module _ (left began : ℕ) (hit : Bool) (some : left ≡ 0 → ⊥) {g : Written} (f : g ≡ writtenWithin 256 (replaced t (length p) (take len texts))) {o : List ℕ}
         (m : o ≡ withTried (replaced t (length p) (take len texts)) texts) where
       pub step8-long : {r : Rested} → g ≡ TooLong → r ≡ endedAt ends.TooLong 0 len left hit → joined r o ≡ packed (asking left (coreOf (take len texts) 0 hit) (step8 (coreOf (take len texts) 0 hit) (entryAt referrals i refs) j began))
       unfolding step8
@@ -177,7 +177,7 @@ module _ (refs texts : List ℕ) (len i : ℕ) (s : Standing len texts) (u : Usa
           ∙ ap packed (sym (asking-put (coreOf (take len texts) 0 hit) (step8 (coreOf (take len texts) 0 hit) (entryAt referrals i refs) j began) left some (subst (λ (l : List ℕ). length l ≤ 256) new-path y)))
 
     -- step 11
-    module _ {g : Written} (f : g ≡ written 256 (replaced t (length p) (take len texts))) {o : List ℕ}
+    module _ {g : Written} (f : g ≡ writtenWithin 256 (replaced t (length p) (take len texts))) {o : List ℕ}
         (m : o ≡ withTried (replaced t (length p) (take len texts)) texts) (h : j ≡ entryAt referrals i refs .hint) where
       stepped : replaced t (length p) (take len texts) ≡ step11 (coreOf (take len texts) 0 true) (entryAt referrals i refs)
       unfolding step11
@@ -185,8 +185,8 @@ module _ (refs texts : List ℕ) (len i : ℕ) (s : Standing len texts) (u : Usa
           new-path
           ∙ ap (λ (k : ℕ). replaced (targetPath k (entryAt referrals i refs)) (length (entryAt referrals i refs .prefix)) (take len texts)) h
 
-      pub step11-answer : (r : Written) → g ≡ r → r ≡ written 256 (step11 (coreOf (take len texts) 0 true) (entryAt referrals i refs))
-      step11-answer r q = sym q ∙ (f ∙ ap (written 256) stepped)
+      pub step11-answer : (r : Written) → g ≡ r → r ≡ writtenWithin 256 (step11 (coreOf (take len texts) 0 true) (entryAt referrals i refs))
+      step11-answer r q = sym q ∙ (f ∙ ap (writtenWithin 256) stepped)
 
       pub step11-long : g ≡ TooLong → o ≡ movedTo (step11 (coreOf (take len texts) 0 true) (entryAt referrals i refs)) texts
       unfolding movedTo

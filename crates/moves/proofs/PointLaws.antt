@@ -11,7 +11,7 @@ use borrow.Author.Tests.{le-leb, lt-leb}
 use Rattle.laws.specs.Choice.{choose}
 use Rattle.laws.proofs.Choices.{choose-yes, choose-no}
 use Rattle.laws.proofs.Orders.{told, lt-or-le}
-use Rattle.unc.specs.Paths.{written}
+use Rattle.unc.specs.Paths.{writtenWithin}
 use Rattle.unc.specs.declared.Written.{Written}
 use Rattle.unc.specs.declared.Written.the-variants.{Units, TooLong}
 use Rattle.texts.specs.Texts.{textsOf, Standing}
@@ -29,7 +29,7 @@ use Rattle.steps.specs.declared.Rested.{Rested}
 use Rattle.steps.specs.declared.Matched.{Matched}
 use Rattle.steps.specs.declared.Matched.the-variants.{Fresh, Refresh, Stale, Missed}
 use Rattle.moves.specs.Moves.{Packed, joined, packed, stepsFrom, calledAt, movedTo, Ready, Usable}
-use Rattle.moves.specs.Points.{whatOf, placeIn, unitsOf, leftOf, calledFor, stepsAt, Point, Halted, Halts, pointFresh, pointFound, goneTo, pointReached}
+use Rattle.moves.specs.Points.{whatOf, placeIn, unitsOf, leftOf, calledFor, stepsAt, Point, Halted, SameRest, pointFresh, pointFound, goneTo, pointReached}
 use Rattle.moves.proofs.MatchedLaws.{fresh-usable, refresh-fits}
 use Rattle.moves.proofs.MoveLaws.{standing-path, new-good, turns-to, tries-at, lookup-fresh, lookup-refresh, lookup-stale, lookup-missed, replaces-long, replaces-made, goes-stops, domain-asked, tried-steps, link-steps, end-steps, inter-limit}
 
@@ -100,7 +100,7 @@ module _ (refs texts : List ℕ) (len clock : ℕ) {m : Matched} (e : m ≡ step
 
 -- the path as it is, and step 11
 module _ (refs texts : List ℕ) (len : ℕ) where
-  pub path-stays : (by : ℕ) → Standing len texts → by ≡ 0 → (Units len ≡ written 256 (goneTo refs (take len texts) by)) × (texts ≡ movedTo (goneTo refs (take len texts) by) texts)
+  pub path-stays : (by : ℕ) → Standing len texts → by ≡ 0 → (Units len ≡ writtenWithin 256 (goneTo refs (take len texts) by)) × (texts ≡ movedTo (goneTo refs (take len texts) by) texts)
   unfolding goneTo movedTo
   path-stays zero s h = (
     told-fits 256 (take len texts) (sym (standing-path len texts s)) (s .few),
@@ -120,7 +120,7 @@ module _ (refs texts : List ℕ) (len : ℕ) where
   good-gone (suc i) g u l = new-good (take len texts) (entryAt referrals i refs) g (u i refl .good) (u i refl .matched) l
 
 -- step 11 if it is due, and step 2
-module _ (refs : List ℕ) (path texts : List ℕ) (len clock : ℕ) {g : Written} (f : g ≡ written 256 path) {o : List ℕ} (v : o ≡ movedTo path texts) where
+module _ (refs : List ℕ) (path texts : List ℕ) (len clock : ℕ) {g : Written} (f : g ≡ writtenWithin 256 path) {o : List ℕ} (v : o ≡ movedTo path texts) where
   pub reached-long : {r : ℕ} → g ≡ TooLong → r ≡ 3 + 8 * 0 + 256 * len → r ≡ pointReached refs clock len path
   unfolding pointReached
   reached-long h e = e ∙ sym (choose-no _ _ (lt-leb _ _ (written-long 256 path (sym f ∙ h))))
@@ -311,7 +311,7 @@ unfolding pointFound
 found-missed-is refs path = omega arith
 
 -- a point from which no move is made
-pub halts-here : (refs texts : List ℕ) (clock n : ℕ) → Point refs texts n → (whatOf n ≡ 1 → leftOf n ≡ 0) → Halts refs clock n texts n texts
+pub halts-here : (refs texts : List ℕ) (clock n : ℕ) → Point refs texts n → (whatOf n ≡ 1 → leftOf n ≡ 0) → SameRest refs clock n texts n texts
 halts-here refs texts clock n p l = record { same = λ doms size. refl; halted = record { point = p; last = l } }
 
 -- what a point calls for, by parts that equal its own
@@ -424,7 +424,7 @@ module _ (refs texts : List ℕ) (clock n : ℕ) (p : Point refs texts n) (w : w
             ∙ (ap packed (sym (replaces-long (cachesOf refs doms) clock (coreOf (take (unitsOf n) texts) size true) (step11 (coreOf (take (unitsOf n) texts) size true) (entryAt referrals (placeIn n) refs)) left some (is-long h)))
             ∙ at-point refs doms texts size clock n (unitsOf n) (placeIn n) left 1 refl refl c w)))
 
-        pub long-halts : Halts refs clock n texts r o
+        pub long-halts : SameRest refs clock n texts r o
         long-halts = record {
           same = long-steps;
           halted = record {
@@ -452,7 +452,7 @@ module _ (refs texts : List ℕ) (clock n : ℕ) (p : Point refs texts n) (w : w
             ∙ (ap packed (sym (replaces-made (cachesOf refs doms) clock (coreOf (take (unitsOf n) texts) size true) (step11 (coreOf (take (unitsOf n) texts) size true) (entryAt referrals (placeIn n) refs)) left some (is-short h)))
             ∙ at-point refs doms texts size clock n (unitsOf n) (placeIn n) left 1 refl refl c w)))
 
-        pub next-halts : {r s : ℕ} {after : List ℕ} → s ≡ m + 131072 * (left - 1) → Halts refs clock s o r after → Halts refs clock n texts r after
+        pub next-halts : {r s : ℕ} {after : List ℕ} → s ≡ m + 131072 * (left - 1) → SameRest refs clock s o r after → SameRest refs clock n texts r after
         next-halts d t = record {
           same = λ doms size. t .same doms size ∙ (ap (λ (k : ℕ). stepsAt refs doms size clock k o) d ∙ next-steps doms size);
           halted = t .halted;

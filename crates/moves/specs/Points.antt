@@ -56,7 +56,7 @@ pub record Halted (refs texts : List ℕ) (n : ℕ) : Type 0 where
   pub last : whatOf n ≡ 1 → leftOf n ≡ 0
 
 -- the steps come to the same rest from point m as from point n, and no move is made from m
-pub record Halts (refs : List ℕ) (clock n : ℕ) (texts : List ℕ) (m : ℕ) (after : List ℕ) : Type 0 where
+pub record SameRest (refs : List ℕ) (clock n : ℕ) (texts : List ℕ) (m : ℕ) (after : List ℕ) : Type 0 where
   pub same : (doms : List ℕ) (size : ℕ) → stepsAt refs doms size clock m after ≡ stepsAt refs doms size clock n texts
   pub halted : Halted refs after m
 

@@ -5,7 +5,7 @@ ghost use mathlib.Core.Path.{_≡_};
 ghost use mathlib.Core.Bool.{true};
 ghost use Prim.Native.Nat.{ℕ, suc, _+_, _*_, _/_, _%_, _≤_, _<_};
 ghost use lib.ListN.{length, take};
-ghost use Rattle.unc.specs.Paths.{written};
+ghost use Rattle.unc.specs.Paths.{writtenWithin};
 ghost use Rattle.texts.specs.Texts.{Standing};
 ghost use Rattle.caches.specs.Memory.{referrals};
 ghost use Rattle.lookup.specs.Lookup.{entryAt};
@@ -13,7 +13,7 @@ ghost use Rattle.lookup.specs.declared.Found.the-variants.{At};
 ghost use Rattle.steps.specs.Steps.{asking, hitAt, withHit, step2, step8, step11};
 ghost use Rattle.steps.specs.Rested.{cachesOf, coreOf, step2In};
 ghost use Rattle.moves.specs.Moves.{joined, packed, stepsFrom, calledAt, movedTo, Ready, Usable};
-ghost use Rattle.moves.specs.Points.{whatOf, placeIn, unitsOf, stepsAt, Point, Halted, Halts, pointFresh, pointFound, goneTo, pointReached};
+ghost use Rattle.moves.specs.Points.{whatOf, placeIn, unitsOf, stepsAt, Point, Halted, SameRest, pointFresh, pointFound, goneTo, pointReached};
 use lookup::Found;
 use steps::Asking;
 use steps::End;
@@ -74,7 +74,7 @@ fn step3(refs: &[u16], texts: &mut [u16], len: usize, left: u16, i: usize) -> Re
 // Step 11: the prefix of the path replaced by the target hinted at.
 fn step11(refs: &[u16], texts: &mut [u16], len: usize, i: usize) -> Written
     requires { ⌜ Standing len (now texts) × Usable (now refs) (take len (now texts)) i ⌝ }
-    ensures answer { λ r. ⌜ r ≡ written 256 (step11 (coreOf (take len (now (texts .entry))) 0 true) (entryAt referrals i (now (refs .entry)))) ⌝ }
+    ensures answer { λ r. ⌜ r ≡ writtenWithin 256 (step11 (coreOf (take len (now (texts .entry))) 0 true) (entryAt referrals i (now (refs .entry)))) ⌝ }
     ensures texts { λ r. ⌜ now (texts .exit) ≡ movedTo (step11 (coreOf (take len (now (texts .entry))) 0 true) (entryAt referrals i (now (refs .entry)))) (now (texts .entry)) ⌝ }
 {
     let k = lookup::prefix(refs, i).len();
@@ -157,7 +157,7 @@ fn found(refs: &[u16], texts: &[u16], len: usize, clock: u32) -> u64
 // Step 11 at the entry before place `by`; 0: the path stays.
 fn replace(refs: &[u16], texts: &mut [u16], len: usize, by: usize) -> Written
     requires { ⌜ Standing len (now texts) × ((i : ℕ) → by ≡ suc i → Usable (now refs) (take len (now texts)) i) ⌝ }
-    ensures answer { λ r. ⌜ r ≡ written 256 (goneTo (now (refs .entry)) (take len (now (texts .entry))) by) ⌝ }
+    ensures answer { λ r. ⌜ r ≡ writtenWithin 256 (goneTo (now (refs .entry)) (take len (now (texts .entry))) by) ⌝ }
     ensures texts { λ r. ⌜ now (texts .exit) ≡ movedTo (goneTo (now (refs .entry)) (take len (now (texts .entry))) by) (now (texts .entry)) ⌝ }
 {
     if by == 0 {
@@ -181,7 +181,7 @@ fn reached(refs: &[u16], texts: &mut [u16], len: usize, clock: u32, by: usize) -
 // Step 2: a request of step 9 waits; else on.
 fn lookup(refs: &[u16], texts: &mut [u16], n: u64, clock: u32) -> u64
     requires { ⌜ Point (now refs) (now texts) n ⌝ }
-    ensures { λ r. ⌜ Halts (now (refs .entry)) clock n (now (texts .entry)) r (now (texts .exit)) ⌝ }
+    ensures { λ r. ⌜ SameRest (now (refs .entry)) clock n (now (texts .entry)) r (now (texts .exit)) ⌝ }
 {
     if n % 8 == LINK {
         return n;
@@ -192,7 +192,7 @@ fn lookup(refs: &[u16], texts: &mut [u16], n: u64, clock: u32) -> u64
 // Step 5 puts its question; step 7 goes by an entry that was found fresh or has just been stored.
 fn domain(refs: &[u16], texts: &mut [u16], n: u64, clock: u32) -> u64
     requires { ⌜ Point (now refs) (now texts) n ⌝ }
-    ensures { λ r. ⌜ Halts (now (refs .entry)) clock n (now (texts .entry)) r (now (texts .exit)) ⌝ }
+    ensures { λ r. ⌜ SameRest (now (refs .entry)) clock n (now (texts .entry)) r (now (texts .exit)) ⌝ }
 {
     if TURN < n % 8 {
         return n;
@@ -203,7 +203,7 @@ fn domain(refs: &[u16], texts: &mut [u16], n: u64, clock: u32) -> u64
 // Step 4: step 3's try, or step 11.
 fn link(refs: &[u16], texts: &mut [u16], n: u64, clock: u32) -> u64
     requires { ⌜ Point (now refs) (now texts) n × (whatOf n < 2) ⌝ }
-    ensures { λ r. ⌜ Halts (now (refs .entry)) clock n (now (texts .entry)) r (now (texts .exit)) ⌝ }
+    ensures { λ r. ⌜ SameRest (now (refs .entry)) clock n (now (texts .entry)) r (now (texts .exit)) ⌝ }
 {
     if n % 8 == TRY {
         return n;
@@ -214,7 +214,7 @@ fn link(refs: &[u16], texts: &mut [u16], n: u64, clock: u32) -> u64
 // Step 11, and on from step 2. The limit is tested, then the length of the new path.
 fn interlink(refs: &[u16], texts: &mut [u16], n: u64, clock: u32) -> u64
     requires { ⌜ Point (now refs) (now texts) n × (whatOf n ≡ 1) ⌝ }
-    ensures { λ r. ⌜ Halts (now (refs .entry)) clock n (now (texts .entry)) r (now (texts .exit)) ⌝ }
+    ensures { λ r. ⌜ SameRest (now (refs .entry)) clock n (now (texts .entry)) r (now (texts .exit)) ⌝ }
 {
     let left = n / LEFT;
     if left == 0 {

@@ -14,15 +14,15 @@ use Rattle.laws.proofs.Choices.{choose-yes, choose-no, and-left, and-right, and
 use Rattle.laws.proofs.Orders.{lt-or-le}
 use Rattle.laws.proofs.Filling.{filled-next, filled-whole, every-set}
 use Rattle.unc.specs.Names.{goodName}
-use Rattle.spans.specs.Bytes.{Text, ended, unended, textAt, u16At, flag}
+use Rattle.spans.specs.Bytes.{Text, terminated, unterminated, textAt, u16At, flag}
 use Rattle.spans.specs.Spans.{spanned, Inside, partOf}
 use Rattle.spans.specs.declared.Span.{Span}
 use Rattle.spans.proofs.UnitLaws.{length-spanned, part-spanned}
 use Rattle.referral.specs.Replies.{isRead, readable, versionAt, fits, entryFlag, sizeAt}
 use Rattle.namelists.specs.NameLists.{bare, dcOf, domainOf, bytesPast, textsAt, dcNames, goodDcs, domainAt, goodDomain}
 use Rattle.referral.specs.Replies.{Reply, malformed, nothing}
-use Rattle.referral.specs.Found.{inside, answered}
-use Rattle.namelists.specs.Found.{answerOf, denotedDcs, noDcs, Within}
+use Rattle.referral.specs.Found.{isInside, replyOf}
+use Rattle.namelists.specs.Found.{answerOf, denotedDcs, noDcs, DcsInside}
 use Rattle.namelists.specs.declared.DcsFound.{DcsFound}
 use Rattle.referral.specs.declared.Answer.{Answer}
 use Rattle.referral.specs.declared.Answer.the-variants.{Malformed, Nothing}
@@ -46,40 +46,40 @@ module _ (u : List ℕ) where
   unfolding bare
   bare-drops h = sym (choose-yes (drop 1 u) u (eq-eqb (getD u 0 0) 92 h))
 
-  pub dc-yes : {b : List ℕ} {t : Bool} → b ≡ bare u → t ≡ goodName b → t ≡ true → b ≡ dcOf (ended u)
+  pub dc-yes : {b : List ℕ} {t : Bool} → b ≡ bare u → t ≡ goodName b → t ≡ true → b ≡ dcOf (terminated u)
   unfolding dcOf
   dc-yes e f h = e ∙ sym (choose-yes (bare u) [] (sym (f ∙ ap goodName e) ∙ h))
 
-  pub dc-no : {b : List ℕ} {t : Bool} → b ≡ bare u → t ≡ goodName b → t ≡ false → dcOf (ended u) ≡ []
+  pub dc-no : {b : List ℕ} {t : Bool} → b ≡ bare u → t ≡ goodName b → t ≡ false → dcOf (terminated u) ≡ []
   unfolding dcOf
   dc-no e f h = choose-no (bare u) [] (sym (f ∙ ap goodName e) ∙ h)
 
-  pub domain-unled : (getD u 0 0 ≡ 92 → ⊥) → domainOf (ended u) ≡ []
+  pub domain-unled : (getD u 0 0 ≡ 92 → ⊥) → domainOf (terminated u) ≡ []
   unfolding domainOf
   domain-unled h = choose-no (drop 1 u) [] (and-no-left _ (ne-eqb (getD u 0 0) 92 h))
 
-  pub domain-no : {b : List ℕ} {t : Bool} → b ≡ drop 1 u → t ≡ goodName b → t ≡ false → domainOf (ended u) ≡ []
+  pub domain-no : {b : List ℕ} {t : Bool} → b ≡ drop 1 u → t ≡ goodName b → t ≡ false → domainOf (terminated u) ≡ []
   unfolding domainOf
   domain-no e f h = choose-no (drop 1 u) [] (and-no-right (eqb (getD u 0 0) 92) (sym (f ∙ ap goodName e) ∙ h))
 
-  pub domain-yes : {b : List ℕ} {t : Bool} → getD u 0 0 ≡ 92 → b ≡ drop 1 u → t ≡ goodName b → t ≡ true → b ≡ domainOf (ended u)
+  pub domain-yes : {b : List ℕ} {t : Bool} → getD u 0 0 ≡ 92 → b ≡ drop 1 u → t ≡ goodName b → t ≡ true → b ≡ domainOf (terminated u)
   unfolding domainOf
   domain-yes g e f h = e ∙ sym (choose-yes (drop 1 u) [] (and-both (eq-eqb (getD u 0 0) 92 g) (sym (f ∙ ap goodName e) ∙ h)))
 
-pub domain-unended : {t : Text} → t ≡ unended → domainOf t ≡ []
+pub domain-unended : {t : Text} → t ≡ unterminated → domainOf t ≡ []
 unfolding domainOf
 domain-unended e = ap domainOf e
 
-pub dc-unended : {t : Text} → t ≡ unended → dcOf t ≡ []
+pub dc-unended : {t : Text} → t ≡ unterminated → dcOf t ≡ []
 unfolding dcOf
 dc-unended e = ap dcOf e
 
 -- where the next text starts
-pub past-unended : {t : Text} (at : ℕ) → t ≡ unended → at ≡ at + bytesPast t
+pub past-unended : {t : Text} (at : ℕ) → t ≡ unterminated → at ≡ at + bytesPast t
 unfolding bytesPast
 past-unended at e = let q : at ≡ at + 0 = omega arith in q ∙ ap (λ (x : Text). at + bytesPast x) (sym e)
 
-pub past-ended : {t : Text} (at : ℕ) (r : List ℕ) (s : Span) → t ≡ ended (spanned r s) → at + 2 * (s .units + 1) ≡ at + bytesPast t
+pub past-ended : {t : Text} (at : ℕ) (r : List ℕ) (s : Span) → t ≡ terminated (spanned r s) → at + 2 * (s .units + 1) ≡ at + bytesPast t
 unfolding bytesPast
 past-ended at r s e =
     ap (λ (n : ℕ). at + 2 * (n + 1)) (sym (length-spanned r s)) ∙ ap (λ (x : Text). at + bytesPast x) (sym e)
@@ -139,8 +139,8 @@ names-start r n from = ap (λ (x : List Text). every isRead (map dcOf x)) (texts
 pub name-start : (r : List ℕ) (n from : ℕ) → take 8 (map dcOf (textsAt n from r)) ≡ take 8 (map dcOf (textsAt (n - 0) from r))
 name-start r n from = ap (λ (x : List Text). take 8 (map dcOf x)) (texts-all r n from)
 
-pub span-next : (r : List ℕ) (l : List Span) (i : ℕ) (s : Span) → every (inside r) l ≡ true → Inside r s → every (inside r) (set l i s) ≡ true
-span-next r l i s h k = every-set (inside r) l i s h (inside-test r s k)
+pub span-next : (r : List ℕ) (l : List Span) (i : ℕ) (s : Span) → every (isInside r) l ≡ true → Inside r s → every (isInside r) (set l i s) ≡ true
+span-next r l i s h k = every-set (isInside r) l i s h (inside-test r s k)
 
 -- the ways of `goodDcs`, in the order of the tests
 module _ (r : List ℕ) where
@@ -185,16 +185,16 @@ module _ (r : List ℕ) where
 -- a DC reply that says nothing
 module _ (r : List ℕ) {f : DcsFound} where
   pub dcs-malformed : f ≡ noDcs Malformed → denotedDcs r f ≡ malformed
-  unfolding denotedDcs answered noDcs
+  unfolding denotedDcs replyOf noDcs
   dcs-malformed e = ap (denotedDcs r) e
 
   pub dcs-nothing : f ≡ noDcs Nothing → denotedDcs r f ≡ nothing
-  unfolding denotedDcs answered noDcs
+  unfolding denotedDcs replyOf noDcs
   dcs-nothing e = ap (denotedDcs r) e
 
-  pub dcs-within : (a : Answer) → f ≡ noDcs a → Within r f
+  pub dcs-within : (a : Answer) → f ≡ noDcs a → DcsInside r f
   unfolding noDcs
-  dcs-within a e = subst (Within r) (sym e) (record { kept-within = none-inside r 8; few = omega arith })
+  dcs-within a e = subst (DcsInside r) (sym e) (record { kept-within = none-inside r 8; few = omega arith })
 
 -- the ways of `goodDomain`, in the order of the tests
 module _ (r : List ℕ) (e : ℕ) where

@@ -12,10 +12,10 @@ use Rattle.laws.specs.Lists.{every}
 use Rattle.laws.proofs.Choices.{and-left, and-right, and-both}
 use Rattle.laws.proofs.Every.{every-take}
 use Rattle.unc.specs.Names.{goodName}
-use Rattle.spans.specs.Bytes.{u16At, Text, ended, unended}
+use Rattle.spans.specs.Bytes.{u16At, Text, terminated, unterminated}
 use Rattle.spans.specs.Spans.{spanned}
 use Rattle.referral.specs.Replies.{referralCount, starts, entries, sizeAt, versionAt, fits, entryFlag, readable, isRead, Reply, malformed, nothing, says}
-use Rattle.referral.specs.Found.{answered}
+use Rattle.referral.specs.Found.{replyOf}
 use Rattle.referral.specs.declared.Answer.{Answer}
 use Rattle.referral.specs.declared.Answer.the-variants.{Says}
 use Rattle.referral.proofs.EntryLaws.{starts-cons}
@@ -37,13 +37,13 @@ chosen-good false s f h = absurd (unread h)
 
 pub dc-good : (t : Text) → isRead (dcOf t) ≡ true → goodName (dcOf t) ≡ true
 unfolding dcOf
-dc-good unended h = absurd (unread h)
-dc-good (ended s) h = chosen-good (goodName (bare s)) (bare s) (λ e. e) h
+dc-good unterminated h = absurd (unread h)
+dc-good (terminated s) h = chosen-good (goodName (bare s)) (bare s) (λ e. e) h
 
 pub domain-name-good : (t : Text) → isRead (domainOf t) ≡ true → goodName (domainOf t) ≡ true
 unfolding domainOf
-domain-name-good unended h = absurd (unread h)
-domain-name-good (ended s) h = chosen-good (eqb (getD s 0 0) 92 && goodName (drop 1 s)) (drop 1 s) (λ e. and-right (eqb (getD s 0 0) 92) _ e) h
+domain-name-good unterminated h = absurd (unread h)
+domain-name-good (terminated s) h = chosen-good (eqb (getD s 0 0) 92 && goodName (drop 1 s)) (drop 1 s) (λ e. and-right (eqb (getD s 0 0) 92) _ e) h
 
 dcs-all : (ts : List Text) → every isRead (map dcOf ts) ≡ true → every goodName (map dcOf ts) ≡ true
 unfolding every
@@ -97,8 +97,8 @@ says-dcs size r xs h = subst SoundDcs (sym (w .same)) sound
 
 -- the reader's answer
 pub dcs-says : (r : List ℕ) (f : DcsFound) → f .answer ≡ Says → denotedDcs r f ≡ says (map (spanned r) (take (f .count) (f .kept)))
-unfolding denotedDcs answered
-dcs-says r f h = ap (λ (a : Answer). answered a (map (spanned r) (take (f .count) (f .kept)))) h
+unfolding denotedDcs replyOf
+dcs-says r f h = ap (λ (a : Answer). replyOf a (map (spanned r) (take (f .count) (f .kept)))) h
 
 -- A domain reply that says something: its names are those of its entries, all of them good.
 pub record SoundDomains (size : ℕ) (r : List ℕ) : Type 0 where

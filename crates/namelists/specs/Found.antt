@@ -7,7 +7,7 @@ use mathlib.Core.List.{List, map}
 use lib.ListN.{take, replicate}
 use Rattle.spans.specs.Spans.{spanned}
 use Rattle.referral.specs.Replies.{Reply, malformed, nothing, says}
-use Rattle.referral.specs.Found.{inside, answered}
+use Rattle.referral.specs.Found.{isInside, replyOf}
 use Rattle.referral.specs.declared.Answer.{Answer}
 use Rattle.referral.specs.declared.Answer.the-variants.{Malformed, Nothing, Says}
 use Rattle.namelists.specs.declared.DcsFound.{DcsFound}
@@ -17,13 +17,13 @@ unfoldable pub noDcs : Answer → DcsFound
 noDcs a = record { answer = a; kept = replicate 8 (record { from = 0; units = 0 }); count = 0 }
 
 -- every span that a reader hands on lies inside the reply, and at most 8 are handed on
-pub record Within (r : List ℕ) (f : DcsFound) : Type 0 where
-  pub kept-within : every (inside r) (f .kept) ≡ true
+pub record DcsInside (r : List ℕ) (f : DcsFound) : Type 0 where
+  pub kept-within : every (isInside r) (f .kept) ≡ true
   pub few : f .count ≤ 8
 
 -- what a reader's answer says, given the reply
 unfoldable pub denotedDcs : List ℕ → DcsFound → Reply (List (List ℕ))
-denotedDcs r f = answered (f .answer) (map (spanned r) (take (f .count) (f .kept)))
+denotedDcs r f = replyOf (f .answer) (map (spanned r) (take (f .count) (f .kept)))
 
 -- which of the three ways a reply is read
 unfoldable pub answerOf : {A : Type 0} → Reply A → Answer

@@ -7,7 +7,7 @@ use lib.Dec.{eqb}
 use Rattle.laws.specs.Choice.{choose}
 use Rattle.laws.specs.Lists.{every}
 use Rattle.unc.specs.Names.{goodName, backslash}
-use Rattle.spans.specs.Bytes.{u16At, Text, ended, unended, textAt}
+use Rattle.spans.specs.Bytes.{u16At, Text, terminated, unterminated, textAt}
 use Rattle.referral.specs.Replies.{versionAt, entryFlag, textOf, entries, fits, isRead, readable, Reply, readAs}
 
 -- A DC's name, "with or without a leading backslash", which is not kept; [] of any other text.
@@ -15,18 +15,18 @@ unfoldable pub bare : List ℕ → List ℕ
 bare s = choose (eqb (getD s 0 0) backslash) (drop 1 s) s
 
 unfoldable pub dcOf : Text → List ℕ
-dcOf unended = []
-dcOf (ended s) = choose (goodName (bare s)) (bare s) []
+dcOf unterminated = []
+dcOf (terminated s) = choose (goodName (bare s)) (bare s) []
 
 -- A domain's name, written "\domain"; [] of any other text.
 unfoldable pub domainOf : Text → List ℕ
-domainOf unended = []
-domainOf (ended s) = choose (eqb (getD s 0 0) backslash && goodName (drop 1 s)) (drop 1 s) []
+domainOf unterminated = []
+domainOf (terminated s) = choose (eqb (getD s 0 0) backslash && goodName (drop 1 s)) (drop 1 s) []
 
 -- A DC reply: the first entry only; "its NumberOfExpandedNames DC names one after another, 1 or more".
 unfoldable pub bytesPast : Text → ℕ
-bytesPast unended = 0
-bytesPast (ended s) = 2 * (length s + 1)
+bytesPast unterminated = 0
+bytesPast (terminated s) = 2 * (length s + 1)
 
 unfoldable pub textsAt : ℕ → ℕ → List ℕ → List Text
 textsAt zero i r = []

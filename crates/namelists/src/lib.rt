@@ -5,12 +5,12 @@ ghost use mathlib.Core.List.{map};
 ghost use Prim.Native.Nat.{_+_, _*_, _≤_, _<_, min};
 ghost use lib.ListN.{length, take};
 ghost use Rattle.laws.specs.Lists.{every};
-ghost use Rattle.spans.specs.Bytes.{ended, textAt};
+ghost use Rattle.spans.specs.Bytes.{terminated, textAt};
 ghost use Rattle.spans.specs.Spans.{spanned, Inside};
 ghost use Rattle.referral.specs.Replies.{isRead, entries, says};
-ghost use Rattle.referral.specs.Found.{inside};
+ghost use Rattle.referral.specs.Found.{isInside};
 ghost use Rattle.namelists.specs.NameLists.{bare, dcOf, domainOf, bytesPast, textsAt, dcNames, goodDcs, readDcs, domainAt, goodDomain, readDomains};
-ghost use Rattle.namelists.specs.Found.{denotedDcs, Within, noDcs, answerOf};
+ghost use Rattle.namelists.specs.Found.{denotedDcs, DcsInside, noDcs, answerOf};
 use referral::Answer;
 use spans::Read;
 use spans::Span;
@@ -43,7 +43,7 @@ fn bare(r: &[u8], s: Span) -> Span
 // The DC name in a text; no units where it is not one.
 fn dc_span(r: &[u8], s: Span) -> Span
     requires { ⌜ Inside (now r) s ⌝ }
-    ensures name { λ v. ⌜ spanned (now (r .entry)) v ≡ dcOf (ended (spanned (now (r .entry)) s)) ⌝ }
+    ensures name { λ v. ⌜ spanned (now (r .entry)) v ≡ dcOf (terminated (spanned (now (r .entry)) s)) ⌝ }
     ensures inside { λ v. ⌜ Inside (now (r .entry)) v ⌝ }
 {
     let b = bare(r, s);
@@ -56,7 +56,7 @@ fn dc_span(r: &[u8], s: Span) -> Span
 // The domain name in a text "\domain"; no units where it is not one.
 fn domain_span(r: &[u8], s: Span) -> Span
     requires { ⌜ Inside (now r) s ⌝ }
-    ensures name { λ v. ⌜ spanned (now (r .entry)) v ≡ domainOf (ended (spanned (now (r .entry)) s)) ⌝ }
+    ensures name { λ v. ⌜ spanned (now (r .entry)) v ≡ domainOf (terminated (spanned (now (r .entry)) s)) ⌝ }
     ensures inside { λ v. ⌜ Inside (now (r .entry)) v ⌝ }
 {
     let n = s.units;
@@ -133,7 +133,7 @@ fn good_names(r: &[u8], n: usize, from: usize) -> bool
 // The first 8 of the n DC names from a byte on.
 fn names(r: &[u8], n: usize, from: usize) -> [Span; 8]
     ensures names { λ v. ⌜ map (spanned (now (r .entry))) (take (min n 8) v) ≡ take 8 (map dcOf (textsAt n from (now (r .entry)))) ⌝ }
-    ensures inside { λ v. ⌜ every (inside (now (r .entry))) v ≡ true ⌝ }
+    ensures inside { λ v. ⌜ every (isInside (now (r .entry))) v ≡ true ⌝ }
 {
     let m = referral::kept_of(n);
     let mut kept = [Span { from: 0, units: 0 }; 8];
@@ -178,7 +178,7 @@ fn good_dcs(r: &[u8]) -> bool
 fn dcs_in(r: &[u8]) -> DcsFound
     requires { ⌜ 26 ≤ length (now r) ⌝ }
     ensures found { λ v. ⌜ denotedDcs (now (r .entry)) v ≡ says (take 8 (dcNames (now (r .entry)))) ⌝ }
-    ensures within { λ v. ⌜ Within (now (r .entry)) v ⌝ }
+    ensures within { λ v. ⌜ DcsInside (now (r .entry)) v ⌝ }
 {
     let f = reader::read_offsets(r, 8);
     let n = f.second as usize;
@@ -205,7 +205,7 @@ fn no_dcs(answer: Answer) -> DcsFound
 // A DC reply, with the size asked for.
 pub fn read_dcs(r: &[u8], size: u32) -> DcsFound
     ensures found { λ v. ⌜ denotedDcs (now (r .entry)) v ≡ readDcs size (now (r .entry)) ⌝ }
-    ensures within { λ v. ⌜ Within (now (r .entry)) v ⌝ }
+    ensures within { λ v. ⌜ DcsInside (now (r .entry)) v ⌝ }
 {
     if r.len() < 8 {
         return no_dcs(Answer::Malformed);

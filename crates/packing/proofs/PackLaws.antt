@@ -28,7 +28,7 @@ use Rattle.steps.specs.declared.Asking.{Asking}
 use Rattle.steps.specs.declared.Next.{Next}
 use Rattle.steps.specs.declared.Next.the-variants.{Asks, Ends}
 use Rattle.walks.specs.declared.Walk.{Walk}
-use Rattle.packing.specs.Packing.{kindNumber, askingUnits, nextUnits, walkUnits, packed, kindAt, endAt, askingAt, nextAt, walkAt, unpacked}
+use Rattle.packing.specs.Packing.{kindNumber, askingUnits, nextPacked, walkUnits, packedWalk, kindAt, endOfNumber, askingAt, nextAt, walkAt, unpacked}
 use Rattle.packing.specs.declared.Unpacked.the-variants.{Held, NotOfForm}
 
 -- a flag as a unit
@@ -71,36 +71,36 @@ module _ {n : ℕ} where
   unfolding kindAt choose
   kind-io a b d e = rw (ne-eqb n 1 a, ne-eqb n 2 b, ne-eqb n 3 d, ne-eqb n 4 e)
 
-  pub end-done : n ≡ 20 → Done ≡ endAt n
-  unfolding endAt choose
+  pub end-done : n ≡ 20 → Done ≡ endOfNumber n
+  unfolding endOfNumber choose
   end-done h = rw h
 
-  pub end-not-dfs : n ≡ 21 → NotDfs ≡ endAt n
-  unfolding endAt choose
+  pub end-not-dfs : n ≡ 21 → NotDfs ≡ endOfNumber n
+  unfolding endOfNumber choose
   end-not-dfs h = rw h
 
-  pub end-no-dc : n ≡ 22 → NoDc ≡ endAt n
-  unfolding endAt choose
+  pub end-no-dc : n ≡ 22 → NoDc ≡ endOfNumber n
+  unfolding endOfNumber choose
   end-no-dc h = rw h
 
-  pub end-failed : n ≡ 23 → Failed ≡ endAt n
-  unfolding endAt choose
+  pub end-failed : n ≡ 23 → Failed ≡ endOfNumber n
+  unfolding endOfNumber choose
   end-failed h = rw h
 
-  pub end-limit : n ≡ 24 → LimitReached ≡ endAt n
-  unfolding endAt choose
+  pub end-limit : n ≡ 24 → LimitReached ≡ endOfNumber n
+  unfolding endOfNumber choose
   end-limit h = rw h
 
-  pub end-malformed : n ≡ 25 → Malformed ≡ endAt n
-  unfolding endAt choose
+  pub end-malformed : n ≡ 25 → Malformed ≡ endOfNumber n
+  unfolding endOfNumber choose
   end-malformed h = rw h
 
-  pub end-too-long : n ≡ 26 → TooLong ≡ endAt n
-  unfolding endAt choose
+  pub end-too-long : n ≡ 26 → TooLong ≡ endOfNumber n
+  unfolding endOfNumber choose
   end-too-long h = rw h
 
-  pub end-gone : (n ≡ 20 → ⊥) → (n ≡ 21 → ⊥) → (n ≡ 22 → ⊥) → (n ≡ 23 → ⊥) → (n ≡ 24 → ⊥) → (n ≡ 25 → ⊥) → (n ≡ 26 → ⊥) → Gone ≡ endAt n
-  unfolding endAt choose
+  pub end-gone : (n ≡ 20 → ⊥) → (n ≡ 21 → ⊥) → (n ≡ 22 → ⊥) → (n ≡ 23 → ⊥) → (n ≡ 24 → ⊥) → (n ≡ 25 → ⊥) → (n ≡ 26 → ⊥) → Gone ≡ endOfNumber n
+  unfolding endOfNumber choose
   end-gone a b d e f g h =
       rw (ne-eqb n 20 a, ne-eqb n 21 b, ne-eqb n 22 d, ne-eqb n 23 e, ne-eqb n 24 f, ne-eqb n 25 g, ne-eqb n 26 h)
 
@@ -120,8 +120,8 @@ kind-asks Link = refl
 kind-asks Sysvol = refl
 kind-asks Io = refl
 
-end-back : (e : End) → endAt (endNumber e) ≡ e
-unfolding endAt endNumber choose
+end-back : (e : End) → endOfNumber (endNumber e) ≡ e
+unfolding endOfNumber endNumber choose
 end-back Done = refl
 end-back NotDfs = refl
 end-back NoDc = refl
@@ -164,7 +164,7 @@ module _ (u : List ℕ) where
   unfolding nextAt
   next-asks h e = ap Asks e ∙ sym (choose-yes _ _ (le-leb (getD u 9 0) 5 h))
 
-  pub next-ends : {e : End} {s : ℕ} → 5 < getD u 9 0 → e ≡ endAt (getD u 9 0) → s ≡ wideAt 13 u → Ends e s ≡ nextAt u
+  pub next-ends : {e : End} {s : ℕ} → 5 < getD u 9 0 → e ≡ endOfNumber (getD u 9 0) → s ≡ wideAt 13 u → Ends e s ≡ nextAt u
   unfolding nextAt
   next-ends h a b = (λ j. Ends (a j) (b j)) ∙ sym (choose-no (Asks (askingAt u)) _ (lt-leb (getD u 9 0) 5 h))
 
@@ -200,30 +200,30 @@ asking-put d w q a b h =
     h ∙ (λ j. pasted d 0 (roomed 32 (walkUnits w (a j ∷ q .entry ∷ q .party ∷ q .began ∷ (wideUnits (q .size) ++ (b j ∷ []))))))
 
 module _ (d : List ℕ) (w : Walk) {o : List ℕ} where
-  pub asks-packed : (q : Asking) → w .next ≡ Asks q → o ≡ pasted d 0 (roomed 32 (walkUnits w (askingUnits q))) → o ≡ pasted d 0 (packed w)
-  unfolding packed nextUnits
-  asks-packed q h e = e ∙ ap (λ (n : Next). pasted d 0 (roomed 32 (walkUnits w (nextUnits n)))) (sym h)
+  pub asks-packed : (q : Asking) → w .next ≡ Asks q → o ≡ pasted d 0 (roomed 32 (walkUnits w (askingUnits q))) → o ≡ pasted d 0 (packedWalk w)
+  unfolding packedWalk nextPacked
+  asks-packed q h e = e ∙ ap (λ (n : Next). pasted d 0 (roomed 32 (walkUnits w (nextPacked n)))) (sym h)
 
   pub ends-packed : (e : End) (s : ℕ) {code : ℕ} → w .next ≡ Ends e s → code ≡ endNumber e
-      → o ≡ pasted d 0 (roomed 32 (walkUnits w (code ∷ 0 ∷ 0 ∷ 0 ∷ (wideUnits s ++ (0 ∷ []))))) → o ≡ pasted d 0 (packed w)
-  unfolding packed nextUnits
+      → o ≡ pasted d 0 (roomed 32 (walkUnits w (code ∷ 0 ∷ 0 ∷ 0 ∷ (wideUnits s ++ (0 ∷ []))))) → o ≡ pasted d 0 (packedWalk w)
+  unfolding packedWalk nextPacked
   ends-packed e s h a g =
       g
       ∙ ((λ j. pasted d 0 (roomed 32 (walkUnits w (a j ∷ 0 ∷ 0 ∷ 0 ∷ (wideUnits s ++ (0 ∷ []))))))
-      ∙ ap (λ (n : Next). pasted d 0 (roomed 32 (walkUnits w (nextUnits n)))) (sym h))
+      ∙ ap (λ (n : Next). pasted d 0 (roomed 32 (walkUnits w (nextPacked n)))) (sym h))
 
 -- 32 units
-pub length-packed : (w : Walk) → length (packed w) ≡ 32
-unfolding packed roomed walkUnits nextUnits askingUnits
+pub length-packed : (w : Walk) → length (packedWalk w) ≡ 32
+unfolding packedWalk roomed walkUnits nextPacked askingUnits
 length-packed w = go (w .next)
   where
-    go : (n : Next) → length (roomed 32 (walkUnits w (nextUnits n))) ≡ 32
+    go : (n : Next) → length (roomed 32 (walkUnits w (nextPacked n))) ≡ 32
     go (Asks q) = refl
     go (Ends e s) = refl
 
 -- a walk that was packed is read back
-next-back : (w : Walk) (n : Next) → nextAt (roomed 32 (walkUnits w (nextUnits n))) ≡ n
-unfolding nextAt roomed walkUnits nextUnits askingUnits askingAt wideAt flagAt
+next-back : (w : Walk) (n : Next) → nextAt (roomed 32 (walkUnits w (nextPacked n))) ≡ n
+unfolding nextAt roomed walkUnits nextPacked askingUnits askingAt wideAt flagAt
 next-back w (Asks q) =
     choose-yes _ _ (kind-asks (q .kind))
     ∙ (λ j. Asks (record {
@@ -236,12 +236,12 @@ next-back w (Asks q) =
     }))
 next-back w (Ends e s) = choose-no _ _ (end-ends e) ∙ (λ j. Ends (end-back e j) (wide-back s j))
 
-walk-back : (w : Walk) → walkAt (packed w) ≡ w
-unfolding packed walkAt roomed walkUnits nextUnits askingUnits wideAt flagAt
+walk-back : (w : Walk) → walkAt (packedWalk w) ≡ w
+unfolding packedWalk walkAt roomed walkUnits nextPacked askingUnits wideAt flagAt
 walk-back w = go (w .next)
   where
     go : (n : Next)
-        → walkAt (roomed 32 (walkUnits w (nextUnits n)))
+        → walkAt (roomed 32 (walkUnits w (nextPacked n)))
         ≡ record { limit = w .limit; size = w .size; boot = w .boot; moves = w .moves; path = w .path; tried = w .tried; hit = w .hit; next = n }
     go (Asks q) = λ j. record {
       limit = wide-back (w .limit) j;
@@ -264,20 +264,20 @@ walk-back w = go (w .next)
       next = next-back w (Ends e s) j;
     }
 
-pub unpack-pack : (w : Walk) → unpacked (packed w) ≡ Held w
+pub unpack-pack : (w : Walk) → unpacked (packedWalk w) ≡ Held w
 unfolding unpacked
 unpack-pack w =
-    choose-yes _ NotOfForm (same-sameList (packed (walkAt (packed w))) (packed w) (ap packed (walk-back w))) ∙ ap Held (walk-back w)
+    choose-yes _ NotOfForm (same-sameList (packedWalk (walkAt (packedWalk w))) (packedWalk w) (ap packedWalk (walk-back w))) ∙ ap Held (walk-back w)
 
 -- units of the form are what their walk is packed into
-pub pack-unpack : (u : List ℕ) (w : Walk) → unpacked u ≡ Held w → packed w ≡ u
+pub pack-unpack : (u : List ℕ) (w : Walk) → unpacked u ≡ Held w → packedWalk w ≡ u
 unfolding unpacked
-pack-unpack u w h = go (told (sameList (packed (walkAt u)) u))
+pack-unpack u w h = go (told (sameList (packedWalk (walkAt u)) u))
   where
-    go : (sameList (packed (walkAt u)) u ≡ true) ⊎ (sameList (packed (walkAt u)) u ≡ false) → packed w ≡ u
+    go : (sameList (packedWalk (walkAt u)) u ≡ true) ⊎ (sameList (packedWalk (walkAt u)) u ≡ false) → packedWalk w ≡ u
     go (inl t) =
         let e : walkAt u ≡ w = cc (choose-yes (Held (walkAt u)) NotOfForm t, h) in
-        ap packed (sym e) ∙ sameList-true _ u t
+        ap packedWalk (sym e) ∙ sameList-true _ u t
     go (inr t) = absurd (let z : _≡_ {A = ℕ} 0 1 = cc (choose-no (Held (walkAt u)) NotOfForm t, h) in omega arith)
 
 -- the test of form
@@ -285,11 +285,11 @@ module _ (u : List ℕ) where
   pub form-length : (length u ≡ 32 → ⊥) → NotOfForm ≡ unpacked u
   unfolding unpacked
   form-length h =
-      sym (choose-no _ _ (refuted (sameList (packed (walkAt u)) u) (λ t. h (sym (ap length (sameList-true _ u t)) ∙ length-packed (walkAt u)))))
+      sym (choose-no _ _ (refuted (sameList (packedWalk (walkAt u)) u) (λ t. h (sym (ap length (sameList-true _ u t)) ∙ length-packed (walkAt u)))))
 
-  module _ (blank : List ℕ) (l : length blank ≡ 32) {w : Walk} {again : List ℕ} (a : w ≡ walkAt u) (e : again ≡ pasted blank 0 (packed w)) where
-    packed-again : again ≡ packed (walkAt u)
-    packed-again = e ∙ (pasted-whole blank (packed w) (length-packed w ∙ sym l) ∙ ap packed a)
+  module _ (blank : List ℕ) (l : length blank ≡ 32) {w : Walk} {again : List ℕ} (a : w ≡ walkAt u) (e : again ≡ pasted blank 0 (packedWalk w)) where
+    packed-again : again ≡ packedWalk (walkAt u)
+    packed-again = e ∙ (pasted-whole blank (packedWalk w) (length-packed w ∙ sym l) ∙ ap packedWalk a)
 
     pub again-long : length u ≡ 32 → length again ≡ length u
     again-long h = ap length packed-again ∙ (length-packed (walkAt u) ∙ sym h)

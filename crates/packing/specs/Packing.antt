@@ -41,9 +41,9 @@ kindNumber Io = 5
 unfoldable pub askingUnits : Asking → List ℕ
 askingUnits q = kindNumber (q .kind) ∷ q .entry ∷ q .party ∷ q .began ∷ (wideUnits (q .size) ++ (flagUnit (q .covered) ∷ []))
 
-unfoldable pub nextUnits : Next → List ℕ
-nextUnits (Asks q) = askingUnits q
-nextUnits (Ends e status) = endNumber e ∷ 0 ∷ 0 ∷ 0 ∷ (wideUnits status ++ (0 ∷ []))
+unfoldable pub nextPacked : Next → List ℕ
+nextPacked (Asks q) = askingUnits q
+nextPacked (Ends e status) = endNumber e ∷ 0 ∷ 0 ∷ 0 ∷ (wideUnits status ++ (0 ∷ []))
 
 -- units 0 to 8, and then these
 unfoldable pub walkUnits : Walk → List ℕ → List ℕ
@@ -51,15 +51,15 @@ walkUnits w next =
     wideUnits (w .limit) ++ (wideUnits (w .size) ++ (w .boot ∷ w .moves ∷ w .path ∷ w .tried ∷ flagUnit (w .hit) ∷ next))
 
 -- the whole walk
-unfoldable pub packed : Walk → List ℕ
-packed w = roomed 32 (walkUnits w (nextUnits (w .next)))
+unfoldable pub packedWalk : Walk → List ℕ
+packedWalk w = roomed 32 (walkUnits w (nextPacked (w .next)))
 
 -- read back
 unfoldable pub kindAt : ℕ → Kind
 kindAt n = choose (eqb n 1) Dc (choose (eqb n 2) Root (choose (eqb n 3) Link (choose (eqb n 4) Sysvol Io)))
 
-unfoldable pub endAt : ℕ → End
-endAt n =
+unfoldable pub endOfNumber : ℕ → End
+endOfNumber n =
     choose (eqb n 20) Done
     (choose (eqb n 21) NotDfs
     (choose (eqb n 22) NoDc
@@ -79,7 +79,7 @@ askingAt u = record {
 }
 
 unfoldable pub nextAt : List ℕ → Next
-nextAt u = choose (leb (unitAt 9 u) 5) (Asks (askingAt u)) (Ends (endAt (unitAt 9 u)) (wideAt 13 u))
+nextAt u = choose (leb (unitAt 9 u) 5) (Asks (askingAt u)) (Ends (endOfNumber (unitAt 9 u)) (wideAt 13 u))
 
 unfoldable pub walkAt : List ℕ → Walk
 walkAt u = record {
@@ -96,4 +96,4 @@ walkAt u = record {
 -- units are of the form where they are exactly what the walk that is read writes: another length, a flag other than 0 and 1, an unknown number
 -- and anything in unused units are not
 unfoldable pub unpacked : List ℕ → Unpacked
-unpacked u = choose (sameList (packed (walkAt u)) u) (Held (walkAt u)) NotOfForm
+unpacked u = choose (sameList (packedWalk (walkAt u)) u) (Held (walkAt u)) NotOfForm

@@ -7,7 +7,7 @@ ghost use Rattle.laws.specs.Lists.{pasted, roomed};
 ghost use Rattle.laws.specs.Listed.{sameList};
 ghost use Rattle.places.specs.Layout.{wideAt, flagUnit, wideUnits};
 ghost use Rattle.steps.specs.Steps.{endNumber};
-ghost use Rattle.packing.specs.Packing.{kindNumber, askingUnits, walkUnits, packed, kindAt, endAt, askingAt, nextAt, walkAt, unpacked};
+ghost use Rattle.packing.specs.Packing.{kindNumber, askingUnits, walkUnits, packedWalk, kindAt, endOfNumber, askingAt, nextAt, walkAt, unpacked};
 use steps::Asking;
 use steps::End;
 use steps::Kind;
@@ -132,7 +132,7 @@ fn put_asking(walk: Walk, q: Asking, dst: &mut [u16])
 // The walk into the first 32 units; what stands after them stays.
 pub fn pack(walk: Walk, dst: &mut [u16])
     requires { ⌜ 32 ≤ length (now dst) ⌝ }
-    ensures { λ r. ⌜ now (dst .exit) ≡ pasted (now (dst .entry)) 0 (packed walk) ⌝ }
+    ensures { λ r. ⌜ now (dst .exit) ≡ pasted (now (dst .entry)) 0 (packedWalk walk) ⌝ }
 {
     let next = walk.next;
     match next {
@@ -167,7 +167,7 @@ fn kind_at(n: u16) -> Kind
 }
 
 fn end_at(n: u16) -> End
-    ensures { λ r. ⌜ r ≡ endAt n ⌝ }
+    ensures { λ r. ⌜ r ≡ endOfNumber n ⌝ }
 {
     if n == 20 {
         return End::Done;

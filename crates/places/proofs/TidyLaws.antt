@@ -17,7 +17,7 @@ use Rattle.laws.proofs.Tests.{both-ways, refuted, not-both}
 use Rattle.laws.proofs.Pasting.{getD-part, length-part}
 use Rattle.laws.proofs.Parts.{getD-roomed, roomed-take}
 use Rattle.laws.proofs.Listed.{length-listed, getD-listed, every-next, every-stop, every-end, every-listed, listed-every, sameList-true, same-sameList}
-use Rattle.places.specs.Layout.{unitAt, roomAt, textAt, listCount, written, textsOf, marksOf, settingsOf, tidy, zeros, tidyRoom, tidyRooms}
+use Rattle.places.specs.Layout.{unitAt, roomAt, textAt, listCount, written, placeTexts, marksOf, settingsOf, tidy, zeros, tidyRoom, tidyRooms}
 use Rattle.places.proofs.ZeroLaws.{zero-at, zeros-all}
 use Rattle.places.proofs.WrittenLaws.{HeadUnit, a-length, the-count, the-hint, a-mark, a-setting, same-place, Shaped, length-written, written-length, written-count, written-hint, written-mark, written-setting, written-room}
 
@@ -64,22 +64,22 @@ module _ (piece : List ℕ) (j : ℕ) where
   rooms-end h = every-end (tidyRoom piece) 9 (λ k. k) j h
 
 module _ (piece : List ℕ) (whole : length piece ≡ 2336) where
-  pub length-textsOf : length (textsOf piece) ≡ 1 + listCount piece
-  unfolding textsOf
+  pub length-textsOf : length (placeTexts piece) ≡ 1 + listCount piece
+  unfolding placeTexts
   length-textsOf = length-listed (1 + listCount piece) (λ j. textAt j piece)
 
-  pub textsOf-at : (j : ℕ) → j ≤ listCount piece → getD (textsOf piece) j [] ≡ textAt j piece
-  unfolding textsOf
+  pub textsOf-at : (j : ℕ) → j ≤ listCount piece → getD (placeTexts piece) j [] ≡ textAt j piece
+  unfolding placeTexts
   textsOf-at j h = getD-listed (1 + listCount piece) (λ k. textAt k piece) j [] (omega arith)
 
-  textsOf-past : (j : ℕ) → listCount piece < j → getD (textsOf piece) j [] ≡ []
-  textsOf-past j h = List·getD-eq-default (textsOf piece) [] {n = j} (rw length-textsOf (omega arith))
+  textsOf-past : (j : ℕ) → listCount piece < j → getD (placeTexts piece) j [] ≡ []
+  textsOf-past j h = List·getD-eq-default (placeTexts piece) [] {n = j} (rw length-textsOf (omega arith))
 
   length-text : (j : ℕ) → length (textAt j piece) ≤ 256
   unfolding textAt roomAt part
   length-text j = simp length-take (omega arith)
 
-  pub shape-of : Shaped (textsOf piece) (marksOf piece) (settingsOf piece)
+  pub shape-of : Shaped (placeTexts piece) (marksOf piece) (settingsOf piece)
   unfolding marksOf settingsOf
   shape-of = record {
     fewTexts = rw length-textsOf (omega arith);
@@ -88,7 +88,7 @@ module _ (piece : List ℕ) (whole : length piece ≡ 2336) where
     fewSettings = simp length-listed (omega arith);
   }
     where
-      at : (j : ℕ) → (listCount piece < j) ⊎ (j ≤ listCount piece) → length (getD (textsOf piece) j []) ≤ 256
+      at : (j : ℕ) → (listCount piece < j) ⊎ (j ≤ listCount piece) → length (getD (placeTexts piece) j []) ≤ 256
       at j (inl h) = rw (textsOf-past j h) (omega arith)
       at j (inr h) = rw (textsOf-at j h) (length-text j)
 
@@ -131,11 +131,11 @@ module _ (piece : List ℕ) (whole : length piece ≡ 2336) where
         let f : unitAt 9 piece ≤ 8 = t .few in
         zero-at piece (1 + unitAt 9 piece) (9 - (1 + unitAt 9 piece)) j (t .lengths) (omega arith) (omega arith) (omega arith)
 
-    text-of : (j : ℕ) → j < 9 → getD (textsOf piece) j [] ≡ textAt j piece
+    text-of : (j : ℕ) → j < 9 → getD (placeTexts piece) j [] ≡ textAt j piece
     unfolding textAt
     text-of j h = go (lt-or-le (listCount piece) j)
       where
-        go : (listCount piece < j) ⊎ (j ≤ listCount piece) → getD (textsOf piece) j [] ≡ take (unitAt j piece) (roomAt j piece)
+        go : (listCount piece < j) ⊎ (j ≤ listCount piece) → getD (placeTexts piece) j [] ≡ take (unitAt j piece) (roomAt j piece)
         go (inl u) = textsOf-past j u ∙ ap (λ (x : ℕ). take x (roomAt j piece)) (sym (none-past j u h))
         go (inr u) = textsOf-at j u
 
@@ -154,7 +154,7 @@ module _ (piece : List ℕ) (whole : length piece ≡ 2336) where
         (λ o a b. room-unit j o b
         ∙ zero-at piece (32 + j * 256 + unitAt j piece) (256 - unitAt j piece) (32 + j * 256 + o) (past-at j h) (omega arith) (omega arith) (omega arith))
 
-    head-of : (i : ℕ) → HeadUnit i → unitAt i (written (textsOf piece) (unitAt 10 piece) (marksOf piece) (settingsOf piece)) ≡ unitAt i piece
+    head-of : (i : ℕ) → HeadUnit i → unitAt i (written (placeTexts piece) (unitAt 10 piece) (marksOf piece) (settingsOf piece)) ≡ unitAt i piece
     head-of j (a-length h) = written-length _ _ _ _ shape-of j h ∙ (ap length (text-of j h) ∙ length-of j h)
     head-of i the-count =
         let f : unitAt 9 piece ≤ 8 = t .few in
@@ -183,28 +183,28 @@ module _ (piece : List ℕ) (whole : length piece ≡ 2336) where
 
   -- and the other way: a place that is what it writes passes each test
   module _ (t : tidy piece ≡ true) where
-    pub tidy-written : written (textsOf piece) (unitAt 10 piece) (marksOf piece) (settingsOf piece) ≡ piece
+    pub tidy-written : written (placeTexts piece) (unitAt 10 piece) (marksOf piece) (settingsOf piece) ≡ piece
     unfolding tidy
     tidy-written = sameList-true _ piece t
 
     shifted : (s i : ℕ) → getD piece (s + (i - s)) 0 ≡ 0 → s ≤ i → getD piece i 0 ≡ 0
     shifted s i e u = rw (add-sub-of-le u) at e
 
-    length-told : (j : ℕ) → j < 9 → unitAt j piece ≡ length (getD (textsOf piece) j [])
+    length-told : (j : ℕ) → j < 9 → unitAt j piece ≡ length (getD (placeTexts piece) j [])
     length-told j h = ap (unitAt j) (sym tidy-written) ∙ written-length _ _ _ _ shape-of j h
 
     past-told : (j o : ℕ) → j < 9 → unitAt j piece ≤ o → o < 256 → getD piece (32 + j * 256 + o) 0 ≡ 0
     past-told j o h a b =
-        let n : unitAt j piece ≡ length (getD (textsOf piece) j []) = length-told j h in
+        let n : unitAt j piece ≡ length (getD (placeTexts piece) j []) = length-told j h in
         sym (room-unit j o b)
         ∙ (ap (λ (x : List ℕ). getD (roomAt j x) o 0) (sym tidy-written)
         ∙ (ap (λ (x : List ℕ). getD x o 0) (written-room _ _ _ _ shape-of j h)
-        ∙ (getD-roomed 256 (getD (textsOf piece) j []) o ∙ List·getD-eq-default (getD (textsOf piece) j []) 0 {n = o} (omega arith))))
+        ∙ (getD-roomed 256 (getD (placeTexts piece) j []) o ∙ List·getD-eq-default (getD (placeTexts piece) j []) 0 {n = o} (omega arith))))
 
     few-told : unitAt 9 piece ≤ 8
     few-told =
-        let e : unitAt 9 piece ≡ length (textsOf piece) - 1 = ap (unitAt 9) (sym tidy-written) ∙ written-count _ _ _ _ shape-of in
-        let l : length (textsOf piece) ≡ 1 + listCount piece = length-textsOf in
+        let e : unitAt 9 piece ≡ length (placeTexts piece) - 1 = ap (unitAt 9) (sym tidy-written) ∙ written-count _ _ _ _ shape-of in
+        let l : length (placeTexts piece) ≡ 1 + listCount piece = length-textsOf in
         omega arith
 
     mark-told : (j : ℕ) → j < 8 → unitAt 9 piece ≤ j → unitAt (11 + j) piece ≡ 0
@@ -216,8 +216,8 @@ module _ (piece : List ℕ) (whole : length piece ≡ 2336) where
     room-told : (j : ℕ) → j < 9 → tidyRoom piece j ≡ true
     unfolding tidyRoom
     room-told j h =
-        let n : unitAt j piece ≡ length (getD (textsOf piece) j []) = length-told j h in
-        let m : length (getD (textsOf piece) j []) ≤ 256 = shape-of .short j in
+        let n : unitAt j piece ≡ length (getD (placeTexts piece) j []) = length-told j h in
+        let m : length (getD (placeTexts piece) j []) ≤ 256 = shape-of .short j in
         and-both (le-leb (unitAt j piece) 256 (omega arith))
         (zeros-all piece (32 + j * 256 + unitAt j piece) (256 - unitAt j piece) (omega arith)
         (λ i a b. shifted (32 + j * 256) i (past-told j (i - (32 + j * 256)) h (omega arith) (omega arith)) (omega arith)))

@@ -76,8 +76,8 @@ unfoldable pub written : List (List ℕ) → ℕ → List ℕ → List ℕ → L
 written ts hint marks settings = headOf ts hint marks settings ++ roomsOf ts
 
 -- read back from a place: the key and the texts of the list
-unfoldable pub textsOf : List ℕ → List (List ℕ)
-textsOf piece = listed (1 + listCount piece) (λ j. textAt j piece)
+unfoldable pub placeTexts : List ℕ → List (List ℕ)
+placeTexts piece = listed (1 + listCount piece) (λ j. textAt j piece)
 
 -- the marks of the list
 unfoldable pub marksOf : List ℕ → List ℕ
@@ -89,7 +89,7 @@ settingsOf piece = listed 7 (λ j. unitAt (19 + j) piece)
 
 -- the unused room of a used place is zero: the place is exactly what its texts, hint, marks and settings write
 unfoldable pub tidy : List ℕ → Bool
-tidy piece = sameList (written (textsOf piece) (unitAt 10 piece) (marksOf piece) (settingsOf piece)) piece
+tidy piece = sameList (written (placeTexts piece) (unitAt 10 piece) (marksOf piece) (settingsOf piece)) piece
 
 -- every unit is zero
 unfoldable pub zeros : List ℕ → Bool

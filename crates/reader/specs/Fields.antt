@@ -16,8 +16,8 @@ abbrev pub startOf : List ℕ → ℕ → Start
 startOf r e = record { version = u16At r e; size = u16At r (e + 2) }
 
 -- its ServerType, flags and TTL
-abbrev pub marksOf : List ℕ → ℕ → Marks
-marksOf r e = record { kind = u16At r (e + 4); flags = u16At r (e + 6); ttl = u32At r (e + 8) }
+abbrev pub entryMarks : List ℕ → ℕ → Marks
+entryMarks r e = record { kind = u16At r (e + 4); flags = u16At r (e + 6); ttl = u32At r (e + 8) }
 
 -- the three numbers after TTL: DFSPathOffset, DFSAlternatePathOffset and NetworkAddressOffset; in a name list entry SpecialNameOffset, NumberOfExpandedNames and ExpandedNameOffset
 abbrev pub offsetsOf : List ℕ → ℕ → Offsets

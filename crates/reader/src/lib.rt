@@ -5,7 +5,7 @@ ghost use Prim.Native.Nat.{_+_, _<_, _^_};
 ghost use lib.ListN.{length};
 ghost use Rattle.spans.specs.Bytes.{u16At, u32At, textAt};
 ghost use Rattle.spans.specs.Spans.{textEnd};
-ghost use Rattle.reader.specs.Fields.{headerOf, startOf, marksOf, offsetsOf};
+ghost use Rattle.reader.specs.Fields.{headerOf, startOf, entryMarks, offsetsOf};
 use spans::Read;
 
 pub struct Reader<'a> {
@@ -102,7 +102,7 @@ pub fn read_start(src: &[u8], e: usize) -> Start
 // Its ServerType, flags and TTL.
 pub fn read_marks(src: &[u8], e: usize) -> Marks
     requires { ⌜ e + 11 < length (now src) ⌝ }
-    ensures { λ v. ⌜ v ≡ marksOf (now (src .entry)) e ⌝ }
+    ensures { λ v. ⌜ v ≡ entryMarks (now (src .entry)) e ⌝ }
 {
     let r = new(src, e + 4);
     let kind = unit(r);

@@ -13,7 +13,7 @@ use Rattle.laws.specs.Lists.{every}
 use Rattle.laws.proofs.Choices.{choose-yes, choose-no, and-both, and-no-left, and-no-right}
 use Rattle.spans.specs.Bytes.{u16At, flag}
 use Rattle.referral.specs.Replies.{goodEntry, malformed, nothing, says, readAs, referralCount, entries}
-use Rattle.referral.specs.Found.{answered, denoted, noReferral, Within}
+use Rattle.referral.specs.Found.{replyOf, denoted, noReferral, ReferralInside}
 use Rattle.referral.specs.declared.ReferralFound.{ReferralFound}
 use Rattle.referral.specs.declared.Answer.{Answer}
 use Rattle.referral.specs.declared.Answer.the-variants.{Malformed, Nothing}
@@ -48,16 +48,16 @@ module _ {A : Type 0} (size : ℕ) (r : List ℕ) (good : Bool) (a : A) where
 -- a reply that says nothing hands on nothing
 module _ (r : List ℕ) {f : ReferralFound} where
   pub none-malformed : f ≡ noReferral Malformed → denoted r f ≡ malformed
-  unfolding denoted answered noReferral
+  unfolding denoted replyOf noReferral
   none-malformed e = ap (denoted r) e
 
   pub none-nothing : f ≡ noReferral Nothing → denoted r f ≡ nothing
-  unfolding denoted answered noReferral
+  unfolding denoted replyOf noReferral
   none-nothing e = ap (denoted r) e
 
-  pub none-within : (a : Answer) → f ≡ noReferral a → Within r f
+  pub none-within : (a : Answer) → f ≡ noReferral a → ReferralInside r f
   unfolding noReferral
-  none-within a e = mathlib.Core.Path.subst (Within r) (sym e) (record { prefix-within = omega arith; kept-within = none-kept r 8; few = omega arith })
+  none-within a e = mathlib.Core.Path.subst (ReferralInside r) (sym e) (record { prefix-within = omega arith; kept-within = none-kept r 8; few = omega arith })
 
 pub failback-other : (v f : ℕ) → (v ≡ 4 → ⊥) → false ≡ (eqb v 4 && flag 4 f)
 failback-other v f h = sym (and-no-left _ (ne-eqb v 4 h))

@@ -15,9 +15,9 @@ use Rattle.laws.proofs.Orders.{told}
 use Rattle.laws.proofs.Every.{every-take}
 use Rattle.unc.specs.Names.{goodComponent, sameName}
 use Rattle.unc.specs.Paths.{leads, pieces, body, goodPath, normalised, isNormalised, normalisedCount, componentCount, matches}
-use Rattle.spans.specs.Bytes.{Text, ended, unended}
+use Rattle.spans.specs.Bytes.{Text, terminated, unterminated}
 use Rattle.referral.specs.Replies.{referralCount, starts, entries, pathOf, isRead, prefixAt, targetAt, goodFields, goodEntry, Target, laterTarget, keptTargets, Referral, referralIn, malformed, nothing, says, readAs, readReferral}
-use Rattle.referral.specs.Found.{answered, denoted, referralShown}
+use Rattle.referral.specs.Found.{replyOf, denoted, referralShown}
 use Rattle.referral.specs.declared.ReferralFound.{ReferralFound}
 use Rattle.referral.specs.declared.Answer.{Answer}
 use Rattle.referral.specs.declared.Answer.the-variants.{Says}
@@ -74,8 +74,8 @@ normal-is s h k =
 
 pub path-normal : (t : Text) → isRead (pathOf t) ≡ true → 2 ≤ normalisedCount (pathOf t)
 unfolding pathOf
-path-normal unended h = absurd (unread h)
-path-normal (ended s) h = go (told (goodPath s && (leb (length (normalised s)) 256 && leb 2 (componentCount (normalised s)))))
+path-normal unterminated h = absurd (unread h)
+path-normal (terminated s) h = go (told (goodPath s && (leb (length (normalised s)) 256 && leb 2 (componentCount (normalised s)))))
   where
     go : ((goodPath s && (leb (length (normalised s)) 256 && leb 2 (componentCount (normalised s)))) ≡ true)
         ⊎ ((goodPath s && (leb (length (normalised s)) 256 && leb 2 (componentCount (normalised s)))) ≡ false)
@@ -174,5 +174,5 @@ says-sound size asked r x h = subst (Sound asked) (sym (w .same)) sound
 
 -- the reader's answer
 pub denoted-says : (r : List ℕ) (f : ReferralFound) → f .answer ≡ Says → denoted r f ≡ says (referralShown r f)
-unfolding denoted answered
-denoted-says r f h = ap (λ (a : Answer). answered a (referralShown r f)) h
+unfolding denoted replyOf
+denoted-says r f h = ap (λ (a : Answer). replyOf a (referralShown r f)) h

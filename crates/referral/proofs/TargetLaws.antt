@@ -16,7 +16,7 @@ use Rattle.spans.specs.Bytes.{u16At, flag}
 use Rattle.spans.specs.Spans.{spanned, Inside}
 use Rattle.spans.specs.declared.Span.{Span}
 use Rattle.referral.specs.Replies.{versionAt, sizeAt, entryFlag, starts, entries, referralCount, goodEntry, Target, targetAt, laterTarget, keptTargets}
-use Rattle.referral.specs.Found.{inside, keptInside, opensAt, targetShown}
+use Rattle.referral.specs.Found.{isInside, keptInside, opensAt, targetShown}
 use Rattle.referral.specs.declared.Kept.{Kept}
 use Rattle.referral.proofs.EntryLaws.{starts-cons, starts-none, entry-fit}
 
@@ -92,8 +92,8 @@ target-next n i r e l s o g h k m j a b =
     g ∙ filled-next (targetShown r) l i (record { path = s; opens = o }) h (come-next n i r e k m j) (λ x. record { path = a x; opens = b x })
 
 -- spans inside the reply, as a test
-pub inside-test : (r : List ℕ) (s : Span) → Inside r s → inside r s ≡ true
-unfolding inside
+pub inside-test : (r : List ℕ) (s : Span) → Inside r s → isInside r s ≡ true
+unfolding isInside
 inside-test r s h = le-leb (s .from + 2 * s .units) (length r) h
 
 pub kept-next : (r : List ℕ) (l : List Kept) (i : ℕ) (s : Span) (o : Bool) → every (keptInside r) l ≡ true → Inside r s
@@ -127,5 +127,5 @@ unfolding keptInside
 none-kept r n =
     every-copies (keptInside r) n (record { path = record { from = 0; units = 0 }; opens = false }) (inside-test r (record { from = 0; units = 0 }) (omega arith))
 
-pub none-inside : (r : List ℕ) (n : ℕ) → every (inside r) (replicate n (record { from = 0; units = 0 })) ≡ true
-none-inside r n = every-copies (inside r) n (record { from = 0; units = 0 }) (inside-test r (record { from = 0; units = 0 }) (omega arith))
+pub none-inside : (r : List ℕ) (n : ℕ) → every (isInside r) (replicate n (record { from = 0; units = 0 })) ≡ true
+none-inside r n = every-copies (isInside r) n (record { from = 0; units = 0 }) (inside-test r (record { from = 0; units = 0 }) (omega arith))

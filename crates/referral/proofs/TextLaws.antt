@@ -14,7 +14,7 @@ use Rattle.laws.proofs.Orders.{lt-or-le}
 use Rattle.unc.specs.Paths.{leads, withoutTrail, body, goodPath, normalised, goodCount, componentCount}
 use Rattle.unc.proofs.PieceLaws.{parts}
 use Rattle.unc.proofs.FormLaws.{leads-none, leads-one, leads-two, leads-within, body-found, body-length, body-within, count-found, found-good, path-unled, path-bad, count-none, count-some, count-normalised}
-use Rattle.spans.specs.Bytes.{unitsAt, Text, ended, unended}
+use Rattle.spans.specs.Bytes.{unitsAt, Text, terminated, unterminated}
 use Rattle.spans.specs.Spans.{spanned}
 use Rattle.referral.specs.Replies.{pathOf}
 
@@ -25,23 +25,23 @@ none-spanned r e = sym e
 
 -- the ways of `pathOf`
 module _ (u : List ℕ) where
-  pub path-none : goodPath u ≡ false → pathOf (ended u) ≡ []
+  pub path-none : goodPath u ≡ false → pathOf (terminated u) ≡ []
   unfolding pathOf
   path-none h = choose-no (normalised u) [] (and-no-left _ h)
 
-  pub path-unled-at : leads u ≡ 0 → pathOf (ended u) ≡ []
+  pub path-unled-at : leads u ≡ 0 → pathOf (terminated u) ≡ []
   path-unled-at h = path-none (path-unled u h)
 
-  path-large : 256 < length (normalised u) → pathOf (ended u) ≡ []
+  path-large : 256 < length (normalised u) → pathOf (terminated u) ≡ []
   unfolding pathOf
   path-large h = choose-no (normalised u) [] (and-no-right (goodPath u) (and-no-left _ (lt-leb (length (normalised u)) 256 h)))
 
-  path-short : componentCount (normalised u) < 2 → pathOf (ended u) ≡ []
+  path-short : componentCount (normalised u) < 2 → pathOf (terminated u) ≡ []
   unfolding pathOf
   path-short h =
       choose-no (normalised u) [] (and-no-right (goodPath u) (and-no-right (leb (length (normalised u)) 256) (lt-leb 2 (componentCount (normalised u)) h)))
 
-  path-is : goodPath u ≡ true → length (normalised u) ≤ 256 → 2 ≤ componentCount (normalised u) → pathOf (ended u) ≡ normalised u
+  path-is : goodPath u ≡ true → length (normalised u) ≤ 256 → 2 ≤ componentCount (normalised u) → pathOf (terminated u) ≡ normalised u
   unfolding pathOf
   path-is h k l =
       choose-yes (normalised u) [] (and-both h (and-both (le-leb (length (normalised u)) 256 k) (le-leb 2 (componentCount (normalised u)) l)))
@@ -57,7 +57,7 @@ leads-backslash u h = go (parts (getD u 0 0)) (parts (getD u 1 0))
 
 -- The path, as the scan of a text finds it: `from` and `to` are the ends of its body, k is the count of good components there.
 module _ (u : List ℕ) (from to k : ℕ) (a : from ≡ leads u) (b : to ≡ from + length (withoutTrail (drop from u))) where
-  pub path-over : 256 < to - from + 1 → pathOf (ended u) ≡ []
+  pub path-over : 256 < to - from + 1 → pathOf (terminated u) ≡ []
   path-over h = path-large u (subst (λ (n : ℕ). 256 < n) (body-length u from to k a b) h)
 
   -- the normalised path: the body and the backslash before it
@@ -74,11 +74,11 @@ module _ (u : List ℕ) (from to k : ℕ) (a : from ≡ leads u) (b : to ≡ fro
       ∙ (λ i. g i ∷ (ap (λ (n : ℕ). take (to - from) (drop n u)) f ∙ body-found u from to k a b) i)
 
   module _ (c : k ≡ goodCount 0 (take (to - from) (drop from u))) where
-    pub path-few : k < 2 → pathOf (ended u) ≡ []
+    pub path-few : k < 2 → pathOf (terminated u) ≡ []
     unfolding normalised
     path-few h = go (lt-or-le 0 k)
       where
-        go : (0 < k) ⊎ (k ≤ 0) → pathOf (ended u) ≡ []
+        go : (0 < k) ⊎ (k ≤ 0) → pathOf (terminated u) ≡ []
         go (inr z) = let y : k ≡ 0 = omega arith in path-none u (path-bad u (count-none (body u) (sym (count-found u from to k a b c) ∙ y)))
         go (inl z) =
             let p : goodCount 0 (body u) ≡ 0 → ⊥ = λ q. let y : k ≡ 0 = count-found u from to k a b c ∙ q in omega arith in
@@ -86,7 +86,7 @@ module _ (u : List ℕ) (from to k : ℕ) (a : from ≡ leads u) (b : to ≡ fro
             count-normalised (body u) ∙ (sym (count-some (body u) p .1) ∙ sym (count-found u from to k a b c)) in
             path-short u (omega arith)
 
-    pub path-found : (from ≡ 0 → ⊥) → 2 ≤ k → to - from + 1 ≤ 256 → take (to - (from - 1)) (drop (from - 1) u) ≡ pathOf (ended u)
+    pub path-found : (from ≡ 0 → ⊥) → 2 ≤ k → to - from + 1 ≤ 256 → take (to - (from - 1)) (drop (from - 1) u) ≡ pathOf (terminated u)
     unfolding normalised
     path-found h g l =
         let y : k ≡ 0 → ⊥ = λ q. omega arith in
@@ -97,6 +97,6 @@ module _ (u : List ℕ) (from to k : ℕ) (a : from ≡ leads u) (b : to ≡ fro
         ∙ sym (path-is u (found-good u from to k a b c h y) (subst (λ (n : ℕ). n ≤ 256) (body-length u from to k a b) l) (omega arith))
 
 -- texts without an end
-pub path-unended : {t : Text} → t ≡ unended → pathOf t ≡ []
+pub path-unended : {t : Text} → t ≡ unterminated → pathOf t ≡ []
 unfolding pathOf
 path-unended e = ap pathOf e

@@ -19,21 +19,21 @@ use Rattle.referral.specs.declared.Asked.{Asked}
 use Rattle.referral.specs.declared.Asked.the-variants.{Bytes, TooShort}
 
 -- a span inside the reply
-unfoldable pub inside : List ℕ → Span → Bool
-inside r s = leb (s .from + 2 * s .units) (length r)
+unfoldable pub isInside : List ℕ → Span → Bool
+isInside r s = leb (s .from + 2 * s .units) (length r)
 
 -- the first entry's version, ServerType and DFSPath, which all others are held to
-pub record Held (r : List ℕ) (version kind : ℕ) (first : Span) : Type 0 where
+pub record FirstEntry (r : List ℕ) (version kind : ℕ) (first : Span) : Type 0 where
   pub version-is : version ≡ versionAt r 8
   pub kind-is : kind ≡ serverTypeAt r 8
   pub first-is : spanned r first ≡ prefixAt r 8
   pub first-inside : Inside r first
 
 unfoldable pub keptInside : List ℕ → Kept → Bool
-keptInside r k = inside r (k .path)
+keptInside r k = isInside r (k .path)
 
 -- a reply whose entries are good, with its prefix
-pub record Told (r : List ℕ) (prefix : Span) : Type 0 where
+pub record GoodReply (r : List ℕ) (prefix : Span) : Type 0 where
   pub short : length r < 4294967296
   pub long : 42 ≤ length r
   pub good : every (goodEntry r) (entries r) ≡ true
@@ -41,7 +41,7 @@ pub record Told (r : List ℕ) (prefix : Span) : Type 0 where
   pub prefix-inside : Inside r prefix
 
 -- every span that a reader hands on lies inside the reply, and at most 8 are handed on
-pub record Within (r : List ℕ) (f : ReferralFound) : Type 0 where
+pub record ReferralInside (r : List ℕ) (f : ReferralFound) : Type 0 where
   pub prefix-within : Inside r (f .prefix)
   pub kept-within : every (keptInside r) (f .kept) ≡ true
   pub few : f .targets ≤ 8
@@ -72,10 +72,10 @@ unfoldable pub targetShown : List ℕ → Kept → Target
 targetShown r k = record { path = spanned r (k .path); opens = k .opens }
 
 -- one of the three ways of a reply
-unfoldable pub answered : {A : Type 0} → Answer → A → Reply A
-answered Malformed a = malformed
-answered Nothing a = nothing
-answered Says a = says a
+unfoldable pub replyOf : {A : Type 0} → Answer → A → Reply A
+replyOf Malformed a = malformed
+replyOf Nothing a = nothing
+replyOf Says a = says a
 
 unfoldable pub referralShown : List ℕ → ReferralFound → Referral
 referralShown r f = record {
@@ -92,7 +92,7 @@ referralShown r f = record {
 
 -- what a reader's answer says, given the reply
 unfoldable pub denoted : List ℕ → ReferralFound → Reply Referral
-denoted r f = answered (f .answer) (referralShown r f)
+denoted r f = replyOf (f .answer) (referralShown r f)
 
 -- a request written into a buffer of n bytes, or told to be longer
 unfoldable pub asked : ℕ → List ℕ → Asked

@@ -8,7 +8,7 @@ use Rattle.laws.specs.Choice.{choose}
 use Rattle.laws.specs.Lists.{every}
 use Rattle.unc.specs.Names.{sameName}
 use Rattle.unc.specs.Paths.{goodPath, normalised, componentCount, matches, pathUnits}
-use Rattle.spans.specs.Bytes.{u16At, u32At, flag, Text, ended, unended, textAt}
+use Rattle.spans.specs.Bytes.{u16At, u32At, flag, Text, terminated, unterminated, textAt}
 
 -- The header: NumberOfReferrals, ReferralServers, StorageServers, TargetFailback. PathConsumed is not used.
 unfoldable pub referralCount : List ℕ → ℕ
@@ -49,8 +49,8 @@ fits fixed r e = leb fixed (sizeAt r e) && leb (e + sizeAt r e) (length r)
 
 -- A path that is read, normalised: good, at most 256 units, 2 components or more; [] of any other text.
 unfoldable pub pathOf : Text → List ℕ
-pathOf unended = []
-pathOf (ended s) =
+pathOf unterminated = []
+pathOf (terminated s) =
     choose (goodPath s && (leb (length (normalised s)) pathUnits && leb 2 (componentCount (normalised s)))) (normalised s) []
 
 unfoldable pub isRead : List ℕ → Bool

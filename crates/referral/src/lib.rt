@@ -6,13 +6,13 @@ ghost use mathlib.Core.List.{map};
 ghost use Prim.Native.Nat.{_+_, _≤_, _<_, min};
 ghost use lib.ListN.{length, take};
 ghost use Rattle.laws.specs.Lists.{every};
-ghost use Rattle.spans.specs.Bytes.{flag, ended, textAt};
+ghost use Rattle.spans.specs.Bytes.{flag, terminated, textAt};
 ghost use Rattle.spans.specs.Spans.{spanned, Inside};
 ghost use Rattle.referral.specs.Replies.{pathOf};
 ghost use Rattle.referral.specs.Replies.{referralCount, versionAt, sizeAt, serverTypeAt, entries, fits, readable};
 ghost use Rattle.referral.specs.Replies.{goodFields, goodEntry, keptTargets, prefixAt, targetAt, referralIn, readReferral};
 ghost use Rattle.referral.specs.Replies.{says};
-ghost use Rattle.referral.specs.Found.{inside, Held, Told, Within, noReferral, opensAt, keptInside, targetShown, denoted, asked};
+ghost use Rattle.referral.specs.Found.{isInside, FirstEntry, GoodReply, ReferralInside, noReferral, opensAt, keptInside, targetShown, denoted, asked};
 use spans::Read;
 use spans::Span;
 
@@ -64,7 +64,7 @@ pub fn has_flag(m: u32, f: u32) -> bool
 // The path in a text, normalised; no units where it is bad, too long or has less than 2 components.
 fn path_span(r: &[u8], s: Span) -> Span
     requires { ⌜ Inside (now r) s ⌝ }
-    ensures path { λ v. ⌜ spanned (now (r .entry)) v ≡ pathOf (ended (spanned (now (r .entry)) s)) ⌝ }
+    ensures path { λ v. ⌜ spanned (now (r .entry)) v ≡ pathOf (terminated (spanned (now (r .entry)) s)) ⌝ }
     ensures inside { λ v. ⌜ Inside (now (r .entry)) v ⌝ }
 {
     let from = spans::lead(r, s);
@@ -178,7 +178,7 @@ fn good_fields(r: &[u8], e: usize, version: u16, kind: u16) -> bool
 
 // The entry at e, held to the first one: its version, ServerType and DFSPath.
 fn good_entry(r: &[u8], e: usize, version: u16, kind: u16, first: Span) -> bool
-    requires { ⌜ Held (now r) version kind first × ((e ≤ length (now r)) × (length (now r) < 4294967296)) ⌝ }
+    requires { ⌜ FirstEntry (now r) version kind first × ((e ≤ length (now r)) × (length (now r) < 4294967296)) ⌝ }
     ensures { λ v. ⌜ v ≡ goodEntry (now (r .entry)) e ⌝ }
 {
     if !good_fields(r, e, version, kind) {
@@ -282,9 +282,9 @@ fn failback_in(version: u16, flags: u32) -> bool
 
 // What a reply says whose entries are good.
 fn referral_in(r: &[u8], prefix: Span) -> ReferralFound
-    requires { ⌜ Told (now r) prefix ⌝ }
+    requires { ⌜ GoodReply (now r) prefix ⌝ }
     ensures found { λ v. ⌜ denoted (now (r .entry)) v ≡ says (referralIn (now (r .entry))) ⌝ }
-    ensures within { λ v. ⌜ Within (now (r .entry)) v ⌝ }
+    ensures within { λ v. ⌜ ReferralInside (now (r .entry)) v ⌝ }
 {
     let h = reader::read_header(r);
     let s = reader::read_start(r, 8);
@@ -334,7 +334,7 @@ fn no_referral(answer: Answer) -> ReferralFound
 // A reply to a root, link or SYSVOL request for the name asked, with the size asked for.
 pub fn read_referral(r: &[u8], size: u32, asked: &[u16]) -> ReferralFound
     ensures found { λ v. ⌜ denoted (now (r .entry)) v ≡ readReferral size (now (asked .entry)) (now (r .entry)) ⌝ }
-    ensures within { λ v. ⌜ Within (now (r .entry)) v ⌝ }
+    ensures within { λ v. ⌜ ReferralInside (now (r .entry)) v ⌝ }
 {
     if r.len() < 8 {
         return no_referral(Answer::Malformed);

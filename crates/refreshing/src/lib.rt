@@ -7,7 +7,7 @@ ghost use Rattle.spans.specs.Spans.{spanned, Inside};
 ghost use Rattle.caches.specs.Memory.{referrals, decode, encode, inOrder};
 ghost use Rattle.storing.specs.Stored.{stored, storePlace};
 ghost use Rattle.referral.specs.Found.{referralShown};
-ghost use Rattle.storing.specs.Writing.{Storable, Held, equivalentAt, refreshedAt, insertedAt};
+ghost use Rattle.storing.specs.Writing.{Storable, HeldEntry, equivalentAt, refreshedAt, insertedAt};
 use lookup::Found;
 use referral::ReferralFound;
 use spans::Span;
@@ -41,7 +41,7 @@ fn refresh_held(
     interlink: bool,
     clock: u32,
 )
-    requires { ⌜ Held i (now cache) × (equivalentAt i (now cache) (now reply) found ≡ true) ⌝ }
+    requires { ⌜ HeldEntry i (now cache) × (equivalentAt i (now cache) (now reply) found ≡ true) ⌝ }
     ensures { λ r. ⌜ now (cache .exit) ≡ refreshedAt i (now (reply .entry)) found interlink clock (now (cache .entry)) ⌝ }
 {
     let hint = storing::held_place(cache, i);
@@ -58,7 +58,7 @@ fn refresh_given(
     interlink: bool,
     clock: u32,
 )
-    requires { ⌜ Held i (now cache) × (Storable (now reply) found × (equivalentAt i (now cache) (now reply) found ≡ false)) ⌝ }
+    requires { ⌜ HeldEntry i (now cache) × (Storable (now reply) found × (equivalentAt i (now cache) (now reply) found ≡ false)) ⌝ }
     ensures { λ r. ⌜ now (cache .exit) ≡ refreshedAt i (now (reply .entry)) found interlink clock (now (cache .entry)) ⌝ }
 {
     let kept = found.kept;
@@ -79,7 +79,7 @@ fn refresh(
     interlink: bool,
     clock: u32,
 )
-    requires { ⌜ Held i (now cache) × Storable (now reply) found ⌝ }
+    requires { ⌜ HeldEntry i (now cache) × Storable (now reply) found ⌝ }
     ensures entry { λ r. ⌜ now (cache .exit) ≡ refreshedAt i (now (reply .entry)) found interlink clock (now (cache .entry)) ⌝ }
 {
     let kept = found.kept;

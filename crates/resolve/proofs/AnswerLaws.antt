@@ -26,7 +26,7 @@ use Rattle.tries.specs.Tries.{restOf, withDoms}
 use Rattle.tries.proofs.TryLaws.{io-domains}
 use Rattle.walks.specs.Walks.{pathIn, triedIn, bootIn, hasTried, inForm}
 use Rattle.walks.specs.declared.Walk.{Walk}
-use Rattle.turns.specs.Turns.{coreIn, Due, ioTurn, referralTurn}
+use Rattle.turns.specs.Turns.{coreIn, AnswerDue, ioTurn, referralTurn}
 use Rattle.turns.proofs.TurnLaws.{io-turned, still-io}
 use Rattle.turns.proofs.DueLaws.{tried-io, none-tried}
 use Rattle.closing.specs.Closing.{Left, closes}
@@ -118,7 +118,7 @@ module _ (t : Turn) (clock : ℕ) (walk : Walk) (texts out refs doms : List ℕ)
 -- an answer that is due
 module _ (refs doms texts : List ℕ) (walk : Walk) (out : List ℕ) {b : Bool} (o : b ≡ (inOrder referrals refs && inOrder domains doms)) (h : b ≡ true) {f : Bool} (p : f ≡ inForm walk texts)
     (g : f ≡ true) (q : Asking) (k : walk .next ≡ Asks q) {t : Bool} (u : t ≡ hasTried (q .kind)) where
-  pub due : {has : Bool} → t ≡ has → Due refs walk texts q has
+  pub due : {has : Bool} → t ≡ has → AnswerDue refs walk texts q has
   due v = record { order = and-left _ _ (sym o ∙ h); form = sym p ∙ g; next = k; kind = sym u ∙ v }
 
   pub due-domains : inOrder domains doms ≡ true

@@ -14,7 +14,7 @@ use Rattle.steps.specs.declared.Kind.{Kind}
 use Rattle.steps.specs.declared.Kind.the-variants.{Dc, Root, Link, Sysvol, Io}
 use Rattle.steps.specs.declared.End.{End}
 use Rattle.steps.specs.declared.End.the-variants.{NotDfs, NoDc, Failed, TooLong}
-use Rattle.rounds.specs.Rounds.{restsAt}
+use Rattle.rounds.specs.Rounds.{failureRests}
 
 pub data Quiet : Called → Type 0 where
   still : (e : End) (status : ℕ) (tried : List ℕ) → Quiet (stops e status tried)
@@ -25,8 +25,8 @@ pub data Untried : Called → Type 0 where
   ended-bare : (e : End) (status : ℕ) → Untried (ends e status)
   asked-bare : (q : Question) → q .tried ≡ [] → Untried (asks q)
 
-pub quiet-goes : (n : ℕ) (c : Caches) (clock : ℕ) (w : Core) {a : Called} → Quiet a → goes n c clock w a ≡ restsAt n w a
-unfolding goes restsAt
+pub quiet-goes : (n : ℕ) (c : Caches) (clock : ℕ) (w : Core) {a : Called} → Quiet a → goes n c clock w a ≡ failureRests n w a
+unfolding goes failureRests
 quiet-goes zero c clock w (still e status tried) = refl
 quiet-goes (suc n) c clock w (still e status tried) = refl
 quiet-goes zero c clock w (put q) = refl
@@ -78,8 +78,8 @@ quiet-io w q status e =
     (chosen Quiet _ (onward-either Quiet _ _ _ _ (λ place. put _) (still Failed status [])) (still Failed status []))
 
 -- where there is no path tried, there is none at rest
-pub untried-rests : (left : ℕ) (w : Core) {a : Called} → Untried a → triedOf (restsAt left w a .rest) ≡ []
-unfolding restsAt asking rests triedOf choose
+pub untried-rests : (left : ℕ) (w : Core) {a : Called} → Untried a → triedOf (failureRests left w a .rest) ≡ []
+unfolding failureRests asking rests triedOf choose
 untried-rests left w (ended-bare e status) = refl
 untried-rests zero w (asked-bare q t) = refl
 untried-rests (suc n) w (asked-bare q t) = go (leb (length (q .tried)) pathUnits)
@@ -88,12 +88,12 @@ untried-rests (suc n) w (asked-bare q t) = go (leb (length (q .tried)) pathUnits
     go true = t
     go false = refl
 
-pub untried-fails : (left : ℕ) (c : Caches) (w : Core) (q : Question) (status : ℕ) → q .tried ≡ [] → triedOf (restsAt left w (referralFails c w q status) .rest) ≡ []
+pub untried-fails : (left : ℕ) (c : Caches) (w : Core) (q : Question) (status : ℕ) → q .tried ≡ [] → triedOf (failureRests left w (referralFails c w q status) .rest) ≡ []
 untried-fails left c w q status h = untried-rests left w (fails-untried c w q status h)
 
 -- the walk's path, size and hit stay
-pub rests-core : (left : ℕ) (w : Core) (a : Called) → restsAt left w a .core ≡ w
-unfolding restsAt asking rests choose
+pub rests-core : (left : ℕ) (w : Core) (a : Called) → failureRests left w a .core ≡ w
+unfolding failureRests asking rests choose
 rests-core left w (stops e status tried) = refl
 rests-core left w (replaces p) = refl
 rests-core zero w (asks q) = refl

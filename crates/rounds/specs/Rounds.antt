@@ -25,10 +25,10 @@ questionOf q tried = record {
 }
 
 -- where the steps rest at an end or a question; failures call for nothing else
-unfoldable pub restsAt : ℕ → Core → Called → Resting
-restsAt left w (stops e status tried) = rests w left (ended e status tried)
-restsAt left w (asks q) = asking left w q
-restsAt left w (replaces p) = rests w left (ended LimitReached 0 [])
+unfoldable pub failureRests : ℕ → Core → Called → Resting
+failureRests left w (stops e status tried) = rests w left (ended e status tried)
+failureRests left w (asks q) = asking left w q
+failureRests left w (replaces p) = rests w left (ended LimitReached 0 [])
 
 -- the domain of a path's first component, and how many DCs it has; how many targets the entry of a prefix has
 unfoldable pub domainThere : List ℕ → List ℕ → Bool

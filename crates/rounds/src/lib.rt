@@ -11,7 +11,7 @@ ghost use Rattle.caches.specs.Order.{goodPrefix};
 ghost use Rattle.lookup.specs.Lookup.{withKey};
 ghost use Rattle.steps.specs.Steps.{inUse, nextPlace, doubled, failedHost, failed, referralFails, isOneOf, nextTargetStatuses};
 ghost use Rattle.steps.specs.Rested.{cachesOf, coreOf, askingOf, restedOf, askedAt};
-ghost use Rattle.rounds.specs.Rounds.{questionOf, restsAt, domainThere, dcsNamed, targetsUnder, inRound, again, failedDc, failedRoot, failedLink};
+ghost use Rattle.rounds.specs.Rounds.{questionOf, failureRests, domainThere, dcsNamed, targetsUnder, inRound, again, failedDc, failedRoot, failedLink};
 use lookup::Found;
 use steps::Asking;
 use steps::End;
@@ -160,7 +160,7 @@ fn ask_again(path: usize, left: u16, hit: bool, q: Asking) -> Rested
 // A root request to a host has one party.
 fn failed_host(path: &[u16], left: u16, hit: bool, size: u32, status: u32) -> Rested
     requires { ⌜ length (now path) ≤ 256 ⌝ }
-    ensures { λ r. ⌜ r ≡ restedOf (restsAt left (coreOf (now (path .entry)) size hit) (failedHost (coreOf (now (path .entry)) size hit) status)) ⌝ }
+    ensures { λ r. ⌜ r ≡ restedOf (failureRests left (coreOf (now (path .entry)) size hit) (failedHost (coreOf (now (path .entry)) size hit) status)) ⌝ }
 {
     if hit {
         return steps::end_at(End::Failed, status, path.len(), left, hit);
@@ -171,7 +171,7 @@ fn failed_host(path: &[u16], left: u16, hit: bool, size: u32, status: u32) -> Re
 // The next DC, from the given size.
 fn failed_dc(doms: &[u16], path: &[u16], left: u16, hit: bool, size: u32, q: Asking) -> Rested
     requires { ⌜ goodPrefix (now path) ≡ true ⌝ }
-    ensures { λ r. ⌜ r ≡ restedOf (restsAt left (coreOf (now (path .entry)) size hit) (failedDc (dcsNamed (now (path .entry)) (now (doms .entry))) (coreOf (now (path .entry)) size hit) (questionOf q []))) ⌝ }
+    ensures { λ r. ⌜ r ≡ restedOf (failureRests left (coreOf (now (path .entry)) size hit) (failedDc (dcsNamed (now (path .entry)) (now (doms .entry))) (coreOf (now (path .entry)) size hit) (questionOf q []))) ⌝ }
 {
     let dc = next_place(dcs(doms, path), q.party);
     if dc == q.began {
@@ -199,7 +199,7 @@ fn failed_root(
     status: u32,
 ) -> Rested
     requires { ⌜ goodPrefix (now path) ≡ true ⌝ }
-    ensures { λ r. ⌜ r ≡ restedOf (restsAt left (coreOf (now (path .entry)) size hit) (failedRoot (dcsNamed (now (path .entry)) (now (doms .entry))) (coreOf (now (path .entry)) size hit) (questionOf q []) status)) ⌝ }
+    ensures { λ r. ⌜ r ≡ restedOf (failureRests left (coreOf (now (path .entry)) size hit) (failedRoot (dcsNamed (now (path .entry)) (now (doms .entry))) (coreOf (now (path .entry)) size hit) (questionOf q []) status)) ⌝ }
 {
     if q.entry == 0 {
         return failed_host(path, left, hit, size, status);
@@ -218,7 +218,7 @@ fn failed_link(
     status: u32,
 ) -> Rested
     requires { ⌜ (length (now path) ≤ 256) × (q .entry ≤ length (now path)) ⌝ }
-    ensures { λ r. ⌜ r ≡ restedOf (restsAt left (coreOf (now (path .entry)) size hit) (failedLink (targetsUnder (take (q .entry) (now (path .entry))) (now (refs .entry))) (coreOf (now (path .entry)) size hit) (questionOf q []) status)) ⌝ }
+    ensures { λ r. ⌜ r ≡ restedOf (failureRests left (coreOf (now (path .entry)) size hit) (failedLink (targetsUnder (take (q .entry) (now (path .entry))) (now (refs .entry))) (coreOf (now (path .entry)) size hit) (questionOf q []) status)) ⌝ }
 {
     let entry = q.entry as usize;
     let target = next_place(targets(refs, &path[..entry]), q.party);
@@ -248,7 +248,7 @@ fn failed(
     status: u32,
 ) -> Rested
     requires { ⌜ (goodPrefix (now path) ≡ true) × (q .entry ≤ length (now path)) ⌝ }
-    ensures { λ r. ⌜ r ≡ restedOf (restsAt left (coreOf (now (path .entry)) size hit) (failed (cachesOf (now (refs .entry)) (now (doms .entry))) (coreOf (now (path .entry)) size hit) (questionOf q []) status)) ⌝ }
+    ensures { λ r. ⌜ r ≡ restedOf (failureRests left (coreOf (now (path .entry)) size hit) (failed (cachesOf (now (refs .entry)) (now (doms .entry))) (coreOf (now (path .entry)) size hit) (questionOf q []) status)) ⌝ }
 {
     let kind = q.kind;
     match kind {
@@ -272,7 +272,7 @@ pub fn referral_fails(
     status: u32,
 ) -> Rested
     requires { ⌜ (goodPrefix (now path) ≡ true) × (q .entry ≤ length (now path)) ⌝ }
-    ensures { λ r. ⌜ r ≡ restedOf (restsAt left (coreOf (now (path .entry)) size hit) (referralFails (cachesOf (now (refs .entry)) (now (doms .entry))) (coreOf (now (path .entry)) size hit) (questionOf q []) status)) ⌝ }
+    ensures { λ r. ⌜ r ≡ restedOf (failureRests left (coreOf (now (path .entry)) size hit) (referralFails (cachesOf (now (refs .entry)) (now (doms .entry))) (coreOf (now (path .entry)) size hit) (questionOf q []) status)) ⌝ }
 {
     if asks_again(status, q.size) {
         return ask_again(path.len(), left, hit, q);

@@ -15,12 +15,12 @@ use Rattle.unspelling.specs.declared.Spelled.{Spelled}
 use Rattle.unspelling.specs.declared.Spelled.the-variants.{Bad, Units}
 use Rattle.unspelling.specs.declared.Number.{Number}
 use Rattle.unspelling.specs.declared.Number.the-variants.{None, Value}
-use Rattle.lines.specs.Lines.{valueOf, hasKey}
+use Rattle.lines.specs.Lines.{valueOf, lineHasKey}
 use Rattle.lines.proofs.LineLaws.{key-fits}
-use Rattle.hexes.specs.Hexes.{isHex, hexNumber, bytesOf}
+use Rattle.hexes.specs.Hexes.{isHex, hexNumber, hexBytes}
 use Rattle.hexes.specs.declared.Rest.{Rest}
-use Rattle.script.specs.Script.{replyKey, statusKey, after, isText, textSaid, TextRead, textRead, textTaken, Taken, taken, textOrOther, orOther}
-use Rattle.script.specs.Script.{statusSaid, isStatus, isReply, wholeBytes, takesReply, withReply, Read, read, WholeRead, wholeRead, takesAfter, isWhole, takes, goesOn, takesOn, lineDue}
+use Rattle.script.specs.Script.{replyKey, statusKey, after, isText, textSaid, TextRead, textRead, textTaken, ReadInto, readInto, textOrOther, orOther}
+use Rattle.script.specs.Script.{statusSaid, isStatus, isReply, wholeBytes, takesReply, withReply, InputRead, inputRead, WholeRead, wholeRead, takesAfter, isWhole, takes, goesOn, takesOn, lineDue}
 use Rattle.script.specs.declared.Due.the-variants as due
 use Rattle.script.specs.declared.Last.{Last}
 use Rattle.script.specs.declared.Last.the-variants.{Reply, Other}
@@ -39,19 +39,19 @@ module _ (key line room : List ℕ) where
   unfolding textTaken
   not-text h = sym (choose-no _ _ h)
 
-  pub text-other : {b : Bool} → b ≡ hasKey key line → b ≡ false → textRead Bad room ≡ textTaken key line room
+  pub text-other : {b : Bool} → b ≡ lineHasKey key line → b ≡ false → textRead Bad room ≡ textTaken key line room
   unfolding isText
   text-other e h = not-text (and-no-left _ (sym e ∙ h))
 
   pub text-bad : {r : Spelled} → r ≡ spelledForm (valueOf key line) → r ≡ Bad → textRead Bad room ≡ textTaken key line room
   unfolding isText
-  text-bad e h = not-text (and-no-right (hasKey key line) (and-no-left _ (spelled-bad (valueOf key line) e h)))
+  text-bad e h = not-text (and-no-right (lineHasKey key line) (and-no-left _ (spelled-bad (valueOf key line) e h)))
 
   pub text-long : {n : ℕ} → n ≡ length (unspelled (valueOf key line)) → length room < n → textRead Bad room ≡ textTaken key line room
   unfolding isText
-  text-long e h = not-text (and-no-right (hasKey key line) (and-no-right (isSpelled (valueOf key line)) (lt-leb (length (unspelled (valueOf key line))) (length room) (omega arith))))
+  text-long e h = not-text (and-no-right (lineHasKey key line) (and-no-right (isSpelled (valueOf key line)) (lt-leb (length (unspelled (valueOf key line))) (length room) (omega arith))))
 
-  pub text-said : {b : Bool} {n : ℕ} {o : List ℕ} → b ≡ hasKey key line → b ≡ true → isSpelled (valueOf key line) ≡ true → n ≡ length (unspelled (valueOf key line)) → n ≤ length room
+  pub text-said : {b : Bool} {n : ℕ} {o : List ℕ} → b ≡ lineHasKey key line → b ≡ true → isSpelled (valueOf key line) ≡ true → n ≡ length (unspelled (valueOf key line)) → n ≤ length room
       → o ≡ pasted room 0 (unspelled (valueOf key line)) → textRead (Units n) o ≡ textTaken key line room
   unfolding isText textTaken textSaid
   text-said {b} {n} {o} e h k f l m =
@@ -60,11 +60,11 @@ module _ (key line room : List ℕ) where
 
 -- a text that was read or not
 module _ (s : Script) (f : ℕ → Script) {t : TextRead} {x : Spelled} {o : List ℕ} (e : textRead x o ≡ t) where
-  pub text-refused : {r : Script} → x ≡ Bad → r ≡ after Other s → taken r o ≡ textOrOther s f t
+  pub text-refused : {r : Script} → x ≡ Bad → r ≡ after Other s → readInto r o ≡ textOrOther s f t
   unfolding textOrOther
   text-refused {r} h k = (λ i. record { script = k i; room = o }) ∙ ap (textOrOther s f) (ap (λ (y : Spelled). textRead y o) (sym h) ∙ e)
 
-  pub text-taken : {r : Script} {n : ℕ} → x ≡ Units n → r ≡ f n → taken r o ≡ textOrOther s f t
+  pub text-taken : {r : Script} {n : ℕ} → x ≡ Units n → r ≡ f n → readInto r o ≡ textOrOther s f t
   unfolding textOrOther
   text-taken {r} h k = (λ i. record { script = k i; room = o }) ∙ ap (textOrOther s f) (ap (λ (y : Spelled). textRead y o) (sym h) ∙ e)
 
@@ -80,7 +80,7 @@ module _ (s : Script) (f : ℕ → Script) {x y : Number} (e : y ≡ x) {r : Scr
 
 -- a status
 module _ (line : List ℕ) where
-  pub status-other : {b : Bool} → b ≡ hasKey statusKey line → b ≡ false → None ≡ statusSaid line
+  pub status-other : {b : Bool} → b ≡ lineHasKey statusKey line → b ≡ false → None ≡ statusSaid line
   unfolding statusSaid
   status-other e h = sym (choose-no _ _ (and-no-left _ (sym e ∙ h)))
 
@@ -88,38 +88,38 @@ module _ (line : List ℕ) where
   unfolding valueOf
   value-length = length-drop 7 line
 
-  pub status-long : {b : Bool} → b ≡ hasKey statusKey line → b ≡ true → (length line ≡ 15 → ⊥) → None ≡ statusSaid line
+  pub status-long : {b : Bool} → b ≡ lineHasKey statusKey line → b ≡ true → (length line ≡ 15 → ⊥) → None ≡ statusSaid line
   unfolding statusSaid
   status-long e h n =
       let v = value-length in
       let k : 7 ≤ length line = key-fits statusKey line e h in
-      sym (choose-no _ _ (and-no-right (hasKey statusKey line) (and-no-left _ (ne-eqb (length (valueOf statusKey line)) 8 (λ (w : length (valueOf statusKey line) ≡ 8). n (omega arith))))))
+      sym (choose-no _ _ (and-no-right (lineHasKey statusKey line) (and-no-left _ (ne-eqb (length (valueOf statusKey line)) 8 (λ (w : length (valueOf statusKey line) ≡ 8). n (omega arith))))))
 
   pub status-length : length line ≡ 15 → length (valueOf statusKey line) ≡ 8
   status-length h = let v = value-length in omega arith
 
   pub status-digits : {b : Bool} → b ≡ every isHex (valueOf statusKey line) → b ≡ false → None ≡ statusSaid line
   unfolding statusSaid
-  status-digits e h = sym (choose-no _ _ (and-no-right (hasKey statusKey line) (and-no-right (eqb (length (valueOf statusKey line)) 8) (sym e ∙ h))))
+  status-digits e h = sym (choose-no _ _ (and-no-right (lineHasKey statusKey line) (and-no-right (eqb (length (valueOf statusKey line)) 8) (sym e ∙ h))))
 
-  pub status-said : {b d : Bool} {n : ℕ} → b ≡ hasKey statusKey line → b ≡ true → length line ≡ 15 → d ≡ every isHex (valueOf statusKey line) → d ≡ true
+  pub status-said : {b d : Bool} {n : ℕ} → b ≡ lineHasKey statusKey line → b ≡ true → length line ≡ 15 → d ≡ every isHex (valueOf statusKey line) → d ≡ true
       → n ≡ hexNumber (valueOf statusKey line) → Value n ≡ statusSaid line
   unfolding statusSaid
   status-said e h l f k m = ap Value m ∙ sym (choose-yes _ _ (and-both (sym e ∙ h) (and-both (eq-eqb _ _ (status-length l)) (sym f ∙ k))))
 
 -- a reply
 module _ (s : Script) (line : List ℕ) (r : Rest) (room : List ℕ) {o : Script} where
-  pub reply-odd : {b : Bool} {n : ℕ} → n ≡ length (valueOf replyKey line) → b ≡ wholeBytes n r → b ≡ false → o ≡ after Other s → taken o room ≡ takesReply s line r room
+  pub reply-odd : {b : Bool} {n : ℕ} → n ≡ length (valueOf replyKey line) → b ≡ wholeBytes n r → b ≡ false → o ≡ after Other s → readInto o room ≡ takesReply s line r room
   unfolding takesReply
-  reply-odd l e h k = ap (λ (x : Script). taken x room) k ∙ sym (choose-no _ _ (and-no-left _ (ap (λ (m : ℕ). wholeBytes m r) (sym l) ∙ (sym e ∙ h))))
+  reply-odd l e h k = ap (λ (x : Script). readInto x room) k ∙ sym (choose-no _ _ (and-no-left _ (ap (λ (m : ℕ). wholeBytes m r) (sym l) ∙ (sym e ∙ h))))
 
-  pub reply-digits : {b : Bool} → b ≡ every isHex (valueOf replyKey line) → b ≡ false → o ≡ after Other s → taken o room ≡ takesReply s line r room
+  pub reply-digits : {b : Bool} → b ≡ every isHex (valueOf replyKey line) → b ≡ false → o ≡ after Other s → readInto o room ≡ takesReply s line r room
   unfolding takesReply
-  reply-digits e h k = ap (λ (x : Script). taken x room) k ∙ sym (choose-no _ _ (and-no-right (wholeBytes (length (valueOf replyKey line)) r) (sym e ∙ h)))
+  reply-digits e h k = ap (λ (x : Script). readInto x room) k ∙ sym (choose-no _ _ (and-no-right (wholeBytes (length (valueOf replyKey line)) r) (sym e ∙ h)))
 
   pub reply-said : {b d : Bool} {n m : ℕ} {q : List ℕ} → n ≡ length (valueOf replyKey line) → b ≡ wholeBytes n r → b ≡ true → d ≡ every isHex (valueOf replyKey line) → d ≡ true
-      → m ≡ length (take (length room) (bytesOf (valueOf replyKey line))) → q ≡ pasted room 0 (take (length room) (bytesOf (valueOf replyKey line)))
-      → o ≡ after Reply (withReply m s) → taken o q ≡ takesReply s line r room
+      → m ≡ length (take (length room) (hexBytes (valueOf replyKey line))) → q ≡ pasted room 0 (take (length room) (hexBytes (valueOf replyKey line)))
+      → o ≡ after Reply (withReply m s) → readInto o q ≡ takesReply s line r room
   unfolding takesReply
   reply-said l e h f k m q w =
       (λ i. record { script = (w ∙ ap (λ (x : ℕ). after Reply (withReply x s)) m) i; room = q i })
@@ -131,7 +131,7 @@ module _ (s : Script) (line : List ℕ) {b : Bool} (e : b ≡ isStatus (s .last)
   unfolding isReply
   no-reply h = sym (and-no-left _ (sym e ∙ h))
 
-  pub some-reply : b ≡ true → {d : Bool} → d ≡ hasKey replyKey line → d ≡ isReply s line
+  pub some-reply : b ≡ true → {d : Bool} → d ≡ lineHasKey replyKey line → d ≡ isReply s line
   unfolding isReply
   some-reply h f = f ∙ sym (and-yes-left _ (sym e ∙ h))
 
@@ -139,7 +139,7 @@ module _ (s : Script) (line : List ℕ) {b : Bool} (e : b ≡ isStatus (s .last)
   unfolding lineDue
   no-status-due h = sym (choose-no _ _ (and-no-left _ (sym e ∙ h)))
 
-  module _ (h : b ≡ true) {d : Bool} (f : d ≡ hasKey replyKey line) where
+  module _ (h : b ≡ true) {d : Bool} (f : d ≡ lineHasKey replyKey line) where
     pub reply-due : d ≡ true → due.None ≡ lineDue s line
     unfolding lineDue
     reply-due g = sym (choose-no _ _ (and-yes-left _ (sym e ∙ h) ∙ ap not (sym f ∙ g)))
@@ -150,17 +150,17 @@ module _ (s : Script) (line : List ℕ) {b : Bool} (e : b ≡ isStatus (s .last)
 
 -- a line is read, unless the program has stopped
 module _ (s : Script) (line : List ℕ) (r : Rest) (path boot reply : List ℕ) {g : Bool} (e : g ≡ goesOn (s .last)) where
-  pub line-on : g ≡ true → {x : Read} → x ≡ takes s line r path boot reply → x ≡ takesOn s line r path boot reply
+  pub line-on : g ≡ true → {x : InputRead} → x ≡ takes s line r path boot reply → x ≡ takesOn s line r path boot reply
   unfolding takesOn
   line-on h x = x ∙ sym (choose-yes _ _ (sym e ∙ h))
 
-  pub line-off : g ≡ false → read s path boot reply ≡ takesOn s line r path boot reply
+  pub line-off : g ≡ false → inputRead s path boot reply ≡ takesOn s line r path boot reply
   unfolding takesOn
   line-off h = sym (choose-no _ _ (sym e ∙ h))
 
-pub reply-key : (s : Script) (line : List ℕ) {b : Bool} → b ≡ isReply s line → b ≡ true → hasKey replyKey line ≡ true
+pub reply-key : (s : Script) (line : List ℕ) {b : Bool} → b ≡ isReply s line → b ≡ true → lineHasKey replyKey line ≡ true
 unfolding isReply
-reply-key s line e h = and-right (isStatus (s .last)) (hasKey replyKey line) (sym e ∙ h)
+reply-key s line e h = and-right (isStatus (s .last)) (lineHasKey replyKey line) (sym e ∙ h)
 
 -- a line that is kept whole
 module _ (s : Script) (line path boot : List ℕ) {l : Last} (h : s .last ≡ l) where
@@ -169,15 +169,15 @@ module _ (s : Script) (line path boot : List ℕ) {l : Last} (h : s .last ≡ l)
 
 -- a line
 module _ (s : Script) (l : List ℕ) (r : Rest) (path boot reply : List ℕ) {b : Bool} (e : b ≡ isReply s l) where
-  pub line-reply : b ≡ true → {o : Script} {q : List ℕ} → taken o q ≡ takesReply s l r reply → read o path boot q ≡ takes s l r path boot reply
+  pub line-reply : b ≡ true → {o : Script} {q : List ℕ} → readInto o q ≡ takesReply s l r reply → inputRead o path boot q ≡ takes s l r path boot reply
   unfolding takes
-  line-reply h f = ap (λ (t : Taken). read (t .script) path boot (t .room)) f ∙ sym (choose-yes _ _ (sym e ∙ h))
+  line-reply h f = ap (λ (t : ReadInto). inputRead (t .script) path boot (t .room)) f ∙ sym (choose-yes _ _ (sym e ∙ h))
 
-  pub line-long : b ≡ false → {d : Bool} → d ≡ isWhole r → d ≡ false → {o : Script} → o ≡ after Other s → read o path boot reply ≡ takes s l r path boot reply
+  pub line-long : b ≡ false → {d : Bool} → d ≡ isWhole r → d ≡ false → {o : Script} → o ≡ after Other s → inputRead o path boot reply ≡ takes s l r path boot reply
   unfolding takes
-  line-long h g w f = ap (λ (x : Script). read x path boot reply) f ∙ sym (choose-no _ _ (sym e ∙ h) ∙ choose-no _ _ (sym g ∙ w))
+  line-long h g w f = ap (λ (x : Script). inputRead x path boot reply) f ∙ sym (choose-no _ _ (sym e ∙ h) ∙ choose-no _ _ (sym g ∙ w))
 
-  pub line-whole : b ≡ false → {d : Bool} → d ≡ isWhole r → d ≡ true → {o : Script} {p q : List ℕ} → wholeRead o p q ≡ takesAfter (s .last) s l path boot → read o p q reply ≡ takes s l r path boot reply
+  pub line-whole : b ≡ false → {d : Bool} → d ≡ isWhole r → d ≡ true → {o : Script} {p q : List ℕ} → wholeRead o p q ≡ takesAfter (s .last) s l path boot → inputRead o p q reply ≡ takes s l r path boot reply
   unfolding takes
   line-whole h g w f =
-      ap (λ (t : WholeRead). read (t .script) (t .path) (t .boot) reply) f ∙ sym (choose-no _ _ (sym e ∙ h) ∙ choose-yes _ _ (sym g ∙ w))
+      ap (λ (t : WholeRead). inputRead (t .script) (t .path) (t .boot) reply) f ∙ sym (choose-no _ _ (sym e ∙ h) ∙ choose-yes _ _ (sym g ∙ w))

@@ -18,13 +18,13 @@ use Rattle.laws.proofs.Orders.{told, lt-or-le}
 use Rattle.laws.proofs.Tests.{both-ways}
 use Rattle.laws.proofs.Every.{every-append}
 use Rattle.laws.proofs.Parts.{take-part}
-use Rattle.lines.specs.Lines.{valueOf, hasKey}
+use Rattle.lines.specs.Lines.{valueOf, lineHasKey}
 use Rattle.lines.proofs.LineLaws.{key-fits}
-use Rattle.hexes.specs.Hexes.{isHex, hexNumber, bytesOf}
+use Rattle.hexes.specs.Hexes.{isHex, hexNumber, hexBytes}
 use Rattle.hexes.specs.Held.{oneMore, nextRest, restFrom}
 use Rattle.hexes.specs.declared.Rest.{Rest}
 use Rattle.hexes.specs.declared.Rest.the-variants.{None, Even, Odd, Other}
-use Rattle.script.specs.Script.{replyKey, after, withReply, Taken, taken, isStatus, isReply, wholeBytes, takesReply, read, takesAfter, isWhole, takes, lineTaken}
+use Rattle.script.specs.Script.{replyKey, after, withReply, ReadInto, readInto, isStatus, isReply, wholeBytes, takesReply, inputRead, takesAfter, isWhole, takes, lineTaken}
 use Rattle.script.specs.declared.Last.the-variants as last
 use Rattle.script.specs.declared.Script.{Script}
 
@@ -106,8 +106,8 @@ module _ (most : ℕ) (line : List ℕ) where
   unfolding restFrom
   whole-long h = rw (drop-cons line most 0 h) (some-stays (nextRest None (getD line most 0)) (drop (suc most) line) (next-some None (getD line most 0)))
 
-  key-kept : 6 ≤ most → hasKey replyKey (take most line) ≡ hasKey replyKey line
-  unfolding hasKey part
+  key-kept : 6 ≤ most → lineHasKey replyKey (take most line) ≡ lineHasKey replyKey line
+  unfolding lineHasKey part
   key-kept h = ap (sameList replyKey) (take-part 6 0 most line ∙ ap (λ (n : ℕ). take n line) (let z : min most 6 ≡ 6 = omega arith in z))
 
   pub reply-kept : (s : Script) → 6 ≤ most → isReply s (take most line) ≡ isReply s line
@@ -119,15 +119,15 @@ module _ (most : ℕ) (line : List ℕ) where
   value-kept h l =
       ap (drop 6) (sym (take-append-drop most line)) ∙ drop-append-le 6 (take most line) (drop most line) (simp length-take (omega arith))
 
-bytes-first : (n : ℕ) (a b : List ℕ) → n + n ≤ length a → take n (bytesOf (a ++ b)) ≡ take n (bytesOf a)
-unfolding bytesOf
+bytes-first : (n : ℕ) (a b : List ℕ) → n + n ≤ length a → take n (hexBytes (a ++ b)) ≡ take n (hexBytes a)
+unfolding hexBytes
 bytes-first zero a b h = refl
 bytes-first (suc n) [] b h = absurd (omega arith)
 bytes-first (suc n) (x ∷ []) b h = absurd (omega arith)
 bytes-first (suc n) (x ∷ y ∷ a) b h = ap (λ (l : List ℕ). hexNumber (x ∷ y ∷ []) ∷ l) (bytes-first n a b (omega arith))
 
-all-first : (n : ℕ) (a b : List ℕ) → (b ≡ []) ⊎ (n + n ≤ length a) → take n (bytesOf (a ++ b)) ≡ take n (bytesOf a)
-all-first n a b (inl e) = ap (λ (l : List ℕ). take n (bytesOf l)) (ap (λ (l : List ℕ). a ++ l) e ∙ append-nil a)
+all-first : (n : ℕ) (a b : List ℕ) → (b ≡ []) ⊎ (n + n ≤ length a) → take n (hexBytes (a ++ b)) ≡ take n (hexBytes a)
+all-first n a b (inl e) = ap (λ (l : List ℕ). take n (hexBytes l)) (ap (λ (l : List ℕ). a ++ l) e ∙ append-nil a)
 all-first n a b (inr h) = bytes-first n a b h
 
 turned : (a b c : Bool) → ((a && b) && c) ≡ (a && (c && b))
@@ -146,10 +146,10 @@ module _ (s : Script) (v k d : List ℕ) (cut : v ≡ k ++ d) (room : List ℕ) 
       ∙ (ap (λ (n : ℕ). wholeBytes n None && (every isHex k && every isHex d)) (sym (length-append k d) ∙ sym (ap length cut))
       ∙ ap (λ (b : Bool). wholeBytes (length v) None && b) (sym (every-append isHex k d) ∙ sym (ap (every isHex) cut))))
 
-  bytes : (d ≡ []) ⊎ (length room + length room ≤ length k) → take (length room) (bytesOf k) ≡ take (length room) (bytesOf v)
-  bytes h = sym (ap (λ (l : List ℕ). take (length room) (bytesOf l)) cut ∙ all-first (length room) k d h)
+  bytes : (d ≡ []) ⊎ (length room + length room ≤ length k) → take (length room) (hexBytes k) ≡ take (length room) (hexBytes v)
+  bytes h = sym (ap (λ (l : List ℕ). take (length room) (hexBytes l)) cut ∙ all-first (length room) k d h)
 
-module _ (s : Script) (most : ℕ) (line room : List ℕ) (enough : 6 + (length room + length room) ≤ most) (key : hasKey replyKey line ≡ true) where
+module _ (s : Script) (most : ℕ) (line room : List ℕ) (enough : 6 + (length room + length room) ≤ most) (key : lineHasKey replyKey line ≡ true) where
   cut : valueOf replyKey line ≡ valueOf replyKey (take most line) ++ drop most line
   cut = value-kept most line (omega arith) (key-fits replyKey line refl key)
 
@@ -165,15 +165,15 @@ module _ (s : Script) (most : ℕ) (line room : List ℕ) (enough : 6 + (length 
   unfolding takesReply
   reply-held =
       ap
-      (λ (b : Bool). choose b (taken (after last.Reply (withReply (length (take (length room) (bytesOf (valueOf replyKey (take most line))))) s)) (pasted room 0 (take (length room) (bytesOf (valueOf replyKey (take most line)))))) (taken (after last.Other s) room))
+      (λ (b : Bool). choose b (readInto (after last.Reply (withReply (length (take (length room) (hexBytes (valueOf replyKey (take most line))))) s)) (pasted room 0 (take (length room) (hexBytes (valueOf replyKey (take most line)))))) (readInto (after last.Other s) room))
       (tests s (valueOf replyKey line) (valueOf replyKey (take most line)) (drop most line) cut room)
       ∙ ap
-      (λ (l : List ℕ). choose (wholeBytes (length (valueOf replyKey line)) None && every isHex (valueOf replyKey line)) (taken (after last.Reply (withReply (length l) s)) (pasted room 0 l)) (taken (after last.Other s) room))
+      (λ (l : List ℕ). choose (wholeBytes (length (valueOf replyKey line)) None && every isHex (valueOf replyKey line)) (readInto (after last.Reply (withReply (length l) s)) (pasted room 0 l)) (readInto (after last.Other s) room))
       (bytes s (valueOf replyKey line) (valueOf replyKey (take most line)) (drop most line) cut room few-or-many)
 
-key-of : (s : Script) (line : List ℕ) → isReply s line ≡ true → hasKey replyKey line ≡ true
+key-of : (s : Script) (line : List ℕ) → isReply s line ≡ true → lineHasKey replyKey line ≡ true
 unfolding isReply
-key-of s line h = and-right (isStatus (s .last)) (hasKey replyKey line) h
+key-of s line h = and-right (isStatus (s .last)) (lineHasKey replyKey line) h
 
 -- a line
 module _ (s : Script) (most : ℕ) (line path boot reply : List ℕ) (enough : 6 + (length reply + length reply) ≤ most) where
@@ -181,14 +181,14 @@ module _ (s : Script) (most : ℕ) (line path boot reply : List ℕ) (enough : 6
   unfolding takes lineTaken
   as-reply h =
       choose-yes _ _ (reply-kept most line s (omega arith) ∙ h)
-      ∙ (ap (λ (t : Taken). read (t .script) path boot (t .room)) (reply-held s most line reply enough (key-of s line h)) ∙ sym (choose-yes _ _ h))
+      ∙ (ap (λ (t : ReadInto). inputRead (t .script) path boot (t .room)) (reply-held s most line reply enough (key-of s line h)) ∙ sym (choose-yes _ _ h))
 
   as-short : isReply s line ≡ false → length line ≤ most → takes s (take most line) (restFrom None (drop most line)) path boot reply ≡ lineTaken most s line path boot reply
   unfolding takes lineTaken
   as-short h l =
       choose-no _ _ (reply-kept most line s (omega arith) ∙ h)
       ∙ (choose-yes _ _ (whole-short most line l)
-      ∙ (ap (λ (x : List ℕ). read (takesAfter (s .last) s x path boot .script) (takesAfter (s .last) s x path boot .path) (takesAfter (s .last) s x path boot .boot) reply) (take-all most line l)
+      ∙ (ap (λ (x : List ℕ). inputRead (takesAfter (s .last) s x path boot .script) (takesAfter (s .last) s x path boot .path) (takesAfter (s .last) s x path boot .boot) reply) (take-all most line l)
       ∙ sym (choose-no _ _ h ∙ choose-yes _ _ (le-leb (length line) most l))))
 
   as-long : isReply s line ≡ false → most < length line → takes s (take most line) (restFrom None (drop most line)) path boot reply ≡ lineTaken most s line path boot reply

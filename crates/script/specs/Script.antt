@@ -12,8 +12,8 @@ use Rattle.unspelling.specs.declared.Spelled.{Spelled}
 use Rattle.unspelling.specs.declared.Spelled.the-variants.{Bad, Units}
 use Rattle.unspelling.specs.declared.Number.{Number}
 use Rattle.unspelling.specs.declared.Number.the-variants.{None, Value}
-use Rattle.lines.specs.Lines.{valueOf, hasKey, numberSaid}
-use Rattle.hexes.specs.Hexes.{isHex, hexNumber, bytesOf}
+use Rattle.lines.specs.Lines.{valueOf, lineHasKey, numberSaid}
+use Rattle.hexes.specs.Hexes.{isHex, hexNumber, hexBytes}
 use Rattle.hexes.specs.declared.Held.{Held}
 use Rattle.hexes.specs.declared.Rest.{Rest}
 use Rattle.hexes.specs.declared.Rest.the-variants as rest
@@ -54,8 +54,8 @@ abbrev pub replyKey : List ℕ
 replyKey = 114 ∷ 101 ∷ 112 ∷ 108 ∷ 121 ∷ 61 ∷ []
 
 -- what was read, when nothing was
-unfoldable pub begun : Script
-begun = record { last = Nothing; path = 0; limit = 0; size = 0; clock = 0; boot = 0; status = 0; reply = 0 }
+unfoldable pub nothingRead : Script
+nothingRead = record { last = Nothing; path = 0; limit = 0; size = 0; clock = 0; boot = 0; status = 0; reply = 0 }
 
 -- a further line was read; `Other`: it was not of the form
 unfoldable pub after : Last → Script → Script
@@ -63,8 +63,8 @@ after l s =
     record { last = l; path = s .path; limit = s .limit; size = s .size; clock = s .clock; boot = s .boot; status = s .status; reply = s .reply }
 
 -- what was read, with one thing more
-unfoldable pub withPath : ℕ → Script → Script
-withPath n s =
+unfoldable pub withPathUnits : ℕ → Script → Script
+withPathUnits n s =
     record { last = s .last; path = n; limit = s .limit; size = s .size; clock = s .clock; boot = s .boot; status = s .status; reply = s .reply }
 
 unfoldable pub withLimit : ℕ → Script → Script
@@ -92,16 +92,16 @@ withReply n s =
     record { last = s .last; path = s .path; limit = s .limit; size = s .size; clock = s .clock; boot = s .boot; status = s .status; reply = n }
 
 -- what was read, and the lent memory that it went into
-pub record Taken : Type 0 where
+pub record ReadInto : Type 0 where
   pub script : Script
   pub room : List ℕ
 
-abbrev pub taken : Script → List ℕ → Taken
-taken s room = record { script = s; room = room }
+abbrev pub readInto : Script → List ℕ → ReadInto
+readInto s room = record { script = s; room = room }
 
 -- "Paths are spelled as in the listing": a line of this key whose text fits the memory lent for it
 unfoldable pub isText : List ℕ → List ℕ → ℕ → Bool
-isText key line room = hasKey key line && (isSpelled (valueOf key line) && leb (length (unspelled (valueOf key line))) room)
+isText key line room = lineHasKey key line && (isSpelled (valueOf key line) && leb (length (unspelled (valueOf key line))) room)
 
 unfoldable pub textSaid : List ℕ → List ℕ → List ℕ
 textSaid key line = unspelled (valueOf key line)
@@ -117,17 +117,17 @@ unfoldable pub textTaken : List ℕ → List ℕ → List ℕ → TextRead
 textTaken key line room =
     choose (isText key line (length room)) (textRead (Units (length (textSaid key line))) (pasted room 0 (textSaid key line))) (textRead Bad room)
 
-unfoldable pub textOrOther : Script → (ℕ → Script) → TextRead → Taken
+unfoldable pub textOrOther : Script → (ℕ → Script) → TextRead → ReadInto
 textOrOther s f t = by (t .said)
   where
-    by : Spelled → Taken
-    by Bad = taken (after Other s) (t .room)
-    by (Units n) = taken (f n) (t .room)
+    by : Spelled → ReadInto
+    by Bad = readInto (after Other s) (t .room)
+    by (Units n) = readInto (f n) (t .room)
 
-unfoldable pub takesPath : Script → List ℕ → List ℕ → Taken
-takesPath s line room = textOrOther s (λ n. after Path (withPath n s)) (textTaken pathKey line room)
+unfoldable pub takesPath : Script → List ℕ → List ℕ → ReadInto
+takesPath s line room = textOrOther s (λ n. after Path (withPathUnits n s)) (textTaken pathKey line room)
 
-unfoldable pub takesBoot : Script → List ℕ → List ℕ → Taken
+unfoldable pub takesBoot : Script → List ℕ → List ℕ → ReadInto
 takesBoot s line room = textOrOther s (λ n. after Boot (withBoot n s)) (textTaken bootKey line room)
 
 -- numbers are decimal, "without leading zeros", of 32 bits
@@ -147,7 +147,7 @@ takesClock l s line = orOther s (λ n. after l (withClock n s)) (numberSaid nowK
 -- "status= has exactly 8" hex digits
 unfoldable pub statusSaid : List ℕ → Number
 statusSaid line =
-    choose (hasKey statusKey line && (eqb (length (valueOf statusKey line)) 8 && every isHex (valueOf statusKey line)))
+    choose (lineHasKey statusKey line && (eqb (length (valueOf statusKey line)) 8 && every isHex (valueOf statusKey line)))
     (Value (hexNumber (valueOf statusKey line)))
     None
 
@@ -156,7 +156,7 @@ takesStatus s line = orOther s (λ n. after Status (withStatus n s)) (statusSaid
 
 -- an answer begins with "now= first where it changed", or with its status
 unfoldable pub takesAnswer : Script → List ℕ → Script
-takesAnswer s line = choose (hasKey nowKey line) (takesClock Clock s line) (takesStatus s line)
+takesAnswer s line = choose (lineHasKey nowKey line) (takesClock Clock s line) (takesStatus s line)
 
 -- the line is the reply of the status that was read last
 unfoldable pub isStatus : Last → Bool
@@ -173,7 +173,7 @@ isStatus Other = false
 isStatus Stopped = false
 
 unfoldable pub isReply : Script → List ℕ → Bool
-isReply s line = isStatus (s .last) && hasKey replyKey line
+isReply s line = isStatus (s .last) && lineHasKey replyKey line
 
 -- "reply= an even number" of hex digits: n of those that are kept, and the rest
 unfoldable pub wholeBytes : ℕ → Rest → Bool
@@ -183,21 +183,21 @@ wholeBytes n rest.Odd = eqb (n % 2) 1
 wholeBytes n rest.Other = false
 
 -- the bytes of a reply, as many as the memory lent for them holds
-unfoldable pub takesReply : Script → List ℕ → Rest → List ℕ → Taken
+unfoldable pub takesReply : Script → List ℕ → Rest → List ℕ → ReadInto
 takesReply s line r room =
     choose (wholeBytes (length (valueOf replyKey line)) r && every isHex (valueOf replyKey line))
-    (taken (after Reply (withReply (length (take (length room) (bytesOf (valueOf replyKey line)))) s)) (pasted room 0 (take (length room) (bytesOf (valueOf replyKey line)))))
-    (taken (after Other s) room)
+    (readInto (after Reply (withReply (length (take (length room) (hexBytes (valueOf replyKey line)))) s)) (pasted room 0 (take (length room) (hexBytes (valueOf replyKey line)))))
+    (readInto (after Other s) room)
 
 -- what was read, and all memory that it goes into
-pub record Read : Type 0 where
+pub record InputRead : Type 0 where
   pub script : Script
   pub path : List ℕ
   pub boot : List ℕ
   pub reply : List ℕ
 
-abbrev pub read : Script → List ℕ → List ℕ → List ℕ → Read
-read s path boot reply = record { script = s; path = path; boot = boot; reply = reply }
+abbrev pub inputRead : Script → List ℕ → List ℕ → List ℕ → InputRead
+inputRead s path boot reply = record { script = s; path = path; boot = boot; reply = reply }
 
 -- what a line that is kept whole changes
 pub record WholeRead : Type 0 where
@@ -229,21 +229,21 @@ isWhole rest.Odd = false
 isWhole rest.Other = false
 
 -- a line: the bytes that are kept, and the rest. Only a reply may be longer than the memory for a line.
-unfoldable pub takes : Script → List ℕ → Rest → List ℕ → List ℕ → List ℕ → Read
+unfoldable pub takes : Script → List ℕ → Rest → List ℕ → List ℕ → List ℕ → InputRead
 takes s line r path boot reply =
-    choose (isReply s line) (read (takesReply s line r reply .script) path boot (takesReply s line r reply .room))
+    choose (isReply s line) (inputRead (takesReply s line r reply .script) path boot (takesReply s line r reply .room))
     (choose (isWhole r)
-    (read (takesAfter (s .last) s line path boot .script) (takesAfter (s .last) s line path boot .path) (takesAfter (s .last) s line path boot .boot) reply)
-    (read (after Other s) path boot reply))
+    (inputRead (takesAfter (s .last) s line path boot .script) (takesAfter (s .last) s line path boot .path) (takesAfter (s .last) s line path boot .boot) reply)
+    (inputRead (after Other s) path boot reply))
 
 -- A whole line of any length, where the first `most` bytes are kept: a reply is read to its end, any other line may have no more bytes than these. Theorem
 -- `line-taken`: this is what `takes` makes of the kept bytes and the rest.
-unfoldable pub lineTaken : ℕ → Script → List ℕ → List ℕ → List ℕ → List ℕ → Read
+unfoldable pub lineTaken : ℕ → Script → List ℕ → List ℕ → List ℕ → List ℕ → InputRead
 lineTaken most s line path boot reply =
-    choose (isReply s line) (read (takesReply s line rest.None reply .script) path boot (takesReply s line rest.None reply .room))
+    choose (isReply s line) (inputRead (takesReply s line rest.None reply .script) path boot (takesReply s line rest.None reply .room))
     (choose (leb (length line) most)
-    (read (takesAfter (s .last) s line path boot .script) (takesAfter (s .last) s line path boot .path) (takesAfter (s .last) s line path boot .boot) reply)
-    (read (after Other s) path boot reply))
+    (inputRead (takesAfter (s .last) s line path boot .script) (takesAfter (s .last) s line path boot .path) (takesAfter (s .last) s line path boot .boot) reply)
+    (inputRead (after Other s) path boot reply))
 
 -- the bytes that are kept
 unfoldable pub keptOf : List ℕ → Held → List ℕ
@@ -264,19 +264,19 @@ goesOn Other = true
 goesOn Stopped = false
 
 -- no line is read once it has stopped
-unfoldable pub takesOn : Script → List ℕ → Rest → List ℕ → List ℕ → List ℕ → Read
-takesOn s line r path boot reply = choose (goesOn (s .last)) (takes s line r path boot reply) (read s path boot reply)
+unfoldable pub takesOn : Script → List ℕ → Rest → List ℕ → List ℕ → List ℕ → InputRead
+takesOn s line r path boot reply = choose (goesOn (s .last)) (takes s line r path boot reply) (inputRead s path boot reply)
 
 -- what comes of the input: a part of a line, which waits for the rest; a line; or the end, which stops the program
-unfoldable pub comes : Input → Script → List ℕ → Rest → List ℕ → List ℕ → List ℕ → Read
-comes Part s line r path boot reply = read s path boot reply
-comes Line s line r path boot reply = takesOn s line r path boot reply
-comes End s line r path boot reply = read (after Stopped s) path boot reply
+unfoldable pub inputTaken : Input → Script → List ℕ → Rest → List ℕ → List ℕ → List ℕ → InputRead
+inputTaken Part s line r path boot reply = inputRead s path boot reply
+inputTaken Line s line r path boot reply = takesOn s line r path boot reply
+inputTaken End s line r path boot reply = inputRead (after Stopped s) path boot reply
 
 -- Which call is due before what has come is read. "With reply= it is a referral's answer, without an I/O answer": a status that the line does not go on
 -- with a reply was an answer to an I/O try.
 unfoldable pub lineDue : Script → List ℕ → Due
-lineDue s line = choose (isStatus (s .last) && not (hasKey replyKey line)) due.Io due.None
+lineDue s line = choose (isStatus (s .last) && not (lineHasKey replyKey line)) due.Io due.None
 
 -- So was the last status of the input. The input may end there, after the settings or after a reply; else it is not of the form.
 unfoldable pub endDue : Last → Due

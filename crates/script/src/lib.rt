@@ -1,8 +1,8 @@
 // The input of the program `walk`: a line of bytes to a setting or an answer. Document 01, "Examples to hold it to".
 ghost use mathlib.Core.Path.{_≡_};
 ghost use mathlib.Core.Bool.{true};
-ghost use Rattle.lines.specs.Lines.{hasKey};
-ghost use Rattle.script.specs.Script.{begun, after, taken, takesPath, takesBoot, takesLimit, takesSize, takesClock};
+ghost use Rattle.lines.specs.Lines.{lineHasKey};
+ghost use Rattle.script.specs.Script.{nothingRead, after, readInto, takesPath, takesBoot, takesLimit, takesSize, takesClock};
 ghost use Rattle.script.specs.Script.{replyKey, statusSaid, takesStatus, wholeBytes, takesReply};
 ghost use Rattle.script.specs.Script.{textRead, textTaken};
 use hexes::Rest;
@@ -73,7 +73,7 @@ pub enum Due {
 }
 
 pub fn begin() -> Script
-    ensures { λ r. ⌜ r ≡ begun ⌝ }
+    ensures { λ r. ⌜ r ≡ nothingRead ⌝ }
 {
     Script {
         last: Last::Nothing,
@@ -149,7 +149,7 @@ fn whole_bytes(n: usize, rest: Rest) -> bool
 }
 
 pub fn take_path(s: Script, line: &[u16], path: &mut [u16]) -> Script
-    ensures { λ r. ⌜ taken r (now (path .exit)) ≡ takesPath s (now (line .entry)) (now (path .entry)) ⌝ }
+    ensures { λ r. ⌜ readInto r (now (path .exit)) ≡ takesPath s (now (line .entry)) (now (path .entry)) ⌝ }
 {
     let key = PATH;
     let Spelled::Units(n) = text_line(&key, line, path) else {
@@ -161,7 +161,7 @@ pub fn take_path(s: Script, line: &[u16], path: &mut [u16]) -> Script
 }
 
 pub fn take_boot(s: Script, line: &[u16], boot: &mut [u16]) -> Script
-    ensures { λ r. ⌜ taken r (now (boot .exit)) ≡ takesBoot s (now (line .entry)) (now (boot .entry)) ⌝ }
+    ensures { λ r. ⌜ readInto r (now (boot .exit)) ≡ takesBoot s (now (line .entry)) (now (boot .entry)) ⌝ }
 {
     let key = BOOT;
     let Spelled::Units(n) = text_line(&key, line, boot) else {
@@ -221,8 +221,8 @@ pub fn take_status(s: Script, line: &[u16]) -> Script
 }
 
 pub fn take_reply(s: Script, line: &[u16], rest: Rest, reply: &mut [u8]) -> Script
-    requires { ⌜ hasKey replyKey (now line) ≡ true ⌝ }
-    ensures { λ r. ⌜ taken r (now (reply .exit)) ≡ takesReply s (now (line .entry)) rest (now (reply .entry)) ⌝ }
+    requires { ⌜ lineHasKey replyKey (now line) ≡ true ⌝ }
+    ensures { λ r. ⌜ readInto r (now (reply .exit)) ≡ takesReply s (now (line .entry)) rest (now (reply .entry)) ⌝ }
 {
     let digits = &line[6..];
     if !whole_bytes(digits.len(), rest) {

@@ -1,7 +1,7 @@
 // The lines of the input of `walk` in their order: which may follow which, and where the input may end.
 ghost use mathlib.Core.Path.{_≡_};
-ghost use Rattle.script.specs.Script.{takesAnswer, isStatus, isReply, read, takesAfter, isWhole, takes, keptOf};
-ghost use Rattle.script.specs.Script.{wholeRead, takesOn, comes, lineDue, endDue, dueBefore, readDue, dueAfter, goesOn};
+ghost use Rattle.script.specs.Script.{takesAnswer, isStatus, isReply, inputRead, takesAfter, isWhole, takes, keptOf};
+ghost use Rattle.script.specs.Script.{wholeRead, takesOn, inputTaken, lineDue, endDue, dueBefore, readDue, dueAfter, goesOn};
 use hexes::Held;
 use hexes::Rest;
 use script::Due;
@@ -94,7 +94,7 @@ fn take_line(
     boot: &mut [u16],
     reply: &mut [u8],
 ) -> Script
-    ensures { λ r. ⌜ read r (now (path .exit)) (now (boot .exit)) (now (reply .exit)) ≡ takes s (keptOf (now (line .entry)) held) (held .rest) (now (path .entry)) (now (boot .entry)) (now (reply .entry)) ⌝ }
+    ensures { λ r. ⌜ inputRead r (now (path .exit)) (now (boot .exit)) (now (reply .exit)) ≡ takes s (keptOf (now (line .entry)) held) (held .rest) (now (path .entry)) (now (boot .entry)) (now (reply .entry)) ⌝ }
 {
     let n = rooms::least(held.kept, line.len());
     let rest = held.rest;
@@ -135,7 +135,7 @@ fn take_on(
     boot: &mut [u16],
     reply: &mut [u8],
 ) -> Script
-    ensures { λ r. ⌜ read r (now (path .exit)) (now (boot .exit)) (now (reply .exit)) ≡ takesOn s (keptOf (now (line .entry)) held) (held .rest) (now (path .entry)) (now (boot .entry)) (now (reply .entry)) ⌝ }
+    ensures { λ r. ⌜ inputRead r (now (path .exit)) (now (boot .exit)) (now (reply .exit)) ≡ takesOn s (keptOf (now (line .entry)) held) (held .rest) (now (path .entry)) (now (boot .entry)) (now (reply .entry)) ⌝ }
 {
     if !goes_on(s) {
         return s;
@@ -153,7 +153,7 @@ pub fn take(
     boot: &mut [u16],
     reply: &mut [u8],
 ) -> Script
-    ensures { λ r. ⌜ read r (now (path .exit)) (now (boot .exit)) (now (reply .exit)) ≡ comes input s (keptOf (now (line .entry)) held) (held .rest) (now (path .entry)) (now (boot .entry)) (now (reply .entry)) ⌝ }
+    ensures { λ r. ⌜ inputRead r (now (path .exit)) (now (boot .exit)) (now (reply .exit)) ≡ inputTaken input s (keptOf (now (line .entry)) held) (held .rest) (now (path .entry)) (now (boot .entry)) (now (reply .entry)) ⌝ }
 {
     match input {
         Input::Part => s,

@@ -46,7 +46,7 @@ use Rattle.walks.proofs.FormLaws.{Formed, form-told, Waiting, waiting-told, lin
 use Rattle.packing.specs.Packing.{kindNumber}
 use Rattle.turns.specs.Turns.{coreIn}
 use Rattle.resolve.specs.Calls.{restIn, restAt}
-use Rattle.shown.specs.Shown.{Given, given, shows, showsSome, dcOf, targetOf, rootParty, partyOf, partyText, Asked, questionShown, endPath, endShown}
+use Rattle.shown.specs.Shown.{Given, given, shows, showsSome, dcAtPlace, targetAtPlace, rootParty, partyOf, partyText, Showable, questionShown, endPath, endShown}
 use Rattle.shown.specs.Shown.{partyAt, partyCall, nameAt, nameCall, pathAt, pathCall, questionAt, questionCall, endAt, endCall}
 use Rattle.shown.specs.declared.Shown.the-variants.{Units, NotInOrder, OutOfForm, ShortBuffer, NoEntry}
 
@@ -77,9 +77,9 @@ module _ (path doms : List ℕ) (place : ℕ) (out : List ℕ) {name : List ℕ}
   named-found : f ≡ withKey domains (getD (components path) 0 []) (decode domains doms)
   named-found = place-named path doms n e
 
-  pub dc-gone : f ≡ Nothing → given NoEntry out ≡ showsSome (dcOf place (domainNamed (getD (components path) 0 []) (decode domains doms))) out
-  unfolding showsSome dcOf domainNamed
-  dc-gone h = ap (λ (d : Option Domain). showsSome (dcOf place d) out) (sym (none-held (decode domains doms) (sym named-found ∙ h)))
+  pub dc-gone : f ≡ Nothing → given NoEntry out ≡ showsSome (dcAtPlace place (domainNamed (getD (components path) 0 []) (decode domains doms))) out
+  unfolding showsSome dcAtPlace domainNamed
+  dc-gone h = ap (λ (d : Option Domain). showsSome (dcAtPlace place d) out) (sym (none-held (decode domains doms) (sym named-found ∙ h)))
 
   module _ (i : ℕ) (h : f ≡ At i) where
     pub dc-fits : place < dcsNamed path doms → (i < length doms / 2336) × (place < length (entryAt domains i doms .dcs))
@@ -93,17 +93,17 @@ module _ (path doms : List ℕ) (place : ℕ) (out : List ℕ) {name : List ℕ}
         omega (arith, ap length g, text-short (1 + place) (placeAt i doms))
 
     pub dc-put : {g : Given} {t : List ℕ} → t ≡ dcName place (entryAt domains i doms) → g ≡ shows t out
-        → g ≡ showsSome (dcOf place (domainNamed (getD (components path) 0 []) (decode domains doms))) out
-    unfolding showsSome dcOf domainNamed
+        → g ≡ showsSome (dcAtPlace place (domainNamed (getD (components path) 0 []) (decode domains doms))) out
+    unfolding showsSome dcAtPlace domainNamed
     dc-put k g =
         shows-as out g k
-        ∙ ap (λ (d : Option Domain). showsSome (dcOf place d) out) (sym (key-held domains (getD (components path) 0 []) doms i (sym named-found ∙ h)))
+        ∙ ap (λ (d : Option Domain). showsSome (dcAtPlace place d) out) (sym (key-held domains (getD (components path) 0 []) doms i (sym named-found ∙ h)))
 
 -- a target of the entry of a prefix
 module _ (prefix refs : List ℕ) (place : ℕ) (out : List ℕ) {f : Found} (e : f ≡ withKey referrals prefix (decode referrals refs)) where
-  pub target-gone : f ≡ Nothing → given NoEntry out ≡ showsSome (targetOf place (prefixed prefix (decode referrals refs))) out
-  unfolding showsSome targetOf prefixed
-  target-gone h = ap (λ (d : Option Referral). showsSome (targetOf place d) out) (sym (none-held (decode referrals refs) (sym e ∙ h)))
+  pub target-gone : f ≡ Nothing → given NoEntry out ≡ showsSome (targetAtPlace place (prefixed prefix (decode referrals refs))) out
+  unfolding showsSome targetAtPlace prefixed
+  target-gone h = ap (λ (d : Option Referral). showsSome (targetAtPlace place d) out) (sym (none-held (decode referrals refs) (sym e ∙ h)))
 
   module _ (i : ℕ) (h : f ≡ At i) where
     pub target-fits : place < targetsUnder prefix refs → (i < length refs / 2336) × (place < length (entryAt referrals i refs .targets))
@@ -117,11 +117,11 @@ module _ (prefix refs : List ℕ) (place : ℕ) (out : List ℕ) {f : Found} (e 
         omega (arith, ap length g, text-short (1 + place) (placeAt i refs))
 
     pub target-put : {g : Given} {t : List ℕ} → t ≡ targetPath place (entryAt referrals i refs) → g ≡ shows t out
-        → g ≡ showsSome (targetOf place (prefixed prefix (decode referrals refs))) out
-    unfolding showsSome targetOf prefixed
+        → g ≡ showsSome (targetAtPlace place (prefixed prefix (decode referrals refs))) out
+    unfolding showsSome targetAtPlace prefixed
     target-put k g =
         shows-as out g k
-        ∙ ap (λ (d : Option Referral). showsSome (targetOf place d) out) (sym (key-held referrals prefix refs i (sym e ∙ h)))
+        ∙ ap (λ (d : Option Referral). showsSome (targetAtPlace place d) out) (sym (key-held referrals prefix refs i (sym e ∙ h)))
 
 -- the host
 pub host-short : (path : List ℕ) {t : List ℕ} → goodPrefix path ≡ true → t ≡ getD (components path) 0 [] → length t ≤ 256
@@ -136,7 +136,7 @@ module _ (entry place : ℕ) (path doms out : List ℕ) {g : Given} where
   unfolding rootParty showsSome
   root-host h e k = shows-as out k e ∙ ap (λ (t : Option (List ℕ)). showsSome t out) (sym (choose-yes _ _ (eq-eqb entry 0 h)))
 
-  pub root-dc : (entry ≡ 0 → ⊥) → g ≡ showsSome (dcOf place (domainNamed (getD (components path) 0 []) (decode domains doms))) out
+  pub root-dc : (entry ≡ 0 → ⊥) → g ≡ showsSome (dcAtPlace place (domainNamed (getD (components path) 0 []) (decode domains doms))) out
       → g ≡ showsSome (rootParty entry place path doms) out
   unfolding rootParty
   root-dc h k = some-as out k (sym (choose-no _ _ (ne-eqb entry 0 h)))
@@ -162,23 +162,23 @@ module _ (refs doms path boot : List ℕ) (q : Asking) where
     unfolding partyBy partyOf rootParty domainInUse cachesOf
     party-root k e = some-as out e (kinded k)
 
-    pub party-sysvol : q .kind ≡ Sysvol → g ≡ showsSome (dcOf (q .party) (domainNamed (getD (components path) 0 []) (decode domains doms))) out
+    pub party-sysvol : q .kind ≡ Sysvol → g ≡ showsSome (dcAtPlace (q .party) (domainNamed (getD (components path) 0 []) (decode domains doms))) out
         → g ≡ showsSome (partyOf (cachesOf refs doms) (coreOf path 0 true) boot (questionOf q [])) out
     unfolding partyBy partyOf domainInUse cachesOf
     party-sysvol k e = some-as out e (kinded k)
 
-    pub party-link : q .kind ≡ Link → g ≡ showsSome (targetOf (q .party) (prefixed (take (q .entry) path) (decode referrals refs))) out
+    pub party-link : q .kind ≡ Link → g ≡ showsSome (targetAtPlace (q .party) (prefixed (take (q .entry) path) (decode referrals refs))) out
         → g ≡ showsSome (partyOf (cachesOf refs doms) (coreOf path 0 true) boot (questionOf q [])) out
     unfolding partyBy partyOf referralInUse cachesOf
     party-link k e = some-as out e (kinded k)
 
-    pub party-io : q .kind ≡ Io → g ≡ showsSome (targetOf (q .party) (prefixed (take (q .entry) path) (decode referrals refs))) out
+    pub party-io : q .kind ≡ Io → g ≡ showsSome (targetAtPlace (q .party) (prefixed (take (q .entry) path) (decode referrals refs))) out
         → g ≡ showsSome (partyOf (cachesOf refs doms) (coreOf path 0 true) boot (questionOf q [])) out
     unfolding partyBy partyOf referralInUse cachesOf
     party-io k e = some-as out e (kinded k)
 
   -- a question whose entry in use is there has its party
-  module _ (a : Asked refs doms path boot q) where
+  module _ (a : Showable refs doms path boot q) where
     in-round : {n : ℕ} → inRound n (q .party) (q .began) ≡ inUse (cachesOf refs doms) (coreOf path 0 true) (questionOf q []) → q .party < n
     unfolding inRound
     in-round {n} e = ltb-true (q .party) n (and-left _ _ (e ∙ a .there))

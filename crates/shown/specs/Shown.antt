@@ -39,18 +39,18 @@ shownNumber ShortBuffer = 10
 shownNumber NoEntry = 27
 
 -- the DC and the target at a place of their entry
-unfoldable pub dcOf : ℕ → Option Domain → Option (List ℕ)
-dcOf place none = none
-dcOf place (some d) = some (dcName place d)
+unfoldable pub dcAtPlace : ℕ → Option Domain → Option (List ℕ)
+dcAtPlace place none = none
+dcAtPlace place (some d) = some (dcName place d)
 
-unfoldable pub targetOf : ℕ → Option Referral → Option (List ℕ)
-targetOf place none = none
-targetOf place (some e) = some (targetPath place e)
+unfoldable pub targetAtPlace : ℕ → Option Referral → Option (List ℕ)
+targetAtPlace place none = none
+targetAtPlace place (some e) = some (targetPath place e)
 
 -- the party of a root request: the host, or a DC of the path's domain
 unfoldable pub rootParty : ℕ → ℕ → List ℕ → List ℕ → Option (List ℕ)
 rootParty entry place path doms =
-    choose (eqb entry 0) (some (getD (components path) 0 [])) (dcOf place (domainNamed (getD (components path) 0 []) (decode domains doms)))
+    choose (eqb entry 0) (some (getD (components path) 0 [])) (dcAtPlace place (domainNamed (getD (components path) 0 []) (decode domains doms)))
 
 -- The party: of a DC request the bootstrap DC; of a root request to a host the path's first component; of root requests through a domain and of
 -- SYSVOL requests the DC's name; of link requests and I/O tries the whole path of the target.
@@ -59,17 +59,17 @@ partyOf c w boot q = by (q .kind)
   where
     by : Kind → Option (List ℕ)
     by Dc = some boot
-    by Root = choose (eqb (q .entry) 0) (some (getD (components (w .path)) 0 [])) (dcOf (q .party) (domainInUse c w))
-    by Link = targetOf (q .party) (referralInUse c w q)
-    by Sysvol = dcOf (q .party) (domainInUse c w)
-    by Io = targetOf (q .party) (referralInUse c w q)
+    by Root = choose (eqb (q .entry) 0) (some (getD (components (w .path)) 0 [])) (dcAtPlace (q .party) (domainInUse c w))
+    by Link = targetAtPlace (q .party) (referralInUse c w q)
+    by Sysvol = dcAtPlace (q .party) (domainInUse c w)
+    by Io = targetAtPlace (q .party) (referralInUse c w q)
 
 -- and none by the test of end 27: the entry in use is gone, or has not both parties of the round
 unfoldable pub partyText : Caches → Core → List ℕ → Question → Option (List ℕ)
 partyText c w boot q = choose (inUse c w q) (partyOf c w boot q) none
 
 -- a question whose entry in use is there, and the bootstrap DC
-pub record Asked (refs doms path boot : List ℕ) (q : Asking) : Type 0 where
+pub record Showable (refs doms path boot : List ℕ) (q : Asking) : Type 0 where
   pub good : goodPrefix path ≡ true
   pub within : q .entry ≤ length path
   pub few : length boot ≤ 256

@@ -11,7 +11,7 @@ ghost use Rattle.storing.specs.Stored.{prefixed};
 ghost use Rattle.steps.specs.Steps.{domainNamed, nameAsked};
 ghost use Rattle.steps.specs.Rested.{cachesOf, coreOf};
 ghost use Rattle.rounds.specs.Rounds.{questionOf, dcsNamed, targetsUnder};
-ghost use Rattle.shown.specs.Shown.{given, shows, showsSome, dcOf, targetOf, rootParty, partyOf, partyText, Asked};
+ghost use Rattle.shown.specs.Shown.{given, shows, showsSome, dcAtPlace, targetAtPlace, rootParty, partyOf, partyText, Showable};
 ghost use Rattle.shown.specs.Shown.{partyCall, nameCall};
 use lookup::Found;
 use questions::Name;
@@ -56,7 +56,7 @@ pub fn put(text: &[u16], out: &mut [u16]) -> Shown
 // The name of a DC of the path's domain.
 fn put_dc(doms: &[u16], path: &[u16], party: u16, out: &mut [u16]) -> Shown
     requires { ⌜ (goodPrefix (now path) ≡ true) × (party < dcsNamed (now path) (now doms)) ⌝ }
-    ensures { λ r. ⌜ given r (now (out .exit)) ≡ showsSome (dcOf party (domainNamed (getD (components (now (path .entry))) 0 []) (decode domains (now (doms .entry))))) (now (out .entry)) ⌝ }
+    ensures { λ r. ⌜ given r (now (out .exit)) ≡ showsSome (dcAtPlace party (domainNamed (getD (components (now (path .entry))) 0 []) (decode domains (now (doms .entry))))) (now (out .entry)) ⌝ }
 {
     let Found::At(i) = lookup::find_domain(doms, steps::host(path)) else {
         return Shown::NoEntry;
@@ -67,7 +67,7 @@ fn put_dc(doms: &[u16], path: &[u16], party: u16, out: &mut [u16]) -> Shown
 // The path of a target of the entry of this prefix.
 fn put_target(refs: &[u16], prefix: &[u16], party: u16, out: &mut [u16]) -> Shown
     requires { ⌜ party < targetsUnder (now prefix) (now refs) ⌝ }
-    ensures { λ r. ⌜ given r (now (out .exit)) ≡ showsSome (targetOf party (prefixed (now (prefix .entry)) (decode referrals (now (refs .entry))))) (now (out .entry)) ⌝ }
+    ensures { λ r. ⌜ given r (now (out .exit)) ≡ showsSome (targetAtPlace party (prefixed (now (prefix .entry)) (decode referrals (now (refs .entry))))) (now (out .entry)) ⌝ }
 {
     let Found::At(i) = lookup::find_prefix(refs, prefix) else {
         return Shown::NoEntry;
@@ -94,7 +94,7 @@ fn put_party(
     q: Asking,
     out: &mut [u16],
 ) -> Shown
-    requires { ⌜ Asked (now refs) (now doms) (now path) (now boot) q ⌝ }
+    requires { ⌜ Showable (now refs) (now doms) (now path) (now boot) q ⌝ }
     ensures { λ r. ⌜ given r (now (out .exit)) ≡ showsSome (partyOf (cachesOf (now (refs .entry)) (now (doms .entry))) (coreOf (now (path .entry)) 0 true) (now (boot .entry)) (questionOf q [])) (now (out .entry)) ⌝ }
 {
     let kind = q.kind;

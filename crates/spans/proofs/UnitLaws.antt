@@ -16,7 +16,7 @@ use Rattle.laws.proofs.Choices.{choose-yes, choose-no}
 use Rattle.laws.specs.Lists.{pasted, roomed}
 use Rattle.laws.proofs.Orders.{told}
 use Rattle.laws.proofs.Pasting.{pasted-room}
-use Rattle.spans.specs.Bytes.{u16At, unitsAt, Text, ended, unended, longer, text, textAt}
+use Rattle.spans.specs.Bytes.{u16At, unitsAt, Text, terminated, unterminated, longer, text, textAt}
 use Rattle.spans.specs.Spans.{spanned, Inside, partOf, textEnd}
 use Rattle.spans.specs.declared.Span.{Span}
 use Rattle.spans.specs.declared.Read.the-variants.{Ended, Unended}
@@ -82,8 +82,8 @@ two-bytes r i h =
 
 text-longer : (n u : ℕ) (t : Text) → textEnd n (longer u t) ≡ textEnd (n + 1) t
 unfolding textEnd longer
-text-longer n u (ended s) = let q : n + suc (length s) ≡ n + 1 + length s = omega arith in λ j. Ended (q j)
-text-longer n u unended = refl
+text-longer n u (terminated s) = let q : n + suc (length s) ≡ n + 1 + length s = omega arith in λ j. Ended (q j)
+text-longer n u unterminated = refl
 
 module _ (r : List ℕ) (i n : ℕ) where
   pub text-over : length r ≤ i → Unended ≡ textEnd n (textAt r i)
@@ -112,7 +112,7 @@ unfolding unitsAt
 units-drop zero r i k = refl
 units-drop (suc n) r i k = λ j. unit-drop r i k j ∷ (units-drop n r i (k + 2) ∙ ap (λ (m : ℕ). unitsAt n m r) (let q : i + (k + 2) ≡ i + k + 2 = omega arith in q)) j
 
-never-ended : (t : List ℕ) → unended ≡ ended t → ⊥
+never-ended : (t : List ℕ) → unterminated ≡ terminated t → ⊥
 never-ended t h = let z : _≡_ {A = ℕ} 0 1 = cc in omega arith
 
 -- what a list of bytes begins with, if it is ended
@@ -123,10 +123,10 @@ record Begins (s t : List ℕ) : Type 0 where
 units-shift : (n i a b : ℕ) (s : List ℕ) → unitsAt n (i + 2) (a ∷ (b ∷ s)) ≡ unitsAt n i s
 units-shift n i a b s = let e : 2 + i ≡ i + 2 = omega arith in ap (λ (m : ℕ). unitsAt n m (a ∷ (b ∷ s))) (sym e) ∙ sym (units-drop n (a ∷ (b ∷ s)) 2 i)
 
-begins-longer : (a b : ℕ) (s t : List ℕ) (x : Text) → ((y : List ℕ) → x ≡ ended y → Begins s y) → longer (a + 256 * b) x ≡ ended t → Begins (a ∷ (b ∷ s)) t
+begins-longer : (a b : ℕ) (s t : List ℕ) (x : Text) → ((y : List ℕ) → x ≡ terminated y → Begins s y) → longer (a + 256 * b) x ≡ terminated t → Begins (a ∷ (b ∷ s)) t
 unfolding longer unitsAt u16At
-begins-longer a b s t unended f h = absurd (never-ended t h)
-begins-longer a b s t (ended y) f h =
+begins-longer a b s t unterminated f h = absurd (never-ended t h)
+begins-longer a b s t (terminated y) f h =
     let p : (a + 256 * b) ∷ y ≡ t = cc in
     let g : Begins s y = f y refl in
     rw (← p)
@@ -135,41 +135,41 @@ begins-longer a b s t (ended y) f h =
       within = omega (arith, g .within);
     })
 
-first : (a b : ℕ) (s t : List ℕ) → ((y : List ℕ) → text s ≡ ended y → Begins s y) → (eqb (a + 256 * b) 0 ≡ true) ⊎ (eqb (a + 256 * b) 0 ≡ false)
-    → choose (eqb (a + 256 * b) 0) (ended []) (longer (a + 256 * b) (text s)) ≡ ended t → Begins (a ∷ (b ∷ s)) t
+first : (a b : ℕ) (s t : List ℕ) → ((y : List ℕ) → text s ≡ terminated y → Begins s y) → (eqb (a + 256 * b) 0 ≡ true) ⊎ (eqb (a + 256 * b) 0 ≡ false)
+    → choose (eqb (a + 256 * b) 0) (terminated []) (longer (a + 256 * b) (text s)) ≡ terminated t → Begins (a ∷ (b ∷ s)) t
 unfolding unitsAt
 first a b s t f (inl e) h =
-    let q : ended [] ≡ ended t = sym (choose-yes (ended []) (longer (a + 256 * b) (text s)) e) ∙ h in
+    let q : terminated [] ≡ terminated t = sym (choose-yes (terminated []) (longer (a + 256 * b) (text s)) e) ∙ h in
     let p : [] ≡ t = cc in
     rw (← p) (record { units = refl; within = omega arith })
 first a b s t f (inr e) h =
-    begins-longer a b s t (text s) f (sym (choose-no (ended []) (longer (a + 256 * b) (text s)) e) ∙ h)
+    begins-longer a b s t (text s) f (sym (choose-no (terminated []) (longer (a + 256 * b) (text s)) e) ∙ h)
 
-begins : (s t : List ℕ) → text s ≡ ended t → Begins s t
+begins : (s t : List ℕ) → text s ≡ terminated t → Begins s t
 unfolding text
 begins [] t h = absurd (never-ended t h)
 begins (a ∷ []) t h = absurd (never-ended t h)
 begins (a ∷ (b ∷ s)) t h = first a b s t (begins s) (told (eqb (a + 256 * b) 0)) h
 
-unended-text : (x : Text) → Unended ≡ textEnd 0 x → x ≡ unended
+unended-text : (x : Text) → Unended ≡ textEnd 0 x → x ≡ unterminated
 unfolding textEnd
-unended-text unended h = refl
-unended-text (ended s) h = absurd (let z : _≡_ {A = ℕ} 0 1 = cc in omega arith)
+unended-text unterminated h = refl
+unended-text (terminated s) h = absurd (let z : _≡_ {A = ℕ} 0 1 = cc in omega arith)
 
 pub record EndedAt (r : List ℕ) (i n : ℕ) : Type 0 where
-  pub is : textAt r i ≡ ended (spanned r (record { from = i; units = n }))
+  pub is : textAt r i ≡ terminated (spanned r (record { from = i; units = n }))
   pub within : i + (2 * n + 2) ≤ length r
 
-ended-text : (r : List ℕ) (i n : ℕ) (x : Text) → ((y : List ℕ) → x ≡ ended y → Begins (drop i r) y) → Ended n ≡ textEnd 0 x → textAt r i ≡ x → EndedAt r i n
+ended-text : (r : List ℕ) (i n : ℕ) (x : Text) → ((y : List ℕ) → x ≡ terminated y → Begins (drop i r) y) → Ended n ≡ textEnd 0 x → textAt r i ≡ x → EndedAt r i n
 unfolding textEnd spanned
-ended-text r i n unended f h e = absurd (let z : _≡_ {A = ℕ} 0 1 = cc in omega arith)
-ended-text r i n (ended y) f h e =
+ended-text r i n unterminated f h e = absurd (let z : _≡_ {A = ℕ} 0 1 = cc in omega arith)
+ended-text r i n (terminated y) f h e =
     let p : n ≡ 0 + length y = cc in
     let q : length y ≡ n = omega arith in
     let g : Begins (drop i r) y = f y refl in
     let w : 2 * n + 2 ≤ length (drop i r) = omega (arith, g .within) in
     record {
-      is = e ∙ (λ j. ended ((g .units ∙ (units-drop (length y) r i 0 ∙ (λ k. unitsAt (q k) (add-zero i k) r))) j));
+      is = e ∙ (λ j. terminated ((g .units ∙ (units-drop (length y) r i 0 ∙ (λ k. unitsAt (q k) (add-zero i k) r))) j));
       within = omega (arith, w, length-drop i r);
     }
 
@@ -177,5 +177,5 @@ pub ended-at : (r : List ℕ) (i n : ℕ) → Ended n ≡ textEnd 0 (textAt r i)
 unfolding textAt
 ended-at r i n h = ended-text r i n (text (drop i r)) (begins (drop i r)) h refl
 
-pub unended-at : (r : List ℕ) (i : ℕ) → Unended ≡ textEnd 0 (textAt r i) → textAt r i ≡ unended
+pub unended-at : (r : List ℕ) (i : ℕ) → Unended ≡ textEnd 0 (textAt r i) → textAt r i ≡ unterminated
 unended-at r i h = unended-text (textAt r i) h

@@ -23,18 +23,18 @@ unitsAt (suc n) i r = u16At r i ∷ unitsAt n (i + 2) r
 
 -- "A string ends with a unit 0 inside the reply": the text before that unit, or none.
 pub data Text : Type 0 where
-  ended : List ℕ → Text
-  unended : Text
+  terminated : List ℕ → Text
+  unterminated : Text
 
 unfoldable pub longer : ℕ → Text → Text
-longer u (ended s) = ended (u ∷ s)
-longer u unended = unended
+longer u (terminated s) = terminated (u ∷ s)
+longer u unterminated = unterminated
 
 -- the text that a list of bytes begins with
 unfoldable pub text : List ℕ → Text
-text [] = unended
-text (a ∷ []) = unended
-text (a ∷ (b ∷ s)) = choose (eqb (a + 256 * b) 0) (ended []) (longer (a + 256 * b) (text s))
+text [] = unterminated
+text (a ∷ []) = unterminated
+text (a ∷ (b ∷ s)) = choose (eqb (a + 256 * b) 0) (terminated []) (longer (a + 256 * b) (text s))
 
 unfoldable pub textAt : List ℕ → ℕ → Text
 textAt r i = text (drop i r)

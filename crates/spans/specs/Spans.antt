@@ -2,7 +2,7 @@
 use Prim.Native.Nat.{ℕ, _+_, _-_, _*_, _≤_}
 use mathlib.Core.List.{List}
 use lib.ListN.{length}
-use Rattle.spans.specs.Bytes.{Text, ended, unended, unitsAt}
+use Rattle.spans.specs.Bytes.{Text, terminated, unterminated, unitsAt}
 use Rattle.spans.specs.declared.Span.{Span}
 use Rattle.spans.specs.declared.Read.{Read}
 use Rattle.spans.specs.declared.Read.the-variants.{Ended, Unended}
@@ -21,5 +21,5 @@ partOf s a e = record { from = s .from + 2 * a; units = e - a }
 
 -- what reading a text answers, n units of it read already
 unfoldable pub textEnd : ℕ → Text → Read
-textEnd n (ended s) = Ended (n + length s)
-textEnd n unended = Unended
+textEnd n (terminated s) = Ended (n + length s)
+textEnd n unterminated = Unended

@@ -25,7 +25,7 @@ use Rattle.storing.specs.Stored.{targetsIn, targetsAfter, firstEqual, hi
 use Rattle.referral.specs.Found.{referralShown}
 use Rattle.referral.specs.declared.ReferralFound.{ReferralFound}
 use Rattle.entries.specs.Writing.{addAll, addTarget, settings, heldTarget}
-use Rattle.storing.specs.Writing.{Storable, Held}
+use Rattle.storing.specs.Writing.{Storable, HeldEntry}
 use Rattle.entries.proofs.WritingLaws.{Keeps, keeps-unit, keeps-pasted, keeps-both, then-changed, changed-same}
 use Rattle.storing.proofs.EntryLaws.{entry-settled, entry-replaced}
 use Rattle.storing.proofs.StoreLaws.{targets-in, keeps-settled, keeps-kept}
@@ -117,14 +117,14 @@ zeroed-keeps m n u v =
     keeps-both (λ p. pasted p 1 (replicate m 0)) (λ p. pasted p 288 (replicate n 0)) (keeps-pasted 1 (replicate m 0) (omega arith)) (keeps-pasted 288 (replicate n 0) (omega arith))
 
 -- what a refresh with another list leaves in the place, up to the hint
-given-entry : (raw : List ℕ) (i : ℕ) → Held i raw → (r : List ℕ) (f : ReferralFound) (interlink : Bool) (clock : ℕ) → goodReferral (based (entryAt referrals i raw) (referralShown r f) interlink clock (targetsIn (referralShown r f)) 0) ≡ true
+given-entry : (raw : List ℕ) (i : ℕ) → HeldEntry i raw → (r : List ℕ) (f : ReferralFound) (interlink : Bool) (clock : ℕ) → goodReferral (based (entryAt referrals i raw) (referralShown r f) interlink clock (targetsIn (referralShown r f)) 0) ≡ true
     → putSettings (settings (f .root) interlink (f .failback) (f .ttl) clock) (addAll addTarget 0 (map (heldTarget r) (take (f .targets) (f .kept))) (keyOnly (referralUnits (entryAt referrals i raw)))) ≡ referralUnits (based (entryAt referrals i raw) (referralShown r f) interlink clock (targetsIn (referralShown r f)) 0)
 unfolding referralShown
 given-entry raw i place r f interlink clock g =
     entry-replaced (based (entryAt referrals i raw) (referralShown r f) interlink clock (targetsIn (referralShown r f)) 0) g refl (entryAt referrals i raw) (place .good) refl (map (heldTarget r) (take (f .targets) (f .kept))) (sym (targets-in r f))
 
 -- A refresh, in its two ways, up to the hint and then whole.
-module _ (raw : List ℕ) (i : ℕ) (place : Held i raw) (r : List ℕ) (f : ReferralFound) (interlink : Bool) (clock : ℕ) where
+module _ (raw : List ℕ) (i : ℕ) (place : HeldEntry i raw) (r : List ℕ) (f : ReferralFound) (interlink : Bool) (clock : ℕ) where
   held-settled : {m : List ℕ} → m ≡ changed i (putSettings (settings (f .root) interlink (f .failback) (f .ttl) clock)) raw
       → m ≡ changed i (λ p. referralUnits (based (entryAt referrals i raw) (referralShown r f) interlink clock (entryAt referrals i raw .targets) (entryAt referrals i raw .hint))) raw
   unfolding referralShown

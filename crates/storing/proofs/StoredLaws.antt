@@ -27,18 +27,18 @@ use Rattle.equivalence.specs.Equivalence.{equivalent}
 use Rattle.equivalence.specs.Compared.{heldTargets, givenTargets}
 use Rattle.equivalence.proofs.SetLaws.{given-shown}
 use Rattle.referral.specs.Replies as replies
-use Rattle.referral.specs.Found.{referralShown, keptInside, inside}
+use Rattle.referral.specs.Found.{referralShown, keptInside, isInside}
 use Rattle.referral.specs.declared.Kept.{Kept}
 use Rattle.referral.specs.declared.ReferralFound.{ReferralFound}
 use Rattle.storing.specs.Stored.{targetsIn, hinted, refreshed, fresh, stored, storedEntry, storePlace, prefixed, held, heldAt}
 use Rattle.entries.specs.Writing.{keptFits}
-use Rattle.storing.specs.Writing.{Storable, Held}
+use Rattle.storing.specs.Writing.{Storable, HeldEntry}
 use Rattle.storing.proofs.StoreLaws.{fresh-good}
 use Rattle.storing.proofs.RefreshLaws.{based, back-within, first-within, held-good, given-good, refreshed-held, refreshed-given}
 
 -- kept targets that fit lie inside the reply
 kept-in : (r : List ℕ) (k : Kept) → keptFits r k ≡ true → keptInside r k ≡ true
-unfolding keptFits keptInside inside
+unfolding keptFits keptInside isInside
 kept-in r k h = and-left (leb (k .path .from + 2 * k .path .units) (length r)) _ h
 
 pub all-inside : (r : List ℕ) (ks : List Kept) → every (keptFits r) ks ≡ true → every (keptInside r) ks ≡ true
@@ -99,7 +99,7 @@ module _ (raw : List ℕ) (order : inOrder referrals raw ≡ true) where
     entry-here : entryAt referrals i raw ≡ at .entry
     entry-here = entry-is referrals referrals-lawful raw i order fits (at .entry) (at .here)
 
-    pub held-there : Held i raw
+    pub held-there : HeldEntry i raw
     held-there = record {
       fits = fits;
       good = ap goodReferral entry-here ∙ entry-good referrals referrals-lawful raw i order fits (at .entry) (at .here);

@@ -24,7 +24,7 @@ pub record Storable (r : List ℕ) (f : ReferralFound) : Type 0 where
   pub good : goodReferral (fresh (referralShown r f) false 0) ≡ true
 
 -- place i holds a good referral entry, and exactly it
-pub record Held (i : ℕ) (raw : List ℕ) : Type 0 where
+pub record HeldEntry (i : ℕ) (raw : List ℕ) : Type 0 where
   pub fits : i < length raw / 2336
   pub good : goodReferral (entryAt referrals i raw) ≡ true
   pub units : placeAt i raw ≡ referralUnits (entryAt referrals i raw)

@@ -5,7 +5,7 @@ use mathlib.Core.Bool.{Bool, true, false, _&&_, not}
 use mathlib.Core.List.{List}
 use lib.ListN.{length}
 use lib.Dec.{leb}
-use Rattle.calling.specs.Calling.{Called, called}
+use Rattle.calling.specs.Calling.{CallLeft, callLeft}
 use Rattle.calling.specs.declared.Done.{Done}
 use Rattle.stream.specs.declared.Piece.{Piece}
 
@@ -14,11 +14,11 @@ unfoldable pub usedUp : ℕ → ℕ → Bool → Bool
 usedUp count at ended = leb count at && not ended
 
 -- the piece to go on with: the same one in the same memory, or what is read, which no contract can say, from its beginning
-pub record Next (n at : ℕ) (ended : Bool) (before after : List ℕ) (r : Piece) : Type 0 where
+pub record NextPiece (n at : ℕ) (ended : Bool) (before after : List ℕ) (r : Piece) : Type 0 where
   pub same : usedUp n at ended ≡ false → (r ≡ record { count = n; at = at }) × (after ≡ before)
   pub fresh : usedUp n at ended ≡ true → r .at ≡ 0
   pub fits : r .count ≤ length after
 
 -- what a call leaves in lent memory
-pub record Leaves (x : Called) (r : Done) (refs doms texts : List ℕ) : Type 0 where
-  pub left : called (r .script) (r .walk) refs doms texts (x .printed) ≡ x
+pub record Leaves (x : CallLeft) (r : Done) (refs doms texts : List ℕ) : Type 0 where
+  pub left : callLeft (r .script) (r .walk) refs doms texts (x .printed) ≡ x

@@ -5,8 +5,8 @@ ghost use Prim.Native.Nat.{_≤_};
 ghost use lib.ListN.{length};
 ghost use Rattle.laws.specs.Lists.{every, pasted};
 ghost use Rattle.printing.specs.Printed.{isByte};
-ghost use Rattle.calling.specs.Calling.{lent, made};
-ghost use Rattle.stream.specs.Stream.{Leaves, Next};
+ghost use Rattle.calling.specs.Calling.{lentMemory, made};
+ghost use Rattle.stream.specs.Stream.{Leaves, NextPiece};
 use calling::Done;
 use libc::STDIN_FILENO;
 use libc::STDOUT_FILENO;
@@ -69,7 +69,7 @@ pub struct Piece {
 // The next piece, where this one has been used up.
 pub fn next(units: &mut [u16], count: usize, at: usize, ended: bool) -> Piece
     requires { ⌜ count ≤ length (now units) ⌝ }
-    ensures { λ r. ⌜ Next count at ended (now (units .entry)) (now (units .exit)) r ⌝ }
+    ensures { λ r. ⌜ NextPiece count at ended (now (units .entry)) (now (units .exit)) r ⌝ }
 {
     if at < count {
         return Piece { count, at };
@@ -95,7 +95,7 @@ pub fn call(
     boot: &[u16],
     reply: &[u8],
 ) -> Done
-    ensures { λ r. ⌜ Leaves (made due s (lent walk (now (refs .entry)) (now (doms .entry)) (now (texts .entry)) (now (path .entry)) (now (boot .entry)) (now (reply .entry)))) r (now (refs .exit)) (now (doms .exit)) (now (texts .exit)) ⌝ }
+    ensures { λ r. ⌜ Leaves (made due s (lentMemory walk (now (refs .entry)) (now (doms .entry)) (now (texts .entry)) (now (path .entry)) (now (boot .entry)) (now (reply .entry)))) r (now (refs .exit)) (now (doms .exit)) (now (texts .exit)) ⌝ }
 {
     let mut out = out_memory();
     let d = calling::make(due, s, walk, refs, doms, texts, path, boot, reply, &mut out);

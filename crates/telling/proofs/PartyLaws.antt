@@ -28,7 +28,7 @@ use Rattle.storing.specs.Stored.{held, heldAt, prefixed}
 use Rattle.steps.specs.Steps.{Caches, Core, Question, domainNamed, domainInUse, referralInUse, dcCount, targetCount, partyCount, inUse}
 use Rattle.steps.specs.declared.Kind as asked
 use Rattle.steps.specs.declared.Kind.the-variants.{Dc, Root, Link, Sysvol, Io}
-use Rattle.shown.specs.Shown.{dcOf, targetOf, partyOf, partyText}
+use Rattle.shown.specs.Shown.{dcAtPlace, targetAtPlace, partyOf, partyText}
 use Rattle.shown.proofs.ShownLaws.{host-short}
 
 -- an entry that is held in a good cache is good
@@ -49,15 +49,15 @@ pub record Texted (o : Option (List ℕ)) : Type 0 where
   pub here : o ≡ some text
   pub short : length text ≤ 256
 
-dc-texted : (place : ℕ) (o : Option Domain) → ((d : Domain) → o ≡ some d → goodDomain d ≡ true) → place < dcCount o → Texted (dcOf place o)
-unfolding dcCount dcOf dcName
+dc-texted : (place : ℕ) (o : Option Domain) → ((d : Domain) → o ≡ some d → goodDomain d ≡ true) → place < dcCount o → Texted (dcAtPlace place o)
+unfolding dcCount dcAtPlace dcName
 dc-texted place none good h = absurd (omega arith)
 dc-texted place (some d) good h =
     let z : length (getD (d .dcs) place []) ≤ 255 = name-short _ (every-at goodName (d .dcs) (domain-told d (good d refl) .each) place [] h) in
     record { text = dcName place d; here = refl; short = omega arith }
 
-target-texted : (place : ℕ) (o : Option Referral) → ((e : Referral) → o ≡ some e → goodReferral e ≡ true) → place < targetCount o → Texted (targetOf place o)
-unfolding targetCount targetOf targetPath goodTarget
+target-texted : (place : ℕ) (o : Option Referral) → ((e : Referral) → o ≡ some e → goodReferral e ≡ true) → place < targetCount o → Texted (targetAtPlace place o)
+unfolding targetCount targetAtPlace targetPath goodTarget
 target-texted place none good h = absurd (omega arith)
 target-texted place (some e) good h = record {
   text = targetPath place e;
@@ -67,11 +67,11 @@ target-texted place (some e) good h = record {
 
 module _ (c : Caches) (refs : goodCache referrals (c .referrals) ≡ true) (doms : goodCache domains (c .domains) ≡ true) (w : Core) (good : goodPrefix (w .path) ≡ true)
     (boot : List ℕ) (few : length boot ≤ 256) (q : Question) where
-  dc-there : q .party < dcCount (domainInUse c w) → Texted (dcOf (q .party) (domainInUse c w))
+  dc-there : q .party < dcCount (domainInUse c w) → Texted (dcAtPlace (q .party) (domainInUse c w))
   unfolding domainInUse domainNamed
   dc-there = dc-texted (q .party) (domainInUse c w) (λ d h. held-good domains (c .domains) doms _ d h)
 
-  target-there : q .party < targetCount (referralInUse c w q) → Texted (targetOf (q .party) (referralInUse c w q))
+  target-there : q .party < targetCount (referralInUse c w q) → Texted (targetAtPlace (q .party) (referralInUse c w q))
   unfolding referralInUse prefixed
   target-there = target-texted (q .party) (referralInUse c w q) (λ e h. held-good referrals (c .referrals) refs _ e h)
 
@@ -81,11 +81,11 @@ module _ (c : Caches) (refs : goodCache referrals (c .referrals) ≡ true) (doms
   round : (n : ℕ) → (ltb (q .party) n && ltb (q .began) n) ≡ true → q .party < n
   round n t = ltb-true (q .party) n (and-left (ltb (q .party) n) _ t)
 
-  root-there : (n : ℕ) → (eqb (q .entry) 0 || (ltb (q .party) n && ltb (q .began) n)) ≡ true → (q .party < n → Texted (dcOf (q .party) (domainInUse c w)))
-      → Texted (choose (eqb (q .entry) 0) (some (getD (components (w .path)) 0 [])) (dcOf (q .party) (domainInUse c w)))
+  root-there : (n : ℕ) → (eqb (q .entry) 0 || (ltb (q .party) n && ltb (q .began) n)) ≡ true → (q .party < n → Texted (dcAtPlace (q .party) (domainInUse c w)))
+      → Texted (choose (eqb (q .entry) 0) (some (getD (components (w .path)) 0 [])) (dcAtPlace (q .party) (domainInUse c w)))
   root-there n u f = go (told (eqb (q .entry) 0))
     where
-      go : (eqb (q .entry) 0 ≡ true) ⊎ (eqb (q .entry) 0 ≡ false) → Texted (choose (eqb (q .entry) 0) (some (getD (components (w .path)) 0 [])) (dcOf (q .party) (domainInUse c w)))
+      go : (eqb (q .entry) 0 ≡ true) ⊎ (eqb (q .entry) 0 ≡ false) → Texted (choose (eqb (q .entry) 0) (some (getD (components (w .path)) 0 [])) (dcAtPlace (q .party) (domainInUse c w)))
       go (inl t) = subst Texted (sym (choose-yes _ _ t)) host-there
       go (inr t) =
           subst Texted (sym (choose-no _ _ t))

@@ -13,7 +13,7 @@ use Rattle.laws.proofs.Choices.{choose-yes, choose-no}
 use Rattle.laws.proofs.Orders.{lt-or-le}
 use Rattle.laws.proofs.Pasting.{getD-pasted-low, getD-pasted-high, getD-part, length-part, copied-more, copied-all, part-pasted-low, pasted-join, pasted-room, pasted-whole, length-roomed}
 use Rattle.laws.proofs.Parts.{part-part}
-use Rattle.unc.specs.Paths.{replaced, written}
+use Rattle.unc.specs.Paths.{replaced, writtenWithin}
 use Rattle.unc.specs.declared.Written.the-variants.{Units, TooLong}
 use Rattle.texts.specs.Texts.{textsOf, withTried, Standing}
 
@@ -79,32 +79,32 @@ tried-moved n d {a} ea eo h =
 
 -- what a text that fits its room and one that is too long are told, and what they tell
 module _ (m : ℕ) (s : List ℕ) where
-  pub told-long : m < length s → TooLong ≡ written m s
-  unfolding written
+  pub told-long : m < length s → TooLong ≡ writtenWithin m s
+  unfolding writtenWithin
   told-long h = sym (choose-no (Units (length s)) TooLong (lt-leb (length s) m h))
 
-  pub told-fits : {n : ℕ} → n ≡ length s → n ≤ m → Units n ≡ written m s
-  unfolding written
+  pub told-fits : {n : ℕ} → n ≡ length s → n ≤ m → Units n ≡ writtenWithin m s
+  unfolding writtenWithin
   told-fits e h = sym (choose-yes (Units (length s)) TooLong (le-leb (length s) m (rw (← e) h)) ∙ (λ i. Units (sym e i)))
 
-  pub written-units : (u : ℕ) → written m s ≡ Units u → (u ≡ length s) × (length s ≤ m)
+  pub written-units : (u : ℕ) → writtenWithin m s ≡ Units u → (u ≡ length s) × (length s ≤ m)
   written-units u h = go (lt-or-le m (length s))
     where
       go : (m < length s) ⊎ (length s ≤ m) → (u ≡ length s) × (length s ≤ m)
       go (inl l) =
-          let e : TooLong ≡ written m s = told-long l in
+          let e : TooLong ≡ writtenWithin m s = told-long l in
           absurd (let z : _≡_ {A = ℕ} 0 1 = cc in omega arith)
       go (inr l) =
-          let e : Units (length s) ≡ written m s = told-fits refl l in
+          let e : Units (length s) ≡ writtenWithin m s = told-fits refl l in
           (cc, l)
 
-  pub written-long : written m s ≡ TooLong → m < length s
+  pub written-long : writtenWithin m s ≡ TooLong → m < length s
   written-long h = go (lt-or-le m (length s))
     where
       go : (m < length s) ⊎ (length s ≤ m) → m < length s
       go (inl l) = l
       go (inr l) =
-          let e : Units (length s) ≡ written m s = told-fits refl l in
+          let e : Units (length s) ≡ writtenWithin m s = told-fits refl l in
           absurd (let z : _≡_ {A = ℕ} 0 1 = cc in omega arith)
 
 -- the texts with a new path tried

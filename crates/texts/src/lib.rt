@@ -5,7 +5,7 @@ ghost use mathlib.Core.Logic.{_⊎_};
 ghost use Prim.Native.Nat.{_+_, _≤_};
 ghost use lib.ListN.{length, take, replicate};
 ghost use Rattle.laws.specs.Lists.{pasted, part};
-ghost use Rattle.unc.specs.Paths.{replaced, written};
+ghost use Rattle.unc.specs.Paths.{replaced, writtenWithin};
 ghost use Rattle.texts.specs.Texts.{withTried};
 use unc::Written;
 
@@ -28,7 +28,7 @@ fn copy_within(dst: &mut [u16], from: usize, at: usize, count: usize)
 // anything is written.
 pub fn put_tried(texts: &mut [u16], len: usize, k: usize, target: &[u16]) -> Written
     requires { ⌜ (512 ≤ length (now texts)) × ((len ≤ 256) × (k ≤ len)) ⌝ }
-    ensures answer { λ r. ⌜ r ≡ written 256 (replaced (now (target .entry)) k (take len (now (texts .entry)))) ⌝ }
+    ensures answer { λ r. ⌜ r ≡ writtenWithin 256 (replaced (now (target .entry)) k (take len (now (texts .entry)))) ⌝ }
     ensures texts { λ r. ⌜ now (texts .exit) ≡ withTried (replaced (now (target .entry)) k (take len (now (texts .entry)))) (now (texts .entry)) ⌝ }
 {
     let rest = len - k;

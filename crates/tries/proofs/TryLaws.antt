@@ -41,11 +41,11 @@ use Rattle.steps.proofs.HeldLaws.{key-held, key-fits, used-is}
 use Rattle.steps.proofs.StepLaws.{asked-as}
 use Rattle.moves.specs.Moves.{Packed, joined, packed, Usable}
 use Rattle.moves.proofs.MoveLaws.{standing-path, packed-end, packed-asked, tried-size, matches-same}
-use Rattle.rounds.specs.Rounds.{questionOf, restsAt, targetsUnder, inRound}
+use Rattle.rounds.specs.Rounds.{questionOf, failureRests, targetsUnder, inRound}
 use Rattle.rounds.proofs.RoundLaws.{round-past, round-on, targets-gone, targets-held, in-use-same, in-use-io}
 use Rattle.rounds.proofs.FailLaws.{onward-end, onward-next}
 use Rattle.rounds.proofs.QuietLaws.{Quiet, still, quiet-goes, quiet-io}
-use Rattle.tries.specs.Tries.{triedIn, Trying, Failing, withParties, placeInUse, notCovered, nextTarget, restOf, withDoms}
+use Rattle.tries.specs.Tries.{triedRoom, Trying, Failing, withParties, placeInUse, notCovered, nextTarget, restOf, withDoms}
 
 -- the place of the entry in use
 module _ (prefix raw : List ℕ) (party began : ℕ) {f : Found} (e : f ≡ withKey referrals prefix (decode referrals raw)) where
@@ -193,8 +193,8 @@ module _ {refs rooms : List ℕ} {len tried : ℕ} {q : Asking} (k : Trying refs
   path-units : length (take len rooms) ≡ len
   path-units = length-take-le len rooms (omega (arith, k .few, k .long))
 
-  tried-units : length (triedIn tried rooms) ≡ tried
-  unfolding triedIn
+  tried-units : length (triedRoom tried rooms) ≡ tried
+  unfolding triedRoom
   tried-units = length-take-le tried (drop 256 rooms) (omega (arith, k .tried-few, k .long, length-drop 256 rooms))
 
   -- the prefix of the question
@@ -210,7 +210,7 @@ module _ {refs rooms : List ℕ} {len tried : ℕ} {q : Asking} (k : Trying refs
     cleared =
         e
         ∙ ((λ j. pasted (k .stands j) 256 (blank-room 256 j))
-        ∙ tried-put (take len rooms) (triedIn tried rooms) [] (omega (arith, path-units, k .few)) (omega (arith, tried-units, k .tried-few)) (omega arith))
+        ∙ tried-put (take len rooms) (triedRoom tried rooms) [] (omega (arith, path-units, k .few)) (omega (arith, tried-units, k .tried-few)) (omega arith))
 
     cleared-path : take len o ≡ take len rooms
     cleared-path = (λ j. take (sym path-units j) (cleared j)) ∙ path-in (take len rooms) []
@@ -241,37 +241,37 @@ module _ {refs rooms : List ℕ} {len tried : ℕ} {q : Asking} (k : Trying refs
     module _ (left size : ℕ) (hit : Bool) (status : ℕ) where
       -- the entry is gone
       module _ (h : f ≡ Nothing) where
-        gone-turn : ioAnswered (cachesOf refs []) (coreOf (take len rooms) size hit) (questionOf q (triedIn tried rooms)) status
+        gone-turn : ioAnswered (cachesOf refs []) (coreOf (take len rooms) size hit) (questionOf q (triedRoom tried rooms)) status
             ≡ record { caches = cachesOf refs []; core = coreOf (take len rooms) size hit; called = ends Gone 0 }
-        gone-turn = answered-gone refs [] (take len rooms) size hit q (triedIn tried rooms) status (k .waits-io) (place-is h)
+        gone-turn = answered-gone refs [] (take len rooms) size hit q (triedRoom tried rooms) status (k .waits-io) (place-is h)
 
         pub gone-rest : {o : List ℕ} {r : Rested} → o ≡ pasted rooms 256 (replicate 256 0) → r ≡ endedAt Gone 0 len left hit
-            → joined r o ≡ packed (restOf left (ioAnswered (cachesOf refs []) (coreOf (take len rooms) size hit) (questionOf q (triedIn tried rooms)) status))
-        unfolding restOf restsAt
+            → joined r o ≡ packed (restOf left (ioAnswered (cachesOf refs []) (coreOf (take len rooms) size hit) (questionOf q (triedRoom tried rooms)) status))
+        unfolding restOf failureRests
         gone-rest {o} d g =
             packed-end len o (cleared-standing d) Gone 0 left size hit g
             ∙ ((λ j. packed (rests (coreOf (cleared-path d j) size hit) left (ended Gone 0 [])))
             ∙ ap (λ (t : Turn). packed (restOf left t)) (sym gone-turn))
 
-        pub gone-cache : refs ≡ encode referrals (ioAnswered (cachesOf refs []) (coreOf (take len rooms) size hit) (questionOf q (triedIn tried rooms)) status .caches .referrals)
+        pub gone-cache : refs ≡ encode referrals (ioAnswered (cachesOf refs []) (coreOf (take len rooms) size hit) (questionOf q (triedRoom tried rooms)) status .caches .referrals)
         unfolding cachesOf
         gone-cache = sym (encode-decode referrals refs (k .order)) ∙ ap (λ (t : Turn). encode referrals (t .caches .referrals)) (sym gone-turn)
 
       module _ (i : ℕ) (h : f ≡ At i) where
         -- the try is done
         module _ (g : status / 1073741824 ≡ 3 → ⊥) where
-          done-turn : ioAnswered (cachesOf refs []) (coreOf (take len rooms) size hit) (questionOf q (triedIn tried rooms)) status
+          done-turn : ioAnswered (cachesOf refs []) (coreOf (take len rooms) size hit) (questionOf q (triedRoom tried rooms)) status
               ≡ record {
                 caches = record { referrals = targetHinted i (q .party) (decode referrals refs); domains = decode domains [] };
                 core = coreOf (take len rooms) size hit;
-                called = stops Done status (triedIn tried rooms);
+                called = stops Done status (triedRoom tried rooms);
               }
           unfolding severity
-          done-turn = answered-done refs [] (take len rooms) size hit q (triedIn tried rooms) status (k .waits-io) i (in-use i h) g
+          done-turn = answered-done refs [] (take len rooms) size hit q (triedRoom tried rooms) status (k .waits-io) i (in-use i h) g
 
           pub done-rest : joined (record { next = Ends Done status; path = len; tried = tried; left = left; hit = hit }) rooms
-              ≡ packed (restOf left (ioAnswered (cachesOf refs []) (coreOf (take len rooms) size hit) (questionOf q (triedIn tried rooms)) status))
-          unfolding restOf restsAt packed rests restedOf nextOf triedOf
+              ≡ packed (restOf left (ioAnswered (cachesOf refs []) (coreOf (take len rooms) size hit) (questionOf q (triedRoom tried rooms)) status))
+          unfolding restOf failureRests packed rests restedOf nextOf triedOf
           done-rest =
               (λ j.
               record {
@@ -281,30 +281,30 @@ module _ {refs rooms : List ℕ} {len tried : ℕ} {q : Asking} (k : Trying refs
               ∙ ap (λ (t : Turn). packed (restOf left t)) (sym done-turn)
 
           pub done-cache : {m : List ℕ} → m ≡ encode referrals (targetHinted i (q .party) (decode referrals refs))
-              → m ≡ encode referrals (ioAnswered (cachesOf refs []) (coreOf (take len rooms) size hit) (questionOf q (triedIn tried rooms)) status .caches .referrals)
+              → m ≡ encode referrals (ioAnswered (cachesOf refs []) (coreOf (take len rooms) size hit) (questionOf q (triedRoom tried rooms)) status .caches .referrals)
           done-cache d = d ∙ ap (λ (t : Turn). encode referrals (t .caches .referrals)) (sym done-turn)
 
         -- the try failed
         module _ (g : status / 1073741824 ≡ 3) where
-          fails-turn : ioAnswered (cachesOf refs []) (coreOf (take len rooms) size hit) (questionOf q (triedIn tried rooms)) status
+          fails-turn : ioAnswered (cachesOf refs []) (coreOf (take len rooms) size hit) (questionOf q (triedRoom tried rooms)) status
               ≡ record {
                 caches = cachesOf refs [];
                 core = coreOf (take len rooms) size hit;
                 called = ioFails (coreOf (take len rooms) size hit) (questionOf q []) status (entryAt referrals i refs);
               }
           unfolding severity
-          fails-turn = answered-fails refs [] (take len rooms) size hit q (triedIn tried rooms) status (k .waits-io) i (in-use i h) g
+          fails-turn = answered-fails refs [] (take len rooms) size hit q (triedRoom tried rooms) status (k .waits-io) i (in-use i h) g
 
           pub fails-rest : {o : List ℕ} {x : Packed} → o ≡ pasted rooms 256 (replicate 256 0)
-              → x ≡ packed (restsAt left (coreOf (take len o) size hit) (ioFails (coreOf (take len o) size hit) (questionOf q []) status (entryAt referrals i refs)))
-              → x ≡ packed (restOf left (ioAnswered (cachesOf refs []) (coreOf (take len rooms) size hit) (questionOf q (triedIn tried rooms)) status))
+              → x ≡ packed (failureRests left (coreOf (take len o) size hit) (ioFails (coreOf (take len o) size hit) (questionOf q []) status (entryAt referrals i refs)))
+              → x ≡ packed (restOf left (ioAnswered (cachesOf refs []) (coreOf (take len rooms) size hit) (questionOf q (triedRoom tried rooms)) status))
           unfolding restOf
           fails-rest d x =
               x
-              ∙ ((λ j. packed (restsAt left (coreOf (cleared-path d j) size hit) (ioFails (coreOf (cleared-path d j) size hit) (questionOf q []) status (entryAt referrals i refs))))
+              ∙ ((λ j. packed (failureRests left (coreOf (cleared-path d j) size hit) (ioFails (coreOf (cleared-path d j) size hit) (questionOf q []) status (entryAt referrals i refs))))
               ∙ ap (λ (t : Turn). packed (restOf left t)) (sym fails-turn))
 
-          pub fails-cache : refs ≡ encode referrals (ioAnswered (cachesOf refs []) (coreOf (take len rooms) size hit) (questionOf q (triedIn tried rooms)) status .caches .referrals)
+          pub fails-cache : refs ≡ encode referrals (ioAnswered (cachesOf refs []) (coreOf (take len rooms) size hit) (questionOf q (triedRoom tried rooms)) status .caches .referrals)
           unfolding cachesOf
           fails-cache = sym (encode-decode referrals refs (k .order)) ∙ ap (λ (t : Turn). encode referrals (t .caches .referrals)) (sym fails-turn)
 
@@ -318,12 +318,12 @@ next-below n place h = go (told (leb n (place + 1)))
     go (inr t) = rw (choose-no 0 (place + 1) t) (leb-false n (place + 1) t)
 
 next-size : (left : ℕ) (p : List ℕ) (size : ℕ) (hit : Bool) (q : Question) (status : ℕ) (e : Referral)
-    → packed (restsAt left (coreOf p 0 hit) (nextTarget (coreOf p 0 hit) q status e)) ≡ packed (restsAt left (coreOf p size hit) (nextTarget (coreOf p size hit) q status e))
-unfolding nextTarget onward restsAt packed rests restedOf nextOf triedOf
+    → packed (failureRests left (coreOf p 0 hit) (nextTarget (coreOf p 0 hit) q status e)) ≡ packed (failureRests left (coreOf p size hit) (nextTarget (coreOf p size hit) q status e))
+unfolding nextTarget onward failureRests packed rests restedOf nextOf triedOf
 next-size left p size hit q status e = go (told (eqb (nextPlace (length (e .targets)) (q .party)) (q .began)))
   where
     from : ℕ → Called → Packed
-    from s a = packed (restsAt left (coreOf p s hit) a)
+    from s a = packed (failureRests left (coreOf p s hit) a)
 
     onto : ℕ → Called
     onto s = nextTarget (coreOf p s hit) q status e
@@ -340,20 +340,20 @@ module _ (refs rooms : List ℕ) (len i left size : ℕ) (hit : Bool) (q : Askin
   -- PATH_NOT_COVERED
   module _ {b : Bool} (e : b ≡ entryAt referrals i refs .root) where
     pub covered-end : {r : Rested} → b ≡ false → r ≡ endedAt Failed status len left hit
-        → joined r rooms ≡ packed (restsAt left (coreOf (take len rooms) size hit) (notCovered (coreOf (take len rooms) size hit) (questionOf q []) status (entryAt referrals i refs)))
-    unfolding notCovered restsAt
+        → joined r rooms ≡ packed (failureRests left (coreOf (take len rooms) size hit) (notCovered (coreOf (take len rooms) size hit) (questionOf q []) status (entryAt referrals i refs)))
+    unfolding notCovered failureRests
     covered-end h g =
         packed-end len rooms (f .standing) Failed status left size hit g
-        ∙ ap (λ (a : Called). packed (restsAt left (coreOf (take len rooms) size hit) a)) (sym (choose-no _ (ends Failed status) (sym e ∙ h)))
+        ∙ ap (λ (a : Called). packed (failureRests left (coreOf (take len rooms) size hit) a)) (sym (choose-no _ (ends Failed status) (sym e ∙ h)))
 
     pub covered-asks : {r : Rested} → b ≡ true
         → r ≡ askedAt (record { kind = Link; entry = q .entry; party = q .party; began = q .party; size = size; covered = true }) len left hit
-        → joined r rooms ≡ packed (restsAt left (coreOf (take len rooms) size hit) (notCovered (coreOf (take len rooms) size hit) (questionOf q []) status (entryAt referrals i refs)))
-    unfolding notCovered restsAt linkRequest askingOf questionOf
+        → joined r rooms ≡ packed (failureRests left (coreOf (take len rooms) size hit) (notCovered (coreOf (take len rooms) size hit) (questionOf q []) status (entryAt referrals i refs)))
+    unfolding notCovered failureRests linkRequest askingOf questionOf
     covered-asks h g =
         packed-asked len rooms (f .standing) left size hit (linkRequest (coreOf (take len rooms) size hit) (q .entry) (q .party) (q .party) true) refl
         (asked-as left (coreOf (take len rooms) size hit) (linkRequest (coreOf (take len rooms) size hit) (q .entry) (q .party) (q .party) true) _ g refl (sym (standing-path len rooms (f .standing))) refl)
-        ∙ ap (λ (a : Called). packed (restsAt left (coreOf (take len rooms) size hit) a))
+        ∙ ap (λ (a : Called). packed (failureRests left (coreOf (take len rooms) size hit) a))
         (sym (choose-yes (asks (linkRequest (coreOf (take len rooms) size hit) (q .entry) (q .party) (q .party) true)) _ (sym e ∙ h)))
 
 -- the next target
@@ -365,27 +365,27 @@ module _ (refs rooms : List ℕ) (len i left : ℕ) (hit : Bool) (q : Asking) (s
       omega arith
 
   pub next-end : {r : Rested} → next ≡ q .began → r ≡ endedAt Failed status len left hit
-      → joined r rooms ≡ packed (restsAt left (coreOf (take len rooms) 0 hit) (nextTarget (coreOf (take len rooms) 0 hit) (questionOf q []) status (entryAt referrals i refs)))
-  unfolding nextTarget restsAt questionOf
+      → joined r rooms ≡ packed (failureRests left (coreOf (take len rooms) 0 hit) (nextTarget (coreOf (take len rooms) 0 hit) (questionOf q []) status (entryAt referrals i refs)))
+  unfolding nextTarget failureRests questionOf
   next-end h g =
       packed-end len rooms (f .standing) Failed status left 0 hit g
-      ∙ ap (λ (a : Called). packed (restsAt left (coreOf (take len rooms) 0 hit) a))
+      ∙ ap (λ (a : Called). packed (failureRests left (coreOf (take len rooms) 0 hit) a))
       (onward-end (questionOf q []) e c (λ place. step8 (coreOf (take len rooms) 0 hit) (entryAt referrals i refs) place (q .began)) (ends Failed status) h)
 
   pub next-try : {x : Packed} → (next ≡ q .began → ⊥)
       → x ≡ packed (asking left (coreOf (take len rooms) 0 hit) (step8 (coreOf (take len rooms) 0 hit) (entryAt referrals i refs) next (q .began)))
-      → x ≡ packed (restsAt left (coreOf (take len rooms) 0 hit) (nextTarget (coreOf (take len rooms) 0 hit) (questionOf q []) status (entryAt referrals i refs)))
-  unfolding nextTarget restsAt questionOf
+      → x ≡ packed (failureRests left (coreOf (take len rooms) 0 hit) (nextTarget (coreOf (take len rooms) 0 hit) (questionOf q []) status (entryAt referrals i refs)))
+  unfolding nextTarget failureRests questionOf
   next-try h g =
       g
-      ∙ ap (λ (a : Called). packed (restsAt left (coreOf (take len rooms) 0 hit) a))
+      ∙ ap (λ (a : Called). packed (failureRests left (coreOf (take len rooms) 0 hit) a))
       (onward-next (questionOf q []) e c (λ place. step8 (coreOf (take len rooms) 0 hit) (entryAt referrals i refs) place (q .began)) (ends Failed status) h)
 
 -- by the status
 module _ (left : ℕ) (w : Core) (q : Question) (status : ℕ) (e : Referral) where
-  pub fails-covered : {x : Packed} → status ≡ pathNotCovered → x ≡ packed (restsAt left w (notCovered w q status e)) → x ≡ packed (restsAt left w (ioFails w q status e))
+  pub fails-covered : {x : Packed} → status ≡ pathNotCovered → x ≡ packed (failureRests left w (notCovered w q status e)) → x ≡ packed (failureRests left w (ioFails w q status e))
   unfolding ioFails notCovered
-  fails-covered h g = g ∙ ap (λ (a : Called). packed (restsAt left w a)) (sym (choose-yes _ _ (eq-eqb status pathNotCovered h)))
+  fails-covered h g = g ∙ ap (λ (a : Called). packed (failureRests left w a)) (sym (choose-yes _ _ (eq-eqb status pathNotCovered h)))
 
   module _ (h : status ≡ pathNotCovered → ⊥) {t : Bool} (n : t ≡ isOneOf status nextTargetStatuses) where
     fails-next : t ≡ true → nextTarget w q status e ≡ ioFails w q status e
@@ -398,19 +398,19 @@ module _ (left : ℕ) (w : Core) (q : Question) (status : ℕ) (e : Referral) wh
 
 module _ (rooms : List ℕ) (len left size : ℕ) (hit : Bool) (q : Asking) (status : ℕ) (e : Referral) (h : status ≡ pathNotCovered → ⊥) {t : Bool}
     (n : t ≡ isOneOf status nextTargetStatuses) where
-  pub fails-on : {x : Packed} → t ≡ true → x ≡ packed (restsAt left (coreOf (take len rooms) 0 hit) (nextTarget (coreOf (take len rooms) 0 hit) (questionOf q []) status e))
-      → x ≡ packed (restsAt left (coreOf (take len rooms) size hit) (ioFails (coreOf (take len rooms) size hit) (questionOf q []) status e))
+  pub fails-on : {x : Packed} → t ≡ true → x ≡ packed (failureRests left (coreOf (take len rooms) 0 hit) (nextTarget (coreOf (take len rooms) 0 hit) (questionOf q []) status e))
+      → x ≡ packed (failureRests left (coreOf (take len rooms) size hit) (ioFails (coreOf (take len rooms) size hit) (questionOf q []) status e))
   fails-on k g =
       g
       ∙ (next-size left (take len rooms) size hit (questionOf q []) status e
-      ∙ ap (λ (a : Called). packed (restsAt left (coreOf (take len rooms) size hit) a)) (fails-next left (coreOf (take len rooms) size hit) (questionOf q []) status e h n k))
+      ∙ ap (λ (a : Called). packed (failureRests left (coreOf (take len rooms) size hit) a)) (fails-next left (coreOf (take len rooms) size hit) (questionOf q []) status e h n k))
 
   pub fails-end : Standing len rooms → t ≡ false → {r : Rested} → r ≡ endedAt Failed status len left hit
-      → joined r rooms ≡ packed (restsAt left (coreOf (take len rooms) size hit) (ioFails (coreOf (take len rooms) size hit) (questionOf q []) status e))
-  unfolding restsAt
+      → joined r rooms ≡ packed (failureRests left (coreOf (take len rooms) size hit) (ioFails (coreOf (take len rooms) size hit) (questionOf q []) status e))
+  unfolding failureRests
   fails-end s k g =
       packed-end len rooms s Failed status left size hit g
-      ∙ ap (λ (a : Called). packed (restsAt left (coreOf (take len rooms) size hit) a)) (fails-other left (coreOf (take len rooms) size hit) (questionOf q []) status e h n k)
+      ∙ ap (λ (a : Called). packed (failureRests left (coreOf (take len rooms) size hit) a)) (fails-other left (coreOf (take len rooms) size hit) (questionOf q []) status e h n k)
 
 -- the domain cache plays no part and stays as it is
 pub io-domains : (refs doms path : List ℕ) (size : ℕ) (hit : Bool) (q : Asking) (tried : List ℕ) (status : ℕ) → q .kind ≡ Io

@@ -18,11 +18,11 @@ use Rattle.steps.specs.declared.Kind.the-variants.{Io}
 use Rattle.steps.specs.declared.End.the-variants.{Failed}
 use Rattle.steps.specs.declared.Asking.{Asking}
 use Rattle.moves.specs.Moves.{Usable}
-use Rattle.rounds.specs.Rounds.{inRound, restsAt}
+use Rattle.rounds.specs.Rounds.{inRound, failureRests}
 
 -- the path tried, in its room
-unfoldable pub triedIn : ℕ → List ℕ → List ℕ
-triedIn tried rooms = take tried (drop 256 rooms)
+unfoldable pub triedRoom : ℕ → List ℕ → List ℕ
+triedRoom tried rooms = take tried (drop 256 rooms)
 
 -- a walk waits for an I/O answer: the cache is in order, both texts stand in their rooms, the prefix in use matches the path
 pub record Trying (refs rooms : List ℕ) (len tried : ℕ) (q : Asking) : Type 0 where
@@ -30,7 +30,7 @@ pub record Trying (refs rooms : List ℕ) (len tried : ℕ) (q : Asking) : Type 
   pub few : len ≤ 256
   pub tried-few : tried ≤ 256
   pub long : length rooms ≡ 512
-  pub stands : rooms ≡ textsOf (take len rooms) (triedIn tried rooms)
+  pub stands : rooms ≡ textsOf (take len rooms) (triedRoom tried rooms)
   pub good : goodPrefix (take len rooms) ≡ true
   pub waits-io : q .kind ≡ Io
   pub inside : q .entry ≤ len
@@ -60,7 +60,7 @@ nextTarget w q status e = onward (length (e .targets)) q (λ place. step8 w e pl
 
 -- where a turn that calls for an end or a question rests
 unfoldable pub restOf : ℕ → Turn → Resting
-restOf left t = restsAt left (t .core) (t .called)
+restOf left t = failureRests left (t .core) (t .called)
 
 -- a turn with this domain cache in place of its own
 unfoldable pub withDoms : List ℕ → Turn → Turn

@@ -7,8 +7,8 @@ ghost use Rattle.lookup.specs.Lookup.{entryAt};
 ghost use Rattle.steps.specs.Steps.{ioAnswered, ioFails};
 ghost use Rattle.steps.specs.Rested.{cachesOf, coreOf};
 ghost use Rattle.moves.specs.Moves.{joined, packed};
-ghost use Rattle.rounds.specs.Rounds.{questionOf, restsAt};
-ghost use Rattle.tries.specs.Tries.{triedIn, Trying, Failing, placeInUse, notCovered, nextTarget, restOf};
+ghost use Rattle.rounds.specs.Rounds.{questionOf, failureRests};
+ghost use Rattle.tries.specs.Tries.{triedRoom, Trying, Failing, placeInUse, notCovered, nextTarget, restOf};
 use lookup::Found;
 use steps::Asking;
 use steps::End;
@@ -55,7 +55,7 @@ fn not_covered(
     i: usize,
 ) -> Rested
     requires { ⌜ Failing (now refs) (now rooms) len i ⌝ }
-    ensures { λ r. ⌜ joined r (now (rooms .entry)) ≡ packed (restsAt left (coreOf (take len (now (rooms .entry))) size hit) (notCovered (coreOf (take len (now (rooms .entry))) size hit) (questionOf q []) status (entryAt referrals i (now (refs .entry))))) ⌝ }
+    ensures { λ r. ⌜ joined r (now (rooms .entry)) ≡ packed (failureRests left (coreOf (take len (now (rooms .entry))) size hit) (notCovered (coreOf (take len (now (rooms .entry))) size hit) (questionOf q []) status (entryAt referrals i (now (refs .entry))))) ⌝ }
 {
     if !lookup::is_root(refs, i) {
         return steps::end_at(End::Failed, status, len, left, hit);
@@ -83,7 +83,7 @@ fn next_target(
     i: usize,
 ) -> Rested
     requires { ⌜ Failing (now refs) (now rooms) len i ⌝ }
-    ensures { λ r. ⌜ joined r (now (rooms .exit)) ≡ packed (restsAt left (coreOf (take len (now (rooms .entry))) 0 hit) (nextTarget (coreOf (take len (now (rooms .entry))) 0 hit) (questionOf q []) status (entryAt referrals i (now (refs .entry))))) ⌝ }
+    ensures { λ r. ⌜ joined r (now (rooms .exit)) ≡ packed (failureRests left (coreOf (take len (now (rooms .entry))) 0 hit) (nextTarget (coreOf (take len (now (rooms .entry))) 0 hit) (questionOf q []) status (entryAt referrals i (now (refs .entry))))) ⌝ }
 {
     let target = rounds::next_place(lookup::target_count(refs, i), q.party);
     if target == q.began {
@@ -105,7 +105,7 @@ fn io_fails(
     i: usize,
 ) -> Rested
     requires { ⌜ Failing (now refs) (now rooms) len i ⌝ }
-    ensures { λ r. ⌜ joined r (now (rooms .exit)) ≡ packed (restsAt left (coreOf (take len (now (rooms .entry))) size hit) (ioFails (coreOf (take len (now (rooms .entry))) size hit) (questionOf q []) status (entryAt referrals i (now (refs .entry))))) ⌝ }
+    ensures { λ r. ⌜ joined r (now (rooms .exit)) ≡ packed (failureRests left (coreOf (take len (now (rooms .entry))) size hit) (ioFails (coreOf (take len (now (rooms .entry))) size hit) (questionOf q []) status (entryAt referrals i (now (refs .entry))))) ⌝ }
 {
     if status == NOT_COVERED {
         return not_covered(refs, rooms, len, left, hit, size, q, status, i);
@@ -129,8 +129,8 @@ pub fn io_answer(
     status: u32,
 ) -> Rested
     requires { ⌜ Trying (now refs) (now rooms) len tried q ⌝ }
-    ensures rest { λ r. ⌜ joined r (now (rooms .exit)) ≡ packed (restOf left (ioAnswered (cachesOf (now (refs .entry)) []) (coreOf (take len (now (rooms .entry))) size hit) (questionOf q (triedIn tried (now (rooms .entry)))) status)) ⌝ }
-    ensures cache { λ r. ⌜ now (refs .exit) ≡ encode referrals (ioAnswered (cachesOf (now (refs .entry)) []) (coreOf (take len (now (rooms .entry))) size hit) (questionOf q (triedIn tried (now (rooms .entry)))) status .caches .referrals) ⌝ }
+    ensures rest { λ r. ⌜ joined r (now (rooms .exit)) ≡ packed (restOf left (ioAnswered (cachesOf (now (refs .entry)) []) (coreOf (take len (now (rooms .entry))) size hit) (questionOf q (triedRoom tried (now (rooms .entry)))) status)) ⌝ }
+    ensures cache { λ r. ⌜ now (refs .exit) ≡ encode referrals (ioAnswered (cachesOf (now (refs .entry)) []) (coreOf (take len (now (rooms .entry))) size hit) (questionOf q (triedRoom tried (now (rooms .entry)))) status .caches .referrals) ⌝ }
 {
     let entry = q.entry as usize;
     let Found::At(i) = place(refs, &rooms[..entry], q.party, q.began) else {

@@ -35,7 +35,7 @@ use Rattle.walks.specs.declared.Walk.{Walk}
 use Rattle.walks.proofs.FormLaws.{Formed, form-told, first-rooms, Waiting, waiting-told, Prefixed, io-named, link-named, dc-named, sysvol-named, Rooted, root-named, request-tried}
 use Rattle.closing.specs.Closing.{Left, closes, closedRest}
 use Rattle.closing.proofs.RestLaws.{closed-rest}
-use Rattle.turns.specs.Turns.{coreIn, Due, ioTurn, referralTurn}
+use Rattle.turns.specs.Turns.{coreIn, AnswerDue, ioTurn, referralTurn}
 use Rattle.turns.proofs.TurnLaws.{kept-referral, kept-io}
 
 pub tried-io : (k : Kind) → hasTried k ≡ true → k ≡ Io
@@ -67,7 +67,7 @@ pub rooms-copied : (texts d : List ℕ) {m : List ℕ} → length texts ≡ 768 
 rooms-copied texts d k l e = e ∙ pasted-whole d (take 512 texts) (length-take-le 512 texts (omega arith) ∙ sym l)
 
 -- what is due, and the texts in the copy
-module _ {refs : List ℕ} {walk : Walk} {texts : List ℕ} {q : Asking} {has : Bool} (d : Due refs walk texts q has) where
+module _ {refs : List ℕ} {walk : Walk} {texts : List ℕ} {q : Asking} {has : Bool} (d : AnswerDue refs walk texts q has) where
   formed : Formed walk texts
   formed = form-told walk texts (d .form)
 
@@ -93,8 +93,8 @@ module _ {refs : List ℕ} {walk : Walk} {texts : List ℕ} {q : Asking} {has : 
     path-there : take (walk .path) m ≡ pathIn walk texts
     path-there = (λ j. take (sym (formed .path-length) j) (as-rooms j)) ∙ path-in (pathIn walk texts) (triedIn walk texts)
 
-    tried-there : tries.triedIn (walk .tried) m ≡ triedIn walk texts
-    unfolding tries.triedIn textsOf
+    tried-there : tries.triedRoom (walk .tried) m ≡ triedIn walk texts
+    unfolding tries.triedRoom textsOf
     tried-there =
         (λ j. take (sym (formed .tried-length) j) (drop 256 (as-rooms j)))
         ∙ (ap (take (length (triedIn walk texts))) (drop-at (roomed 256 (pathIn walk texts)) (roomed 256 (triedIn walk texts)) 256 (length-roomed 256 (pathIn walk texts) short))
@@ -121,17 +121,17 @@ module _ {refs : List ℕ} {walk : Walk} {texts : List ℕ} {q : Asking} {has : 
 
     -- the turn of an I/O answer, from the copy
     io-copied : (status : ℕ)
-        → ioAnswered (cachesOf refs []) (coreOf (take (walk .path) m) (walk .size) (walk .hit)) (questionOf q (tries.triedIn (walk .tried) m)) status ≡ ioTurn refs texts walk q status
+        → ioAnswered (cachesOf refs []) (coreOf (take (walk .path) m) (walk .size) (walk .hit)) (questionOf q (tries.triedRoom (walk .tried) m)) status ≡ ioTurn refs texts walk q status
     unfolding ioTurn coreIn
     io-copied status = λ j. ioAnswered (cachesOf refs []) (coreOf (path-there j) (walk .size) (walk .hit)) (questionOf q (tried-there j)) status
 
     pub io-rests : (status : ℕ) {x : Packed}
-        → x ≡ packed (restOf (walk .limit - walk .moves) (ioAnswered (cachesOf refs []) (coreOf (take (walk .path) m) (walk .size) (walk .hit)) (questionOf q (tries.triedIn (walk .tried) m)) status))
+        → x ≡ packed (restOf (walk .limit - walk .moves) (ioAnswered (cachesOf refs []) (coreOf (take (walk .path) m) (walk .size) (walk .hit)) (questionOf q (tries.triedRoom (walk .tried) m)) status))
         → x ≡ packed (restOf (walk .limit - walk .moves) (ioTurn refs texts walk q status))
     io-rests status h = h ∙ ap (λ (t : Turn). packed (restOf (walk .limit - walk .moves) t)) (io-copied status)
 
     pub io-cache : (status : ℕ) {x : List ℕ}
-        → x ≡ encode referrals (ioAnswered (cachesOf refs []) (coreOf (take (walk .path) m) (walk .size) (walk .hit)) (questionOf q (tries.triedIn (walk .tried) m)) status .caches .referrals)
+        → x ≡ encode referrals (ioAnswered (cachesOf refs []) (coreOf (take (walk .path) m) (walk .size) (walk .hit)) (questionOf q (tries.triedRoom (walk .tried) m)) status .caches .referrals)
         → x ≡ encode referrals (ioTurn refs texts walk q status .caches .referrals)
     io-cache status h = h ∙ ap (λ (t : Turn). encode referrals (t .caches .referrals)) (io-copied status)
 

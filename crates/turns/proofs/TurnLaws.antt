@@ -14,7 +14,7 @@ use Rattle.referral.specs.Replies.{malformed, nothing, says}
 use Rattle.steps.specs.Steps.{Caches, Core, Question, Called, Turn, turned, goes, withHit, dcAnswer, referralAnswer, storedTurn, referralSucceeds, referralAnswered, ioWith, ioAnswered}
 use Rattle.steps.specs.declared.Kind.{Kind}
 use Rattle.steps.specs.declared.Kind.the-variants.{Dc, Root, Link, Sysvol, Io}
-use Rattle.rounds.specs.Rounds.{restsAt}
+use Rattle.rounds.specs.Rounds.{failureRests}
 use Rattle.steps.specs.Steps.{rests, severity}
 use Rattle.questions.specs.Questions.{requestName, nameFits, restFits}
 use Rattle.answers.proofs.RestLaws.{Kept, kept-goes}
@@ -100,7 +100,7 @@ abbrev Still : Caches → ℕ → ℕ → Turn → Type 0
 Still c n room t = (t .caches ≡ c) ⊎ (restFits room (restOf n t) ≡ true)
 
 still-with : (c : Caches) (w : Core) (q : Question) (status n room : ℕ) (o : Option Referral) → Still c n room (ioWith c w q status o)
-unfolding ioWith restOf restsAt rests restFits requestName nameFits
+unfolding ioWith restOf failureRests rests restFits requestName nameFits
 still-with c w q status n room none = inl refl
 still-with c w q status n room (some e) = chosen (Still c n room) (eqb (severity status) 3) (inl refl) (inr refl)
 

@@ -17,7 +17,7 @@ unfoldable pub coreIn : Walk → List ℕ → Core
 coreIn w texts = coreOf (pathIn w texts) (w .size) (w .hit)
 
 -- an answer is due: the referral cache is in order, the walk is in form and waits at q, which has a path tried or none
-pub record Due (refs : List ℕ) (walk : Walk) (texts : List ℕ) (q : Asking) (has : Bool) : Type 0 where
+pub record AnswerDue (refs : List ℕ) (walk : Walk) (texts : List ℕ) (q : Asking) (has : Bool) : Type 0 where
   pub order : inOrder referrals refs ≡ true
   pub form : inForm walk texts ≡ true
   pub next : walk .next ≡ Asks q

@@ -10,7 +10,7 @@ ghost use Rattle.hints.specs.Hints.{referralsLeft};
 ghost use Rattle.tries.specs.Tries.{restOf};
 ghost use Rattle.walks.specs.Walks.{bootIn};
 ghost use Rattle.closing.specs.Closing.{left, closes};
-ghost use Rattle.turns.specs.Turns.{Due, ioTurn, referralTurn};
+ghost use Rattle.turns.specs.Turns.{AnswerDue, ioTurn, referralTurn};
 use closing::Outcome;
 use steps::Asking;
 use walks::Walk;
@@ -34,7 +34,7 @@ pub fn io_turn(
     status: u32,
     out: &mut [u8],
 ) -> Outcome
-    requires { ⌜ Due (now refs) walk (now texts) q true ⌝ }
+    requires { ⌜ AnswerDue (now refs) walk (now texts) q true ⌝ }
     ensures left { λ o. ⌜ left o (now (texts .exit)) (now (out .exit)) ≡ closes (walk .limit) (bootIn walk (now (texts .entry))) (restOf (walk .limit - walk .moves) (ioTurn (now (refs .entry)) (now (texts .entry)) walk q status)) walk (now (texts .entry)) (now (out .entry)) ⌝ }
     ensures cache { λ o. ⌜ now (refs .exit) ≡ encode referrals (ioTurn (now (refs .entry)) (now (texts .entry)) walk q status .caches .referrals) ⌝ }
 {
@@ -66,7 +66,7 @@ pub fn referral_turn(
     clock: u32,
     out: &mut [u8],
 ) -> Outcome
-    requires { ⌜ Due (now refs) walk (now texts) q false × (inOrder domains (now doms) ≡ true) ⌝ }
+    requires { ⌜ AnswerDue (now refs) walk (now texts) q false × (inOrder domains (now doms) ≡ true) ⌝ }
     ensures left { λ o. ⌜ left o (now (texts .exit)) (now (out .exit)) ≡ closes (walk .limit) (bootIn walk (now (texts .entry))) (turned (walk .limit - walk .moves) clock (referralTurn (now (refs .entry)) (now (doms .entry)) (now (texts .entry)) walk q status (now (reply .entry)) clock)) walk (now (texts .entry)) (now (out .entry)) ⌝ }
     ensures refs { λ o. ⌜ now (refs .exit) ≡ referralsLeft (length (now (out .entry))) (walk .limit - walk .moves) clock (referralTurn (now (refs .entry)) (now (doms .entry)) (now (texts .entry)) walk q status (now (reply .entry)) clock) (now (refs .entry)) ⌝ }
     ensures doms { λ o. ⌜ now (doms .exit) ≡ domainsLeft (length (now (out .entry))) (walk .limit - walk .moves) clock (referralTurn (now (refs .entry)) (now (doms .entry)) (now (texts .entry)) walk q status (now (reply .entry)) clock) (now (doms .entry)) ⌝ }

@@ -120,5 +120,5 @@ unfoldable pub replaced : List ℕ → ℕ → List ℕ → List ℕ
 replaced target k s = target ++ drop k s
 
 -- a text written into a room of n units, or told to be too long for it
-unfoldable pub written : ℕ → List ℕ → Written
-written n s = choose (leb (length s) n) (Units (length s)) TooLong
+unfoldable pub writtenWithin : ℕ → List ℕ → Written
+writtenWithin n s = choose (leb (length s) n) (Units (length s)) TooLong

@@ -30,51 +30,51 @@ unfoldable pub bitsOf : ReferralFound → ℕ
 bitsOf f = bitOf (f .root) + (2 * bitOf (f .servers) + (4 * bitOf (f .storage) + 8 * bitOf (f .failback)))
 
 -- the answer, version, bits, count, TTL, prefix and number of targets
-unfoldable pub headOf : ReferralFound → List ℕ
-headOf f =
+unfoldable pub foundNumbers : ReferralFound → List ℕ
+foundNumbers f =
     answerNumber (f .answer) ∷ f .version ∷ bitsOf f ∷ f .count ∷ f .ttl ∷ f .prefix .from ∷ f .prefix .units ∷ f .targets ∷ []
 
-unfoldable pub keptOf : Kept → List ℕ
-keptOf k = k .path .from ∷ k .path .units ∷ bitOf (k .opens) ∷ []
+unfoldable pub targetNumbers : Kept → List ℕ
+targetNumbers k = k .path .from ∷ k .path .units ∷ bitOf (k .opens) ∷ []
 
 unfoldable pub noKept : Kept
 noKept = record { path = record { from = 0; units = 0 }; opens = false }
 
 -- number k of what a reader found
-pub record HeadOf (size : ℕ) (asked r : List ℕ) (k v : ℕ) : Type 0 where
+pub record FoundNumber (size : ℕ) (asked r : List ℕ) (k v : ℕ) : Type 0 where
   pub found : ReferralFound
   pub is : denoted r found ≡ readReferral size asked r
-  pub number : v ≡ getD (headOf found) k 0
+  pub number : v ≡ getD (foundNumbers found) k 0
 
 -- number k of its target i
-pub record TargetOf (size : ℕ) (asked r : List ℕ) (i k v : ℕ) : Type 0 where
+pub record TargetNumber (size : ℕ) (asked r : List ℕ) (i k v : ℕ) : Type 0 where
   pub found : ReferralFound
   pub is : denoted r found ≡ readReferral size asked r
-  pub number : v ≡ getD (keptOf (getD (found .kept) i noKept)) k 0
+  pub number : v ≡ getD (targetNumbers (getD (found .kept) i noKept)) k 0
 
 -- number k of its DC i, or, at i = 8, its answer and the number of its DCs
 unfoldable pub spanOf : Span → List ℕ
 spanOf s = s .from ∷ s .units ∷ []
 
-pub record DcOf (size : ℕ) (r : List ℕ) (i k v : ℕ) : Type 0 where
+pub record DcNumber (size : ℕ) (r : List ℕ) (i k v : ℕ) : Type 0 where
   pub found : DcsFound
   pub is : denotedDcs r found ≡ readDcs size r
   pub number : v ≡ getD (spanOf (getD (found .kept) i (record { from = 0; units = 0 }))) k 0
 
-pub record DcsOf (size : ℕ) (r : List ℕ) (k v : ℕ) : Type 0 where
+pub record DcsNumber (size : ℕ) (r : List ℕ) (k v : ℕ) : Type 0 where
   pub found : DcsFound
   pub is : denotedDcs r found ≡ readDcs size r
   pub number : v ≡ getD (answerNumber (found .answer) ∷ found .count ∷ []) k 0
 
 -- a good domain reply that has an entry i
-pub record Good (r : List ℕ) (i : ℕ) : Type 0 where
+pub record GoodDomains (r : List ℕ) (i : ℕ) : Type 0 where
   pub header : 8 ≤ length r
   pub short : length r < 4294967296
   pub good : every (goodDomain r) (entries r) ≡ true
   pub there : i < referralCount r
 
 -- number k of its domain i
-pub record DomainOf (r : List ℕ) (i k v : ℕ) : Type 0 where
+pub record DomainNumber (r : List ℕ) (i k v : ℕ) : Type 0 where
   pub span : Span
   pub is : spanned r span ≡ domainAt r (getD (entries r) i 0)
   pub number : v ≡ getD (spanOf span) k 0

@@ -4,7 +4,7 @@ ghost use Prim.Native.Nat.{_+_, _<_, _≤_};
 ghost use lib.ListN.{length, getD};
 ghost use Rattle.namelists.specs.NameLists.{readDomains};
 ghost use Rattle.namelists.specs.Found.{answerOf};
-ghost use Rattle.wire.specs.Wire.{answerNumber, bitOf, bitsOf, headOf, keptOf, HeadOf, TargetOf, DcOf, DcsOf, Good, DomainOf};
+ghost use Rattle.wire.specs.Wire.{answerNumber, bitOf, bitsOf, foundNumbers, targetNumbers, FoundNumber, TargetNumber, DcNumber, DcsNumber, GoodDomains, DomainNumber};
 ghost use Rattle.referral.specs.Replies.{referralCount, entries};
 ghost use Rattle.referral.specs.declared.Answer.the-variants.{Says};
 use referral::Answer;
@@ -37,7 +37,7 @@ fn bits(f: ReferralFound) -> u64
 }
 
 fn head_number(f: ReferralFound, k: usize) -> u64
-    ensures { λ v. ⌜ v ≡ getD (headOf f) k 0 ⌝ }
+    ensures { λ v. ⌜ v ≡ getD (foundNumbers f) k 0 ⌝ }
 {
     let a = f.answer;
     if k == 0 {
@@ -68,7 +68,7 @@ fn head_number(f: ReferralFound, k: usize) -> u64
 }
 
 fn kept_number(t: Kept, k: usize) -> u64
-    ensures { λ v. ⌜ v ≡ getD (keptOf t) k 0 ⌝ }
+    ensures { λ v. ⌜ v ≡ getD (targetNumbers t) k 0 ⌝ }
 {
     if k == 0 {
         return t.path.from as u64;
@@ -85,7 +85,7 @@ fn kept_number(t: Kept, k: usize) -> u64
 // Number k of a reply to a root, link or SYSVOL request: answer, version, bits, count, TTL, prefix, number of targets.
 #[no_mangle]
 pub extern "C" fn wire_referral(reply: &[u8], size: u32, asked: &[u16], k: usize) -> u64
-    ensures { λ v. ⌜ HeadOf size (now (asked .entry)) (now (reply .entry)) k v ⌝ }
+    ensures { λ v. ⌜ FoundNumber size (now (asked .entry)) (now (reply .entry)) k v ⌝ }
 {
     let f = referral::read_referral(reply, size, asked);
     head_number(f, k)
@@ -94,7 +94,7 @@ pub extern "C" fn wire_referral(reply: &[u8], size: u32, asked: &[u16], k: usize
 // Number k of its target i: where the path starts, its units, whether a set opens before it.
 #[no_mangle]
 pub extern "C" fn wire_target(reply: &[u8], size: u32, asked: &[u16], i: usize, k: usize) -> u64
-    ensures { λ v. ⌜ (i < 8 → TargetOf size (now (asked .entry)) (now (reply .entry)) i k v) ⌝ }
+    ensures { λ v. ⌜ (i < 8 → TargetNumber size (now (asked .entry)) (now (reply .entry)) i k v) ⌝ }
 {
     if 8 <= i {
         return 0;
@@ -108,7 +108,7 @@ pub extern "C" fn wire_target(reply: &[u8], size: u32, asked: &[u16], i: usize, 
 // Number k of a DC reply: answer, number of DCs.
 #[no_mangle]
 pub extern "C" fn wire_dcs(reply: &[u8], size: u32, k: usize) -> u64
-    ensures { λ v. ⌜ DcsOf size (now (reply .entry)) k v ⌝ }
+    ensures { λ v. ⌜ DcsNumber size (now (reply .entry)) k v ⌝ }
 {
     let f = namelists::read_dcs(reply, size);
     let a = f.answer;
@@ -124,7 +124,7 @@ pub extern "C" fn wire_dcs(reply: &[u8], size: u32, k: usize) -> u64
 // Number k of its DC i: where the name starts, its units.
 #[no_mangle]
 pub extern "C" fn wire_dc(reply: &[u8], size: u32, i: usize, k: usize) -> u64
-    ensures { λ v. ⌜ (i < 8 → DcOf size (now (reply .entry)) i k v) ⌝ }
+    ensures { λ v. ⌜ (i < 8 → DcNumber size (now (reply .entry)) i k v) ⌝ }
 {
     if 8 <= i {
         return 0;
@@ -152,7 +152,7 @@ pub extern "C" fn wire_domains(reply: &[u8], size: u32) -> u64
 
 // Where entry i of a good domain reply starts.
 fn entry_at(r: &[u8], i: usize) -> usize
-    requires { ⌜ Good (now r) i ⌝ }
+    requires { ⌜ GoodDomains (now r) i ⌝ }
     ensures start { λ v. ⌜ v ≡ getD (entries (now (r .entry))) i 0 ⌝ }
     ensures inside { λ v. ⌜ v + 18 ≤ length (now (r .entry)) ⌝ }
 {
@@ -167,8 +167,8 @@ fn entry_at(r: &[u8], i: usize) -> usize
 
 // Number k of domain i of a good domain reply: where the name starts, its units.
 fn domain_number(r: &[u8], i: usize, k: usize) -> u64
-    requires { ⌜ Good (now r) i ⌝ }
-    ensures { λ v. ⌜ DomainOf (now (r .entry)) i k v ⌝ }
+    requires { ⌜ GoodDomains (now r) i ⌝ }
+    ensures { λ v. ⌜ DomainNumber (now (r .entry)) i k v ⌝ }
 {
     let e = entry_at(r, i);
     let s = namelists::domain_at(r, e);
@@ -184,7 +184,7 @@ fn domain_number(r: &[u8], i: usize, k: usize) -> u64
 // Number k of domain i of a domain reply that says something.
 #[no_mangle]
 pub extern "C" fn wire_domain(reply: &[u8], size: u32, i: usize, k: usize) -> u64
-    ensures { λ v. ⌜ (Says ≡ answerOf (readDomains size (now (reply .entry))) → i < referralCount (now (reply .entry)) → DomainOf (now (reply .entry)) i k v) ⌝ }
+    ensures { λ v. ⌜ (Says ≡ answerOf (readDomains size (now (reply .entry))) → i < referralCount (now (reply .entry)) → DomainNumber (now (reply .entry)) i k v) ⌝ }
 {
     if wire_domains(reply, size) != 2 {
         return 0;

@@ -9,7 +9,7 @@ use Rattle.spans.specs.Spans.{spanned}
 use Rattle.places.specs.Layout.{changed}
 use Rattle.entries.specs.Writing.{addAll, addDc}
 use Rattle.entries.proofs.WritingLaws.{kept-at, shown-at, length-shown, shortName, keeps-dc, all-more, all-done}
-use Rattle.domains.specs.Domains.{nameFits}
+use Rattle.domains.specs.Domains.{goodNameSpan}
 use Rattle.domains.proofs.DcLaws.{fits-room, all-good, good-short, dc-added}
 use borrow.Author.Needs.{needs}
 use Rattle.domains.proofs.add_dcs.Statement.{statement}
@@ -40,7 +40,7 @@ add-text-requires : tie.Need-add-text-requires Inv-loop μ-loop
 add-text-requires c κs =
     let a = c .before .before .before .before .before .before .args in
     let l : length (a .t4) ≡ 8 = search needs in
-    (omega arith, (omega arith, fits-room (now (a .reply)) _ (kept-at (a .t4) (a .count) (c .before .before .before .loop .n) _ (omega arith) (omega arith) (nameFits (now (a .reply))) (c .before .before .before .before .before .before .pre .1 .1))))
+    (omega arith, (omega arith, fits-room (now (a .reply)) _ (kept-at (a .t4) (a .count) (c .before .before .before .loop .n) _ (omega arith) (omega arith) (goodNameSpan (now (a .reply))) (c .before .before .before .before .before .before .pre .1 .1))))
 
 add-n : tie.Need-add-n Inv-loop μ-loop
 add-n c = search needs

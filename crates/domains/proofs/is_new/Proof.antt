@@ -7,7 +7,7 @@ use native.Mathlib.Omega.{arith}
 use lib.ListN.{length, take, drop}
 use Rattle.spans.specs.Spans.{spanned}
 use Rattle.entries.proofs.WritingLaws.{kept-at, shown-at, length-shown}
-use Rattle.domains.specs.Domains.{nameFits}
+use Rattle.domains.specs.Domains.{goodNameSpan}
 use Rattle.domains.specs.Gathering.{isNew}
 use Rattle.domains.proofs.DcLaws.{fits-inside}
 use Rattle.domains.proofs.OnceLaws.{new-more, new-broken, new-end}
@@ -35,7 +35,7 @@ same-spans-requires : tie.Need-same-spans-requires Inv-loop μ-loop
 same-spans-requires c κs =
     let s = c .before .before .before .before in
     let l : length (s .args .t2) ≡ 33 = search needs in
-    (fits-inside (now (s .args .reply)) _ (kept-at (s .args .t2) (s .args .count) (c .before .before .loop .j) _ (omega arith) (omega arith) (nameFits (now (s .args .reply))) (s .pre .1 .0)), s .pre .1 .1)
+    (fits-inside (now (s .args .reply)) _ (kept-at (s .args .t2) (s .args .count) (c .before .before .loop .j) _ (omega arith) (omega arith) (goodNameSpan (now (s .args .reply))) (s .pre .1 .0)), s .pre .1 .1)
 
 returns : tie.Need-returns Inv-loop μ-loop
 returns c =

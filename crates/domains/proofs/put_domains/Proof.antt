@@ -10,7 +10,7 @@ use Rattle.caches.specs.Memory.{domains, encode}
 use Rattle.caches.proofs.MemoryLaws.{size-told}
 use Rattle.entries.proofs.WritingLaws.{kept-at, shown-at, length-shown}
 use Rattle.storing.specs.Stored.{domainPlaces}
-use Rattle.domains.specs.Domains.{nameFits}
+use Rattle.domains.specs.Domains.{goodNameSpan}
 use Rattle.domains.proofs.DcLaws.{fits-room, all-good}
 use Rattle.domains.proofs.NamesLaws.{all-free, name-put, names-put}
 use borrow.Author.Needs.{needs}
@@ -45,7 +45,7 @@ add-text-requires c κs =
     let s = c .before .before .before .before .before .before .before .before .before .before in
     let l : length (s .args .t3) ≡ 33 = search needs in
     let m = size-told (now (s .args .cache)) (s .pre .0) .most in
-    (omega arith, (omega arith, fits-room (now (s .args .reply)) _ (kept-at (s .args .t3) (s .args .count) (c .before .before .before .loop .i) _ (omega arith) (omega arith) (nameFits (now (s .args .reply))) (s .pre .1 .1))))
+    (omega arith, (omega arith, fits-room (now (s .args .reply)) _ (kept-at (s .args .t3) (s .args .count) (c .before .before .before .loop .i) _ (omega arith) (omega arith) (goodNameSpan (now (s .args .reply))) (s .pre .1 .1))))
 
 add-i : tie.Need-add-i Inv-loop μ-loop
 add-i c = search needs

@@ -1,5 +1,5 @@
 use Rattle.hexes.proofs.HexLaws.{length-bytes, getD-bytes, front-more, front-all, front-count}
-use Rattle.hexes.specs.Hexes.{bytesOf}
+use Rattle.hexes.specs.Hexes.{hexBytes}
 use Rattle.laws.proofs.Pasting.{pasted-nil}
 use Rattle.laws.specs.Lists.{pasted}
 use lib.ListN.{length, take}
@@ -12,7 +12,7 @@ use Rattle.hexes.proofs.put_bytes.Statement.{statement}
 use Rattle.hexes.proofs.put_bytes.Tie as tie
 
 abbrev Inv-loop : tie.InvT-loop
-Inv-loop s out₀ n i₀ out i = (i ≤ n) × ((length out ≡ length out₀) × (out ≡ pasted out₀ 0 (take i (bytesOf s))))
+Inv-loop s out₀ n i₀ out i = (i ≤ n) × ((length out ≡ length out₀) × (out ≡ pasted out₀ 0 (take i (hexBytes s))))
 
 abbrev μ-loop : tie.MeasureT-loop
 μ-loop s out₀ n i₀ out i = n - i
@@ -39,13 +39,13 @@ loop-less : tie.Need-loop-less Inv-loop μ-loop
 loop-less c = search needs
 
 loop-again : tie.Need-loop-again Inv-loop μ-loop
-loop-again c = (omega arith, (search needs, front-more (now (c .before .before .before .before .before .before .args .out)) (bytesOf (now (c .before .before .before .before .before .before .args .s))) (c .before .before .loop .i) (c .before .before .loop .inv .1 .1) (omega (arith, c .before .before .before .least .ensures, length-bytes (now (c .before .before .before .before .before .before .args .s)))) (omega (arith, c .before .before .before .least .ensures)) (c .byte-at .ensures .0 ∙ sym (getD-bytes (now (c .before .before .before .before .before .before .args .s)) (c .before .before .loop .i) (omega (arith, c .before .before .before .least .ensures))))))
+loop-again c = (omega arith, (search needs, front-more (now (c .before .before .before .before .before .before .args .out)) (hexBytes (now (c .before .before .before .before .before .before .args .s))) (c .before .before .loop .i) (c .before .before .loop .inv .1 .1) (omega (arith, c .before .before .before .least .ensures, length-bytes (now (c .before .before .before .before .before .before .args .s)))) (omega (arith, c .before .before .before .least .ensures)) (c .byte-at .ensures .0 ∙ sym (getD-bytes (now (c .before .before .before .before .before .before .args .s)) (c .before .before .loop .i) (omega (arith, c .before .before .before .least .ensures))))))
 
 same-length : tie.Need-same-length Inv-loop μ-loop
 same-length c = search needs
 
 returns : tie.Need-returns Inv-loop μ-loop
-returns c = (front-count (now (c .before .before .before .before .before .args .out)) (bytesOf (now (c .before .before .before .before .before .args .s))) _ (c .before .before .least .ensures ∙ ap (min (length (now (c .before .before .before .before .before .args .out)))) (sym (length-bytes (now (c .before .before .before .before .before .args .s))))), front-all (now (c .before .before .before .before .before .args .out)) (bytesOf (now (c .before .before .before .before .before .args .s))) (c .before .loop .i) (c .before .before .least .result) (c .before .loop .inv .1 .1) (c .loop-test .left) (c .before .loop .inv .0) (c .before .before .least .ensures ∙ ap (min (length (now (c .before .before .before .before .before .args .out)))) (sym (length-bytes (now (c .before .before .before .before .before .args .s))))))
+returns c = (front-count (now (c .before .before .before .before .before .args .out)) (hexBytes (now (c .before .before .before .before .before .args .s))) _ (c .before .before .least .ensures ∙ ap (min (length (now (c .before .before .before .before .before .args .out)))) (sym (length-bytes (now (c .before .before .before .before .before .args .s))))), front-all (now (c .before .before .before .before .before .args .out)) (hexBytes (now (c .before .before .before .before .before .args .s))) (c .before .loop .i) (c .before .before .least .result) (c .before .loop .inv .1 .1) (c .loop-test .left) (c .before .loop .inv .0) (c .before .before .least .ensures ∙ ap (min (length (now (c .before .before .before .before .before .args .out)))) (sym (length-bytes (now (c .before .before .before .before .before .args .s))))))
 
 pub put-bytes-spec : {M : Type 1} → statement M
 put-bytes-spec =

@@ -1,4 +1,4 @@
-use Rattle.domains.specs.Domains.{refusalNumber}
+use Rattle.domains.specs.Domains.{domainsRefusal}
 use mathlib.Core.Path.{sym, ap}
 use borrow.Author.Needs.{needs}
 use Rattle.holding.proofs.domains_number.Statement.{statement}
@@ -20,24 +20,24 @@ enum-told-5 : tie.Need-enum-told-5
 enum-told-5 c = search needs
 
 returns : tie.Need-returns
-unfolding refusalNumber
-returns c = ap refusalNumber (sym (c .enum-told .given .1))
+unfolding domainsRefusal
+returns c = ap domainsRefusal (sym (c .enum-told .given .1))
 
 returns-2 : tie.Need-returns-2
-unfolding refusalNumber
-returns-2 c = ap refusalNumber (sym (c .enum-told2 .given .1))
+unfolding domainsRefusal
+returns-2 c = ap domainsRefusal (sym (c .enum-told2 .given .1))
 
 returns-3 : tie.Need-returns-3
-unfolding refusalNumber
-returns-3 c = ap refusalNumber (sym (c .enum-told3 .given .1))
+unfolding domainsRefusal
+returns-3 c = ap domainsRefusal (sym (c .enum-told3 .given .1))
 
 returns-4 : tie.Need-returns-4
-unfolding refusalNumber
-returns-4 c = ap refusalNumber (sym (c .enum-told4 .given .1))
+unfolding domainsRefusal
+returns-4 c = ap domainsRefusal (sym (c .enum-told4 .given .1))
 
 returns-5 : tie.Need-returns-5
-unfolding refusalNumber
-returns-5 c = ap refusalNumber (sym (c .enum-told5 .given .1))
+unfolding domainsRefusal
+returns-5 c = ap domainsRefusal (sym (c .enum-told5 .given .1))
 
 pub domains-number-spec : {M : Type 1} → statement M
 domains-number-spec =

@@ -1,5 +1,5 @@
 use mathlib.Core.Path.{sym, ap}
-use Rattle.listing.specs.Listed.{refusalNumber}
+use Rattle.listing.specs.Listed.{listRefusal}
 use Rattle.holding.specs.Listing.{listResult}
 use borrow.Author.Needs.{needs}
 use Rattle.holding.proofs.list_result.Statement.{statement}
@@ -15,15 +15,15 @@ enum-told-2 : tie.Need-enum-told-2
 enum-told-2 c = search needs
 
 returns : tie.Need-returns
-unfolding listResult refusalNumber
+unfolding listResult listRefusal
 returns c = ap listResult (sym (c .before .answer .given .1))
 
 returns-2 : tie.Need-returns-2
-unfolding listResult refusalNumber
+unfolding listResult listRefusal
 returns-2 c = ap listResult (sym (c .enum-told .given .1))
 
 returns-3 : tie.Need-returns-3
-unfolding listResult refusalNumber
+unfolding listResult listRefusal
 returns-3 c = ap listResult (sym (c .enum-told2 .given .1))
 
 pub list-result-spec : {M : Type 1} → statement M

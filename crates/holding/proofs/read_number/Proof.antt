@@ -1,4 +1,4 @@
-use Rattle.loading.specs.Loaded.{refusalNumber}
+use Rattle.loading.specs.Loaded.{loadRefusal}
 use mathlib.Core.Path.{sym, ap}
 use borrow.Author.Needs.{needs}
 use Rattle.holding.proofs.read_number.Statement.{statement}
@@ -17,20 +17,20 @@ enum-told-4 : tie.Need-enum-told-4
 enum-told-4 c = search needs
 
 returns : tie.Need-returns
-unfolding refusalNumber
-returns c = ap refusalNumber (sym (c .enum-told .given .1))
+unfolding loadRefusal
+returns c = ap loadRefusal (sym (c .enum-told .given .1))
 
 returns-2 : tie.Need-returns-2
-unfolding refusalNumber
-returns-2 c = ap refusalNumber (sym (c .enum-told2 .given .1))
+unfolding loadRefusal
+returns-2 c = ap loadRefusal (sym (c .enum-told2 .given .1))
 
 returns-3 : tie.Need-returns-3
-unfolding refusalNumber
-returns-3 c = ap refusalNumber (sym (c .enum-told3 .given .1))
+unfolding loadRefusal
+returns-3 c = ap loadRefusal (sym (c .enum-told3 .given .1))
 
 returns-4 : tie.Need-returns-4
-unfolding refusalNumber
-returns-4 c = ap refusalNumber (sym (c .enum-told4 .given .1))
+unfolding loadRefusal
+returns-4 c = ap loadRefusal (sym (c .enum-told4 .given .1))
 
 pub read-number-spec : {M : Type 1} → statement M
 read-number-spec = tie.close (tie.spec enum-told enum-told-2 enum-told-3 enum-told-4 returns returns-2 returns-3 returns-4)

@@ -3,7 +3,7 @@ use lib.ListN.{length}
 use lib.Seq.{length-take-le}
 use denote.Ref.{now}
 use native.Mathlib.Omega.{arith}
-use Rattle.lines.specs.Lines.{hasKey}
+use Rattle.lines.specs.Lines.{lineHasKey}
 use Rattle.lines.proofs.LineLaws.{key-short}
 use borrow.Author.Needs.{needs}
 use Rattle.lines.proofs.has_key.Statement.{statement}
@@ -19,7 +19,7 @@ same-units-requires : tie.Need-same-units-requires
 same-units-requires c κs = search needs
 
 returns-2 : tie.Need-returns-2
-unfolding hasKey
+unfolding lineHasKey
 returns-2 c = c .same-units .ensures
 
 pub has-key-spec : {M : Type 1} → statement M

@@ -2,7 +2,7 @@ use Rattle.moves.proofs.PointLaws.{path-stays, path-goes}
 use mathlib.Core.Path.{ap, _∙_}
 use mathlib.Core.List.{List}
 use Prim.Native.Nat.{ℕ, _-_}
-use Rattle.unc.specs.Paths.{written}
+use Rattle.unc.specs.Paths.{writtenWithin}
 use Rattle.moves.specs.Moves.{movedTo}
 use native.Mathlib.Omega.{arith}
 use denote.Ref.{now}
@@ -23,7 +23,7 @@ same-length : tie.Need-same-length
 same-length c = search needs
 
 returns-2 : tie.Need-returns-2
-returns-2 c = (c .before .before .step11 .ensures .0 ∙ ap (written 256) (path-goes (now (c .before .before .before .before .before .before .before .args .refs)) (now (c .before .before .before .before .before .before .before .args .texts)) (c .before .before .before .before .before .before .before .args .len) (c .before .before .before .before .before .before .before .args .by) (c .before .before .before .before .if1 .left)), c .before .before .step11 .ensures .1 ∙ ap (λ (p : List ℕ). movedTo p (now (c .before .before .before .before .before .before .before .args .texts))) (path-goes (now (c .before .before .before .before .before .before .before .args .refs)) (now (c .before .before .before .before .before .before .before .args .texts)) (c .before .before .before .before .before .before .before .args .len) (c .before .before .before .before .before .before .before .args .by) (c .before .before .before .before .if1 .left)))
+returns-2 c = (c .before .before .step11 .ensures .0 ∙ ap (writtenWithin 256) (path-goes (now (c .before .before .before .before .before .before .before .args .refs)) (now (c .before .before .before .before .before .before .before .args .texts)) (c .before .before .before .before .before .before .before .args .len) (c .before .before .before .before .before .before .before .args .by) (c .before .before .before .before .if1 .left)), c .before .before .step11 .ensures .1 ∙ ap (λ (p : List ℕ). movedTo p (now (c .before .before .before .before .before .before .before .args .texts))) (path-goes (now (c .before .before .before .before .before .before .before .args .refs)) (now (c .before .before .before .before .before .before .before .args .texts)) (c .before .before .before .before .before .before .before .args .len) (c .before .before .before .before .before .before .before .args .by) (c .before .before .before .before .if1 .left)))
 
 pub replace-spec : {M : Type 1} → statement M
 replace-spec = tie.close (tie.spec returns sub-step11 step11-requires same-length returns-2)

@@ -9,7 +9,7 @@ use Rattle.spans.specs.Spans.{spanned}
 use Rattle.namelists.specs.NameLists.{dcOf}
 use mathlib.Core.List.{map}
 use Rattle.referral.specs.Replies.{says}
-use Rattle.referral.specs.Found.{answered}
+use Rattle.referral.specs.Found.{replyOf}
 use Rattle.namelists.specs.NameLists.{textsAt, dcNames}
 use Rattle.namelists.specs.Found.{denotedDcs}
 use borrow.Author.Needs.{needs}
@@ -35,7 +35,7 @@ kept-of-requires : tie.Need-kept-of-requires
 kept-of-requires c κs = search needs
 
 returns : tie.Need-returns
-unfolding denotedDcs answered dcNames
+unfolding denotedDcs replyOf dcNames
 returns c = (λ x. says ((ap (λ (k : ℕ). map (spanned (now (c .before .before .before .before .before .before .args .r))) (take k (c .before .names .result))) (c .kept-of .ensures) ∙ (c .before .names .ensures .0 ∙ (λ y. take 8 (map dcOf (textsAt (ap (λ (z : Offsets). z .second) (c .before .before .before .before .read-offsets .ensures) y) (8 + ap (λ (z : Offsets). z .third) (c .before .before .before .before .read-offsets .ensures) y) (now (c .before .before .before .before .before .before .args .r))))))) x), record { kept-within = c .before .names .ensures .1; few = omega (arith, c .kept-of .ensures) })
 
 pub dcs-in-spec : {M : Type 1} → statement M

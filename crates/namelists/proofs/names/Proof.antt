@@ -10,7 +10,7 @@ use Rattle.laws.specs.Lists.{every}
 use mathlib.Core.Bool.{true}
 use mathlib.Core.List.{map, _++_}
 use Rattle.namelists.specs.NameLists.{textsAt}
-use Rattle.referral.specs.Found.{inside}
+use Rattle.referral.specs.Found.{isInside}
 use Rattle.referral.proofs.TargetLaws.{none-inside}
 use Rattle.namelists.proofs.ListLaws.{name-next, name-all, name-start, span-next}
 use lib.ListN.{length-set}
@@ -19,7 +19,7 @@ use Rattle.namelists.proofs.names.Statement.{statement}
 use Rattle.namelists.proofs.names.Tie as tie
 
 abbrev Inv-loop : tie.InvT-loop
-Inv-loop r n from m kept₀ at₀ i₀ kept at i = (i ≤ m) × ((length kept ≡ 8) × ((take 8 (map dcOf (textsAt n from r)) ≡ map (spanned r) (take i kept) ++ take (8 - i) (map dcOf (textsAt (n - i) at r))) × (every (inside r) kept ≡ true)))
+Inv-loop r n from m kept₀ at₀ i₀ kept at i = (i ≤ m) × ((length kept ≡ 8) × ((take 8 (map dcOf (textsAt n from r)) ≡ map (spanned r) (take i kept) ++ take (8 - i) (map dcOf (textsAt (n - i) at r))) × (every (isInside r) kept ≡ true)))
 
 abbrev μ-loop : tie.MeasureT-loop
 μ-loop r n from m kept₀ at₀ i₀ kept at i = m - i

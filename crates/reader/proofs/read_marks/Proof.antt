@@ -37,7 +37,7 @@ use denote.Triple.Table.{entered, cited}
 use denote.Triple.Walked.{says, needs, Stays, stay-none, stay-none-slice, walkOf, goes-none, goes-none-slice, Walks, ends-at, walked, walk-meets}
 use denote.Exit.{yes}
 use Rattle.reader.specs.declared.Marks.{Marks}
-use Rattle.reader.specs.Fields.{marksOf}
+use Rattle.reader.specs.Fields.{entryMarks}
 use Rattle.reader.proofs.Calls.{New, Unit, Word, Moved, reader, spelt, makes, moves, reads-unit, reads-word}
 use Rattle.reader.proofs.Marks as S
 use Rattle.reader.proofs.Marks.Laws as S′
@@ -66,7 +66,7 @@ module _ {M : Type 1} (𝓤 : URA M) (H : Heap 𝓤) (A : Atoms 𝓤) (W : Given
   at = (spelt s ∷ [], (vint w64 e ∷ [], tt))
 
   abbrev found : Marks
-  found = marksOf (s .now) e
+  found = entryMarks (s .now) e
 
   abbrev Post : Val → SProp 𝓤
   Post = walkOf 𝓤 H A here.ended stayed (here.clauses 𝓤 H A mem run) .post (((κ, tt), (q, tt), tt, (s, (e, tt)), at), tt)

@@ -15,7 +15,7 @@ use Prim.Native.Nat.{min}
 use Rattle.referral.specs.Found.{targetShown}
 use mathlib.Core.Bool.{_&&_}
 use Rattle.referral.specs.Replies.{says, referralIn, headerFlag, ttlAt}
-use Rattle.referral.specs.Found.{denoted, answered, referralShown}
+use Rattle.referral.specs.Found.{denoted, replyOf, referralShown}
 use lib.Dec.{eqb}
 use borrow.Author.Needs.{needs}
 use Rattle.referral.proofs.referral_in.Statement.{statement}
@@ -49,7 +49,7 @@ kept-of-requires : tie.Need-kept-of-requires
 kept-of-requires c κs = search needs
 
 returns : tie.Need-returns
-unfolding denoted answered referralShown referralIn versionAt serverTypeAt headerFlag ttlAt referralCount
+unfolding denoted replyOf referralShown referralIn versionAt serverTypeAt headerFlag ttlAt referralCount
 returns c = (
   λ x. says (record {
     version = ap (λ (z : Start). z .version) (c .before .before .before .before .before .before .read-start .ensures) x;

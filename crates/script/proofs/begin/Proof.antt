@@ -1,10 +1,10 @@
-use Rattle.script.specs.Script.{begun}
+use Rattle.script.specs.Script.{nothingRead}
 use mathlib.Core.Path.{refl}
 use Rattle.script.proofs.begin.Statement.{statement}
 use Rattle.script.proofs.begin.Tie as tie
 
 returns : tie.Need-returns
-unfolding begun
+unfolding nothingRead
 returns c = refl
 
 pub begin-spec : {M : Type 1} → statement M

@@ -1,7 +1,7 @@
 use Rattle.script.proofs.LineLaws.{reply-odd, reply-digits, reply-said}
 use Rattle.script.specs.Script.{replyKey, withReply}
 use Rattle.lines.proofs.LineLaws.{key-fits, tail-value}
-use Rattle.hexes.specs.Hexes.{isHex, bytesOf}
+use Rattle.hexes.specs.Hexes.{isHex, hexBytes}
 use Rattle.laws.specs.Lists.{every, pasted}
 use lib.ListN.{length, take}
 use Prim.Native.Nat.{ℕ, _-_}
@@ -52,7 +52,7 @@ same-length c = search needs
 
 returns-3 : tie.Need-returns-3
 unfolding withReply
-returns-3 c = reply-said (c .before .before .before .before .before .before .before .before .before .before .before .before .args .s) (now (c .before .before .before .before .before .before .before .before .before .before .before .before .args .line)) (c .before .before .before .before .before .before .before .before .before .before .before .before .args .rest) (now (c .before .before .before .before .before .before .before .before .before .before .before .before .args .reply)) (ap length (tail-value replyKey (now (c .before .before .before .before .before .before .before .before .before .before .before .before .args .line)) (length (now (c .before .before .before .before .before .before .before .before .before .before .before .before .args .line)) - 6) (omega arith))) (c .before .before .before .before .before .before .before .before .whole-bytes .ensures) (not-false _ (c .before .before .before .before .before .before .before .if1 .left)) (c .before .before .before .before .before .before .all-hex .ensures ∙ ap (every isHex) (tail-value replyKey (now (c .before .before .before .before .before .before .before .before .before .before .before .before .args .line)) (length (now (c .before .before .before .before .before .before .before .before .before .before .before .before .args .line)) - 6) (omega arith))) (not-false _ (c .before .before .before .before .before .if2 .left)) (c .before .before .before .put-bytes .ensures .0 ∙ ap (λ (x : List ℕ). length (take (length (now (c .before .before .before .before .before .before .before .before .before .before .before .before .args .reply))) (bytesOf x))) (tail-value replyKey (now (c .before .before .before .before .before .before .before .before .before .before .before .before .args .line)) (length (now (c .before .before .before .before .before .before .before .before .before .before .before .before .args .line)) - 6) (omega arith))) (c .before .before .before .put-bytes .ensures .1 ∙ ap (λ (x : List ℕ). pasted (now (c .before .before .before .before .before .before .before .before .before .before .before .before .args .reply)) 0 (take (length (now (c .before .before .before .before .before .before .before .before .before .before .before .before .args .reply))) (bytesOf x))) (tail-value replyKey (now (c .before .before .before .before .before .before .before .before .before .before .before .before .args .line)) (length (now (c .before .before .before .before .before .before .before .before .before .before .before .before .args .line)) - 6) (omega arith))) (c .with-last3 .ensures)
+returns-3 c = reply-said (c .before .before .before .before .before .before .before .before .before .before .before .before .args .s) (now (c .before .before .before .before .before .before .before .before .before .before .before .before .args .line)) (c .before .before .before .before .before .before .before .before .before .before .before .before .args .rest) (now (c .before .before .before .before .before .before .before .before .before .before .before .before .args .reply)) (ap length (tail-value replyKey (now (c .before .before .before .before .before .before .before .before .before .before .before .before .args .line)) (length (now (c .before .before .before .before .before .before .before .before .before .before .before .before .args .line)) - 6) (omega arith))) (c .before .before .before .before .before .before .before .before .whole-bytes .ensures) (not-false _ (c .before .before .before .before .before .before .before .if1 .left)) (c .before .before .before .before .before .before .all-hex .ensures ∙ ap (every isHex) (tail-value replyKey (now (c .before .before .before .before .before .before .before .before .before .before .before .before .args .line)) (length (now (c .before .before .before .before .before .before .before .before .before .before .before .before .args .line)) - 6) (omega arith))) (not-false _ (c .before .before .before .before .before .if2 .left)) (c .before .before .before .put-bytes .ensures .0 ∙ ap (λ (x : List ℕ). length (take (length (now (c .before .before .before .before .before .before .before .before .before .before .before .before .args .reply))) (hexBytes x))) (tail-value replyKey (now (c .before .before .before .before .before .before .before .before .before .before .before .before .args .line)) (length (now (c .before .before .before .before .before .before .before .before .before .before .before .before .args .line)) - 6) (omega arith))) (c .before .before .before .put-bytes .ensures .1 ∙ ap (λ (x : List ℕ). pasted (now (c .before .before .before .before .before .before .before .before .before .before .before .before .args .reply)) 0 (take (length (now (c .before .before .before .before .before .before .before .before .before .before .before .before .args .reply))) (hexBytes x))) (tail-value replyKey (now (c .before .before .before .before .before .before .before .before .before .before .before .before .args .line)) (length (now (c .before .before .before .before .before .before .before .before .before .before .before .before .args .line)) - 6) (omega arith))) (c .with-last3 .ensures)
 
 pub take-reply-spec : {M : Type 1} → statement M
 take-reply-spec =

@@ -1,7 +1,7 @@
 use Rattle.script.proofs.LineLaws.{no-status-due, reply-due, io-due}
 use Rattle.script.specs.Script.{replyKey, keptOf}
 use Rattle.hexes.proofs.HexLaws.{take-least}
-use Rattle.lines.specs.Lines.{hasKey}
+use Rattle.lines.specs.Lines.{lineHasKey}
 use lib.Seq.{length-take-le}
 use native.Mathlib.Omega.{arith}
 use borrow.Author.Tests.{not-true, not-false}
@@ -31,11 +31,11 @@ has-key-requires c κs = search needs
 
 returns-2 : tie.Need-returns-2
 unfolding keptOf
-returns-2 c = reply-due (c .before .before .before .before .before .before .before .before .args .s) _ (c .before .before .before .before .before .before .is-status .ensures) (not-false _ (c .before .before .before .before .before .if1 .left)) (c .before .has-key .ensures ∙ ap (hasKey replyKey) (take-least (c .before .before .before .before .before .before .before .before .args .held .kept) (now (c .before .before .before .before .before .before .before .before .args .line)) (c .before .before .before .before .least .result) (c .before .before .before .before .least .ensures))) (c .if2 .taken)
+returns-2 c = reply-due (c .before .before .before .before .before .before .before .before .args .s) _ (c .before .before .before .before .before .before .is-status .ensures) (not-false _ (c .before .before .before .before .before .if1 .left)) (c .before .has-key .ensures ∙ ap (lineHasKey replyKey) (take-least (c .before .before .before .before .before .before .before .before .args .held .kept) (now (c .before .before .before .before .before .before .before .before .args .line)) (c .before .before .before .before .least .result) (c .before .before .before .before .least .ensures))) (c .if2 .taken)
 
 returns-3 : tie.Need-returns-3
 unfolding keptOf
-returns-3 c = io-due (c .before .before .before .before .before .before .before .before .args .s) _ (c .before .before .before .before .before .before .is-status .ensures) (not-false _ (c .before .before .before .before .before .if1 .left)) (c .before .has-key .ensures ∙ ap (hasKey replyKey) (take-least (c .before .before .before .before .before .before .before .before .args .held .kept) (now (c .before .before .before .before .before .before .before .before .args .line)) (c .before .before .before .before .least .result) (c .before .before .before .before .least .ensures))) (c .if2 .left)
+returns-3 c = io-due (c .before .before .before .before .before .before .before .before .args .s) _ (c .before .before .before .before .before .before .is-status .ensures) (not-false _ (c .before .before .before .before .before .if1 .left)) (c .before .has-key .ensures ∙ ap (lineHasKey replyKey) (take-least (c .before .before .before .before .before .before .before .before .args .held .kept) (now (c .before .before .before .before .before .before .before .before .args .line)) (c .before .before .before .before .least .result) (c .before .before .before .before .least .ensures))) (c .if2 .left)
 
 pub line-due-spec : {M : Type 1} → statement M
 line-due-spec =

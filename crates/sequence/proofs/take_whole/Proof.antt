@@ -1,5 +1,5 @@
 use Rattle.script.proofs.LineLaws.{by-last}
-use Rattle.script.specs.Script.{Taken, wholeRead, takesAfter}
+use Rattle.script.specs.Script.{ReadInto, wholeRead, takesAfter}
 use Rattle.script.specs.declared.Script.{Script}
 use mathlib.Core.Path.{refl, ap}
 use denote.Ref.{now}
@@ -72,7 +72,7 @@ same-length c = search needs
 
 returns : tie.Need-returns
 unfolding takesAfter
-returns c = by-last (c .before .before .before .before .before .before .before .before .before .args .s) (now (c .before .before .before .before .before .before .before .before .before .args .line)) (now (c .before .before .before .before .before .before .before .before .before .args .path)) (now (c .before .before .before .before .before .before .before .before .before .args .boot)) (c .before .before .before .before .enum-told .given .1) (ap (λ (t : Taken). wholeRead (t .script) (t .room) (now (c .before .before .before .before .before .before .before .before .before .args .boot))) (c .before .before .take-path .ensures))
+returns c = by-last (c .before .before .before .before .before .before .before .before .before .args .s) (now (c .before .before .before .before .before .before .before .before .before .args .line)) (now (c .before .before .before .before .before .before .before .before .before .args .path)) (now (c .before .before .before .before .before .before .before .before .before .args .boot)) (c .before .before .before .before .enum-told .given .1) (ap (λ (t : ReadInto). wholeRead (t .script) (t .room) (now (c .before .before .before .before .before .before .before .before .before .args .boot))) (c .before .before .take-path .ensures))
 
 returns-2 : tie.Need-returns-2
 unfolding takesAfter
@@ -91,7 +91,7 @@ same-length-2 c = search needs
 
 returns-5 : tie.Need-returns-5
 unfolding takesAfter
-returns-5 c = by-last (c .before .before .before .before .before .before .before .before .before .args .s) (now (c .before .before .before .before .before .before .before .before .before .args .line)) (now (c .before .before .before .before .before .before .before .before .before .args .path)) (now (c .before .before .before .before .before .before .before .before .before .args .boot)) (c .before .before .before .before .enum-told5 .given .1) (ap (λ (t : Taken). wholeRead (t .script) (now (c .before .before .before .before .before .before .before .before .before .args .path)) (t .room)) (c .before .before .take-boot .ensures))
+returns-5 c = by-last (c .before .before .before .before .before .before .before .before .before .args .s) (now (c .before .before .before .before .before .before .before .before .before .args .line)) (now (c .before .before .before .before .before .before .before .before .before .args .path)) (now (c .before .before .before .before .before .before .before .before .before .args .boot)) (c .before .before .before .before .enum-told5 .given .1) (ap (λ (t : ReadInto). wholeRead (t .script) (now (c .before .before .before .before .before .before .before .before .before .args .path)) (t .room)) (c .before .before .take-boot .ensures))
 
 returns-6 : tie.Need-returns-6
 unfolding takesAfter

@@ -3,7 +3,7 @@ use mathlib.Core.Path.{_≡_, refl, sym, ap, _∙_, subst}
 use mathlib.Core.Bool.{Bool, true, false}
 use mathlib.Core.List.{List, [], _∷_, map}
 use mathlib.Core.Logic.{_⊎_, inl, inr}
-use Prim.Native.Nat.{ℕ, zero, suc, _/_, _≤_, _<_}
+use Prim.Native.Nat.{ℕ, zero, suc, _≤_, _<_}
 use native.Mathlib.Omega.{arith}
 use lib.ListN.{length, getD, take, set, length-set}
 use lib.Dec.{leb}
@@ -19,7 +19,7 @@ use Rattle.referral.proofs.RequestLaws.{length-request}
 use mathlib.Core.Option.{some}
 use Rattle.texts.specs.Texts.{textsOf}
 use Rattle.texts.proofs.TextLaws.{path-in}
-use Rattle.places.specs.Layout.{placeAt, changed}
+use Rattle.places.specs.Layout.{placeCount, placeAt, changed}
 use Rattle.caches.specs.Entries.{Place, Domain, free}
 use Rattle.caches.specs.Memory.{Kind, domains, decode, encode, inOrder, pieceOf, goodPlace}
 use Rattle.caches.proofs.MemoryLaws.{Lawful, cache-told, order-good, length-decode, encode-decode, place-encode, changed-encode}
@@ -116,7 +116,7 @@ set-back (q ∷ ps) zero p h = refl
 set-back (q ∷ ps) (suc i) p h = ap (λ (l : List (Place _)). q ∷ l) (set-back ps i p (omega arith))
 
 -- a place that was written, put back
-module _ {E : Type 0} (k : Kind E) (law : Lawful k) (raw more : List ℕ) (i : ℕ) (p : Place E) (order : inOrder k raw ≡ true) (fits : i < length raw / 2336)
+module _ {E : Type 0} (k : Kind E) (law : Lawful k) (raw more : List ℕ) (i : ℕ) (p : Place E) (order : inOrder k raw ≡ true) (fits : i < placeCount raw)
     (then : inOrder k more ≡ true) (held : decode k more ≡ set (decode k raw) i p) where
   inside : i < length (decode k raw)
   inside = rw (length-decode k raw) fits
@@ -124,7 +124,7 @@ module _ {E : Type 0} (k : Kind E) (law : Lawful k) (raw more : List ℕ) (i : �
   old-good : goodPlace k (getD (decode k raw) i free) ≡ true
   old-good = every-at (goodPlace k) (decode k raw) (cache-told k (decode k raw) (order-good k raw order) .places) i free inside
 
-  same-count : length more / 2336 ≡ length raw / 2336
+  same-count : placeCount more ≡ placeCount raw
   same-count = sym (length-decode k more) ∙ (ap length held ∙ (length-set (decode k raw) i p ∙ length-decode k raw))
 
   pub put-again : {s o : List ℕ} → s ≡ placeAt i raw → o ≡ changed i (λ q. s) more → o ≡ raw
@@ -196,7 +196,7 @@ module _ (refs doms : List ℕ) (clock left : ℕ) (path : List ℕ) (size i : �
   held-dcs : decode domains m ≡ dcsStored i (map (spanned reply) (take (f .count) (f .kept))) (decode domains doms)
   held-dcs = ap (decode domains) e ∙ dcs-held doms i at reply f s
 
-  saved-inside : i < length m / 2336
+  saved-inside : i < placeCount m
   unfolding dcsStored
   saved-inside =
       omega (
@@ -229,7 +229,7 @@ module _ (refs doms : List ℕ) (clock left : ℕ) (path : List ℕ) (size i : �
       (always-fits 516 (dcsRest left path size (dcsStored i (map (spanned reply) (take (f .count) (f .kept))) (decode domains doms))) (omega arith)
       (dcs-kept refs doms clock left path size (dcsStored i (map (spanned reply) (take (f .count) (f .kept))) (decode domains doms)) short .path-kept))
 
-  pub tested-inside : i < length m / 2336
+  pub tested-inside : i < placeCount m
   tested-inside = saved-inside refs doms clock left path size i at reply f s short all-stored
 
   pub tested-path : r .path ≤ 256

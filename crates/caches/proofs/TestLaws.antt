@@ -3,7 +3,7 @@ use mathlib.Core.Path.{_≡_, refl, sym, ap, _∙_}
 use mathlib.Core.Bool.{Bool, true, false, _&&_, _||_, not}
 use mathlib.Core.List.{List, [], _∷_, map}
 use mathlib.Core.Logic.{_≢_, _⊎_, inl, inr}
-use Prim.Native.Nat.{ℕ, suc, _+_, _-_, _*_, _/_, _≤_, _<_, min}
+use Prim.Native.Nat.{ℕ, suc, _+_, _-_, _*_, _≤_, _<_, min}
 use native.Mathlib.Numerals.{add-one}
 use native.Mathlib.Omega.{arith}
 use lib.ListN.{length, getD, take, drop, replicate, length-take}
@@ -104,17 +104,17 @@ module _ (d : Bool) (raw : List ℕ) (i : ℕ) where
   unfolding placeAt
   slice-ordered e = ap (orderedAs d) (sym (part-slice (i * 2336) 2336 raw (i * 2336) (i * 2336 + 2336) refl refl)) ∙ sym e
 
-  pub ordered-more : {r : Bool} → r ≡ orderedAs d (take (i * 2336 + 2336 - i * 2336) (drop (i * 2336) raw)) → r ≡ true → i < length raw / 2336
+  pub ordered-more : {r : Bool} → r ≡ orderedAs d (take (i * 2336 + 2336 - i * 2336) (drop (i * 2336) raw)) → r ≡ true → i < placeCount raw
       → orderedFrom d raw i ≡ orderedFrom d raw (i + 1)
   unfolding orderedFrom
   ordered-more e h u = every-next (orderedAs d) (placeCount raw) (λ k. placeAt k raw) i u (slice-ordered e ∙ h)
 
-  pub ordered-stop : {r : Bool} → r ≡ orderedAs d (take (i * 2336 + 2336 - i * 2336) (drop (i * 2336) raw)) → r ≡ false → i < length raw / 2336
+  pub ordered-stop : {r : Bool} → r ≡ orderedAs d (take (i * 2336 + 2336 - i * 2336) (drop (i * 2336) raw)) → r ≡ false → i < placeCount raw
       → orderedFrom d raw i ≡ false
   unfolding orderedFrom
   ordered-stop e h u = every-stop (orderedAs d) (placeCount raw) (λ k. placeAt k raw) i u (slice-ordered e ∙ h)
 
-  pub ordered-end : length raw / 2336 ≤ i → orderedFrom d raw i ≡ true
+  pub ordered-end : placeCount raw ≤ i → orderedFrom d raw i ≡ true
   unfolding orderedFrom
   ordered-end h = every-end (orderedAs d) (placeCount raw) (λ k. placeAt k raw) i h
 
@@ -135,15 +135,15 @@ module _ (raw : List ℕ) (i j : ℕ) {key t : List ℕ} (ek : key ≡ textAt 0 
   unfolding otherKey
   key-tested e = (λ k. not (sameName (sym ek k) (sym et k))) ∙ ap not (sym e)
 
-  pub fresh-more : {r : Bool} → r ≡ sameName key t → r ≡ false → j < length raw / 2336 → freshFrom raw i j ≡ freshFrom raw i (j + 1)
+  pub fresh-more : {r : Bool} → r ≡ sameName key t → r ≡ false → j < placeCount raw → freshFrom raw i j ≡ freshFrom raw i (j + 1)
   unfolding freshFrom
   fresh-more e h u = every-next (otherKey (textAt 0 (placeAt i raw))) (placeCount raw) (λ k. placeAt k raw) j u (key-tested e ∙ ap not h)
 
-  pub fresh-stop : {r : Bool} → r ≡ sameName key t → r ≡ true → j < length raw / 2336 → freshFrom raw i j ≡ false
+  pub fresh-stop : {r : Bool} → r ≡ sameName key t → r ≡ true → j < placeCount raw → freshFrom raw i j ≡ false
   unfolding freshFrom
   fresh-stop e h u = every-stop (otherKey (textAt 0 (placeAt i raw))) (placeCount raw) (λ k. placeAt k raw) j u (key-tested e ∙ ap not h)
 
-pub fresh-end : (raw : List ℕ) (i j : ℕ) → length raw / 2336 ≤ j → freshFrom raw i j ≡ true
+pub fresh-end : (raw : List ℕ) (i j : ℕ) → placeCount raw ≤ j → freshFrom raw i j ≡ true
 unfolding freshFrom
 fresh-end raw i j h = every-end (otherKey (textAt 0 (placeAt i raw))) (placeCount raw) (λ k. placeAt k raw) j h
 
@@ -156,17 +156,17 @@ unfolding keysApart apartFrom
 apart-start raw = refl
 
 module _ (raw : List ℕ) (i : ℕ) where
-  apart-step : i < length raw / 2336 → apartFrom raw i ≡ (keyApart raw i && apartFrom raw (i + 1))
+  apart-step : i < placeCount raw → apartFrom raw i ≡ (keyApart raw i && apartFrom raw (i + 1))
   unfolding apartFrom apart keyApart
   apart-step h = rw (drop-listed (placeCount raw) (λ k. placeAt k raw) i h, add-one i)
 
-  pub apart-more : {r : Bool} → r ≡ keyApart raw i → r ≡ true → i < length raw / 2336 → apartFrom raw i ≡ apartFrom raw (i + 1)
+  pub apart-more : {r : Bool} → r ≡ keyApart raw i → r ≡ true → i < placeCount raw → apartFrom raw i ≡ apartFrom raw (i + 1)
   apart-more e f h = apart-step h ∙ rw (sym e ∙ f)
 
-  pub apart-stop : {r : Bool} → r ≡ keyApart raw i → r ≡ false → i < length raw / 2336 → apartFrom raw i ≡ false
+  pub apart-stop : {r : Bool} → r ≡ keyApart raw i → r ≡ false → i < placeCount raw → apartFrom raw i ≡ false
   apart-stop e f h = apart-step h ∙ rw (sym e ∙ f)
 
-  pub apart-end : length raw / 2336 ≤ i → apartFrom raw i ≡ true
+  pub apart-end : placeCount raw ≤ i → apartFrom raw i ≡ true
   unfolding apartFrom apart
   apart-end h = rw (drop-listed-end (placeCount raw) (λ k. placeAt k raw) i h)
 
@@ -229,16 +229,16 @@ order-as false raw = order-tested referrals referrals-lawful raw
 
 -- the size, test by test
 module _ (raw : List ℕ) where
-  pub size-none : length raw / 2336 < 1 → rightSize raw ≡ false
+  pub size-none : placeCount raw < 1 → rightSize raw ≡ false
   unfolding rightSize
-  size-none h = and-no-left _ (lt-leb 1 (length raw / 2336) h)
+  size-none h = and-no-left _ (lt-leb 1 (placeCount raw) h)
 
-  pub size-many : 32 < length raw / 2336 → rightSize raw ≡ false
+  pub size-many : 32 < placeCount raw → rightSize raw ≡ false
   size-many h = refuted _ (λ t. let u : placeCount raw ≤ 32 = size-told raw t .most in omega arith)
 
-  pub size-whole : 1 ≤ length raw / 2336 → length raw / 2336 ≤ 32 → eqb (length raw / 2336 * 2336) (length raw) ≡ rightSize raw
+  pub size-whole : 1 ≤ placeCount raw → placeCount raw ≤ 32 → eqb (placeCount raw * 2336) (length raw) ≡ rightSize raw
   unfolding rightSize
-  size-whole h u = rw (le-leb 1 (length raw / 2336) h, le-leb (length raw / 2336) 32 u)
+  size-whole h u = rw (le-leb 1 (placeCount raw) h, le-leb (placeCount raw) 32 u)
 
 -- a place by its kind, and a free one
 ordered-used : {E : Type 0} (k : Kind E) (piece : List ℕ) → (unitAt 0 piece ≡ 0 → ⊥)

@@ -4,7 +4,7 @@ ghost use mathlib.Core.Bool.{_&&_};
 ghost use Prim.Native.Nat.{_/_, _≤_, _<_};
 ghost use lib.ListN.{length};
 ghost use Rattle.laws.specs.Listed.{sameList};
-ghost use Rattle.places.specs.Layout.{unitAt};
+ghost use Rattle.places.specs.Layout.{placeCount, unitAt};
 ghost use Rattle.caches.specs.Order.{goodReferral, goodDomain};
 ghost use Rattle.caches.specs.Memory.{referrals, domains, referralOf, referralUnits, domainOf, domainUnits, rightSize, inOrder};
 ghost use Rattle.caches.specs.Tests.{goodText, goodTexts, goodFlags, orderedAs, allOrdered, inOrderAs, keyApart, keysApart};
@@ -122,7 +122,7 @@ fn places_ordered(cache: &[u16], domain: bool) -> bool
 
 // Whether place i is free, or no later place has a key equal to its own.
 fn key_apart(cache: &[u16], i: usize) -> bool
-    requires { ⌜ i < length (now cache) / 2336 ⌝ }
+    requires { ⌜ i < placeCount (now cache) ⌝ }
     ensures { λ r. ⌜ r ≡ keyApart (now (cache .entry)) i ⌝ }
 {
     if places::unit(cache, i, 0) == 0 {

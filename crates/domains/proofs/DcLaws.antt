@@ -3,7 +3,7 @@ use mathlib.Core.Path.{_≡_, refl, sym, ap, _∙_}
 use mathlib.Core.Bool.{true}
 use mathlib.Core.List.{List, [], _∷_, map}
 use mathlib.Core.Logic.{inl}
-use Prim.Native.Nat.{ℕ, _+_, _/_, _≤_, _<_}
+use Prim.Native.Nat.{ℕ, _+_, _≤_, _<_}
 use native.Mathlib.Omega.{arith}
 use lib.ListN.{length, getD, take, set, length-map, length-take}
 use lib.Seq.{getD-set-other}
@@ -16,7 +16,7 @@ use Rattle.unc.specs.Names.{goodName}
 use Rattle.spans.specs.Spans.{spanned, Inside}
 use Rattle.spans.specs.declared.Span.{Span}
 use Rattle.spans.proofs.UnitLaws.{length-spanned}
-use Rattle.places.specs.Layout.{changed, written, keyOnly}
+use Rattle.places.specs.Layout.{placeCount, changed, written, keyOnly}
 use Rattle.places.proofs.LayoutLaws.{changed-step}
 use Rattle.places.proofs.WrittenLaws.{length-written}
 use Rattle.places.proofs.PutLaws.{key-only}
@@ -99,7 +99,7 @@ module _ (d : Domain) (good : goodDomain d ≡ true) (names : List (List ℕ)) (
   dcs-units = dcs-written (d .name) [] 0 0 names (key-shape (d .name) name-fits) refl (omega arith) (good-short names each)
 
   -- the place, written in two steps
-  dcs-changed : (raw : List ℕ) (i : ℕ) → i < length raw / 2336 → raw ≡ changed i (λ q. domainUnits d) raw → {m o : List ℕ} → m ≡ changed i keyOnly raw
+  dcs-changed : (raw : List ℕ) (i : ℕ) → i < placeCount raw → raw ≡ changed i (λ q. domainUnits d) raw → {m o : List ℕ} → m ≡ changed i keyOnly raw
       → o ≡ changed i (addAll addDc 0 names) m → o ≡ changed i (λ q. domainUnits (dcsOf d names)) raw
   dcs-changed raw i fits s {m} a b =
       let long : length (written (d .name ∷ []) 0 [] []) ≡ 2336 = length-written (d .name ∷ []) 0 [] [] (key-shape (d .name) name-fits) in
@@ -111,7 +111,7 @@ module _ (d : Domain) (good : goodDomain d ≡ true) (names : List (List ℕ)) (
 pub domain-found : (raw : List ℕ) → inOrder domains raw ≡ true → (name : List ℕ) (i : ℕ) → withKey domains name (decode domains raw) ≡ At i → DomainAt i raw
 domain-found raw order name i h =
     let k : KeyAt domains name (decode domains raw) i = key-found domains name (decode domains raw) i h in
-    let u : i < length raw / 2336 = rw (← length-decode domains raw) (used-inside (decode domains raw) i (k .entry) (k .here)) in
+    let u : i < placeCount raw = rw (← length-decode domains raw) (used-inside (decode domains raw) i (k .entry) (k .here)) in
     record {
       order = order;
       fits = u;

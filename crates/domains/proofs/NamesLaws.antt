@@ -3,7 +3,7 @@ use mathlib.Core.Path.{_≡_, refl, sym, ap, _∙_}
 use mathlib.Core.Bool.{true}
 use mathlib.Core.List.{List, [], _∷_, _++_, map, flatten}
 use mathlib.Core.Logic.{inl}
-use Prim.Native.Nat.{ℕ, zero, suc, _+_, _-_, _*_, _/_, _≤_, _<_}
+use Prim.Native.Nat.{ℕ, zero, suc, _+_, _-_, _*_, _≤_, _<_}
 use native.Mathlib.Nat.{add-comm, suc-mul}
 use native.Mathlib.Omega.{arith}
 use lib.ListN.{length, getD, take, set, replicate, length-map, length-replicate, length-append, replicate-append-replicate}
@@ -14,7 +14,7 @@ use Rattle.laws.proofs.Every.{every-at, every-take, every-append}
 use Rattle.laws.proofs.Filling.{filled-next, every-copies}
 use Rattle.laws.proofs.Pasting.{pasted-whole}
 use Rattle.unc.specs.Names.{goodName}
-use Rattle.places.specs.Layout.{placeAt, changed, blank}
+use Rattle.places.specs.Layout.{placeCount, placeAt, changed, blank}
 use Rattle.caches.specs.Entries.{Domain, Place, free, used}
 use Rattle.caches.specs.Order.{goodDomain, distinct}
 use Rattle.caches.specs.Memory.{domains, domainUnits, encode, pieceOf, goodPlace, keys, inOrder, rightSize}
@@ -51,13 +51,13 @@ unfolding encode pieceOf blank
 free-zeros c = ap flatten (map-copies (pieceOf domains) c free) ∙ flat-zeros 2336 c blank refl
 
 pub all-free : (raw : List ℕ) → rightSize raw ≡ true → {o : List ℕ} → o ≡ pasted raw 0 (replicate (length raw) 0)
-    → o ≡ encode domains (domainPlaces (length raw / 2336) [])
+    → o ≡ encode domains (domainPlaces (placeCount raw) [])
 unfolding domainPlaces
 all-free raw h e =
     let s : RightSize raw = size-told raw h in
-    let q : length raw ≡ (length raw / 2336 - 0) * 2336 = omega (arith, s .whole) in
+    let q : length raw ≡ (placeCount raw - 0) * 2336 = omega (arith, s .whole) in
     e ∙ (pasted-whole raw (replicate (length raw) 0) (length-replicate (length raw) 0)
-    ∙ (ap (λ (k : ℕ). replicate {A = ℕ} k 0) q ∙ sym (free-zeros (length raw / 2336 - 0))))
+    ∙ (ap (λ (k : ℕ). replicate {A = ℕ} k 0) q ∙ sym (free-zeros (placeCount raw - 0))))
 
 -- the names that are in place are good
 module _ (c : ℕ) (names : List (List ℕ)) (good : every goodName names ≡ true) where

@@ -3,7 +3,7 @@ use mathlib.Core.Path.{_≡_, refl, sym, ap, _∙_}
 use mathlib.Core.Bool.{Bool, true, false}
 use mathlib.Core.List.{List, [], _∷_, map}
 use mathlib.Core.Logic.{_⊎_, inl, inr}
-use Prim.Native.Nat.{ℕ, _/_, _≤_, _<_, min}
+use Prim.Native.Nat.{ℕ, _≤_, _<_, min}
 use native.Mathlib.Omega.{arith}
 use lib.ListN.{length, length-map, length-take}
 use lib.Seq.{take-all}
@@ -70,21 +70,21 @@ module _ (r : List ℕ) (v : Names) (g : Gathered r v) (raw : List ℕ) (right :
       let l : length (shown r v) ≡ v .count = simp (length-map, length-take) (omega arith) in
       sym l ∙ (ap length (g .are) ∙ length-take 33 (once names))
 
-  pub too-many : length raw / 2336 < v .count
-      → (domainsRefusal TooMany ≡ namesNumber (length raw / 2336) (says (map (domainAt r) (entries r)))) × (raw ≡ cacheAfter (domainsRefusal TooMany) (map (domainAt r) (entries r)) raw)
+  pub too-many : placeCount raw < v .count
+      → (domainsRefusal TooMany ≡ namesNumber (placeCount raw) (says (map (domainAt r) (entries r)))) × (raw ≡ cacheAfter (domainsRefusal TooMany) (map (domainAt r) (entries r)) raw)
   unfolding names namesNumber domainsRefusal
   too-many h =
-      let u : length raw / 2336 < length (once names) = omega (arith, counted) in
-      (sym (choose-no 0 6 (lt-leb (length (once names)) (length raw / 2336) u)), unchanged 6 names raw (λ z. omega arith))
+      let u : placeCount raw < length (once names) = omega (arith, counted) in
+      (sym (choose-no 0 6 (lt-leb (length (once names)) (placeCount raw) u)), unchanged 6 names raw (λ z. omega arith))
 
-  pub all-placed : v .count ≤ length raw / 2336 → {o : List ℕ} → o ≡ encode domains (domainPlaces (length raw / 2336) (shown r v))
-      → (domainsRefusal Done ≡ namesNumber (length raw / 2336) (says (map (domainAt r) (entries r)))) × (o ≡ cacheAfter (domainsRefusal Done) (map (domainAt r) (entries r)) raw)
+  pub all-placed : v .count ≤ placeCount raw → {o : List ℕ} → o ≡ encode domains (domainPlaces (placeCount raw) (shown r v))
+      → (domainsRefusal Done ≡ namesNumber (placeCount raw) (says (map (domainAt r) (entries r)))) × (o ≡ cacheAfter (domainsRefusal Done) (map (domainAt r) (entries r)) raw)
   unfolding names namesNumber domainsRefusal
   all-placed h e =
-      let most : length raw / 2336 ≤ 32 = size-told raw right .most in
-      let u : length (once names) ≤ length raw / 2336 = omega (arith, counted) in (
-        sym (choose-yes 0 6 (le-leb (length (once names)) (length raw / 2336) u)),
-        e ∙ (ap (λ (x : List (List ℕ)). encode domains (domainPlaces (length raw / 2336) x)) (g .are ∙ take-all 33 (once names) (omega arith)) ∙ replaced names raw),
+      let most : placeCount raw ≤ 32 = size-told raw right .most in
+      let u : length (once names) ≤ placeCount raw = omega (arith, counted) in (
+        sym (choose-yes 0 6 (le-leb (length (once names)) (placeCount raw) u)),
+        e ∙ (ap (λ (x : List (List ℕ)). encode domains (domainPlaces (placeCount raw) x)) (g .are ∙ take-all 33 (once names) (omega arith)) ∙ replaced names raw),
       )
 
 -- the ways of the whole call

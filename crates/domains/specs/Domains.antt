@@ -1,5 +1,5 @@
 -- DC and domain replies into the domain cache: document 01, "Layouts" and "Numbers given back".
-use Prim.Native.Nat.{ℕ, _/_, _≤_, _<_}
+use Prim.Native.Nat.{ℕ, _≤_, _<_}
 use mathlib.Core.Path.{_≡_}
 use mathlib.Core.Bool.{Bool, true, _&&_}
 use mathlib.Core.List.{List, []}
@@ -32,7 +32,7 @@ goodNameSpan r s = isInside r s && goodName (spanned r s)
 -- place i of a domain cache in order holds an entry
 pub record DomainAt (i : ℕ) (raw : List ℕ) : Type 0 where
   pub order : inOrder domains raw ≡ true
-  pub fits : i < length raw / 2336
+  pub fits : i < placeCount raw
   pub holds : getD (decode domains raw) i free ≡ used (entryAt domains i raw)
 
 -- a DC reply that can be stored: at most 8 names, each a good one

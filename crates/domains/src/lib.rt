@@ -6,7 +6,7 @@ ghost use Prim.Native.Nat.{_/_, _≤_, _<_};
 ghost use lib.ListN.{length, take};
 ghost use Rattle.laws.specs.Lists.{every};
 ghost use Rattle.spans.specs.Spans.{spanned, Inside};
-ghost use Rattle.places.specs.Layout.{changed};
+ghost use Rattle.places.specs.Layout.{placeCount, changed};
 ghost use Rattle.caches.specs.Memory.{domains, rightSize, decode, encode};
 ghost use Rattle.referral.specs.Found.{asked, bufferWith};
 ghost use Rattle.referral.specs.Replies.{entries, says};
@@ -46,7 +46,7 @@ struct Names {
 
 // The DCs of the reply into place i, which has none.
 fn add_dcs(cache: &mut [u16], i: usize, reply: &[u8], kept: [Span; 8], count: usize)
-    requires { ⌜ (i < length (now cache) / 2336) × ((count ≤ 8) × (every (goodNameSpan (now reply)) (take count kept) ≡ true)) ⌝ }
+    requires { ⌜ (i < placeCount (now cache)) × ((count ≤ 8) × (every (goodNameSpan (now reply)) (take count kept) ≡ true)) ⌝ }
     ensures { λ r. ⌜ now (cache .exit) ≡ changed i (addAll addDc 0 (map (spanned (now (reply .entry))) (take count kept))) (now (cache .entry)) ⌝ }
 {
     let mut n = 0;
@@ -127,8 +127,8 @@ fn gather(reply: &[u8]) -> Names
 
 // The names into the first places of a cache; every other place becomes free.
 fn put_domains(cache: &mut [u16], reply: &[u8], kept: [Span; 33], count: usize)
-    requires { ⌜ (rightSize (now cache) ≡ true) × ((count ≤ length (now cache) / 2336) × (every (goodNameSpan (now reply)) (take count kept) ≡ true)) ⌝ }
-    ensures { λ r. ⌜ now (cache .exit) ≡ encode domains (domainPlaces (length (now (cache .entry)) / 2336) (map (spanned (now (reply .entry))) (take count kept))) ⌝ }
+    requires { ⌜ (rightSize (now cache) ≡ true) × ((count ≤ placeCount (now cache)) × (every (goodNameSpan (now reply)) (take count kept) ≡ true)) ⌝ }
+    ensures { λ r. ⌜ now (cache .exit) ≡ encode domains (domainPlaces (placeCount (now (cache .entry))) (map (spanned (now (reply .entry))) (take count kept))) ⌝ }
 {
     let units = cache.len();
     rooms::clear_units(cache, 0, units);
@@ -143,7 +143,7 @@ fn put_domains(cache: &mut [u16], reply: &[u8], kept: [Span; 33], count: usize)
 // A well-formed domain reply into a cache, if it has places enough. Nothing is written before its different names are counted.
 fn replace(reply: &[u8], cache: &mut [u16]) -> DomainsRead
     requires { ⌜ WellFormed (now reply) × (rightSize (now cache) ≡ true) ⌝ }
-    ensures answer { λ v. ⌜ domainsRefusal v ≡ namesNumber (length (now (cache .entry)) / 2336) (says (map (domainAt (now (reply .entry))) (entries (now (reply .entry))))) ⌝ }
+    ensures answer { λ v. ⌜ domainsRefusal v ≡ namesNumber (placeCount (now (cache .entry))) (says (map (domainAt (now (reply .entry))) (entries (now (reply .entry))))) ⌝ }
     ensures cache { λ v. ⌜ now (cache .exit) ≡ cacheAfter (domainsRefusal v) (map (domainAt (now (reply .entry))) (entries (now (reply .entry)))) (now (cache .entry)) ⌝ }
 {
     let names = gather(reply);

@@ -2,7 +2,7 @@
 use mathlib.Core.Path.{_≡_, refl, sym, ap, _∙_}
 use mathlib.Core.Bool.{Bool, true, false}
 use mathlib.Core.List.{List, [], _∷_, _++_, map}
-use Prim.Native.Nat.{ℕ, _+_, _-_, _*_, _/_, _≤_, _<_}
+use Prim.Native.Nat.{ℕ, _+_, _-_, _*_, _≤_, _<_}
 use native.Mathlib.Omega.{arith}
 use lib.ListN.{length, length-map, getD, take, drop, length-drop, drop-of-length-le}
 use lib.Seq.{drop-cons, getD-take, length-take-le}
@@ -19,7 +19,7 @@ use Rattle.spans.proofs.UnitLaws.{length-spanned}
 use Rattle.caches.specs.Entries.{Target}
 use Rattle.caches.proofs.MemoryLaws.{length-blank}
 use Rattle.referral.specs.declared.Kept.{Kept}
-use Rattle.places.specs.Layout.{placeAt, changed, putUnit, putText, putSettings, flagUnit, wideUnits, blank}
+use Rattle.places.specs.Layout.{placeCount, placeAt, changed, putUnit, putText, putSettings, flagUnit, wideUnits, blank}
 use Rattle.places.proofs.LayoutLaws.{length-place, changed-again, changed-none}
 use Rattle.places.proofs.WriterLaws.{length-putUnit, text-put}
 use Rattle.entries.specs.Writing.{addText, addTarget, addDc, addAll, begun, heldTarget, keptFits, settings}
@@ -111,7 +111,7 @@ pub path-at : (r : List ℕ) (kept : List Kept) (count n : ℕ) (d : Kept) (z : 
 unfolding heldTarget
 path-at r kept count n d z h k = ap (λ (t : Target). t .path) (sym (shown-at kept count n d h k (heldTarget r) z))
 
-module _ (raw : List ℕ) (i : ℕ) (fits : i < length raw / 2336) where
+module _ (raw : List ℕ) (i : ℕ) (fits : i < placeCount raw) where
   pub whole : (f : List ℕ → List ℕ) → Keeps f → length (f (placeAt i raw)) ≡ 2336
   whole f a = a (placeAt i raw) (length-place raw i fits)
 
@@ -157,7 +157,7 @@ module _ {A : Type 0} (add : ℕ → A → List ℕ → List ℕ) (fit : A → B
   keeps-all n (a ∷ l) h k q e =
       keeps-all (n + 1) l (omega arith) (and-right (fit a) _ k) (add n a q) (keeps n a (omega arith) (and-left (fit a) _ k) q e)
 
-  module _ (raw : List ℕ) (i : ℕ) (fits : i < length raw / 2336) where
+  module _ (raw : List ℕ) (i : ℕ) (fits : i < placeCount raw) where
     pub all-more : (all : List A) (n : ℕ) (a : A) {o : List ℕ} → n < length all → length all ≤ 8 → every fit all ≡ true
         → getD all n a ≡ a → o ≡ changed i (add n a) raw
         → changed i (addAll add n (drop n all)) raw ≡ changed i (addAll add (n + 1) (drop (n + 1) all)) o

@@ -2,11 +2,11 @@
 ghost use mathlib.Core.Path.{_≡_};
 ghost use mathlib.Core.Bool.{true};
 ghost use mathlib.Core.List.{map};
-ghost use Prim.Native.Nat.{_/_, _≤_, _<_};
-ghost use lib.ListN.{length, take};
+ghost use Prim.Native.Nat.{_≤_, _<_};
+ghost use lib.ListN.{take};
 ghost use Rattle.laws.specs.Lists.{every};
 ghost use Rattle.spans.specs.Spans.{spanned, Inside};
-ghost use Rattle.places.specs.Layout.{changed, flagUnit, putSettings};
+ghost use Rattle.places.specs.Layout.{placeCount, changed, flagUnit, putSettings};
 ghost use Rattle.entries.specs.Writing.{addText, addTarget, addAll, begun, settings, heldTarget, keptFits};
 use places::PLACE;
 use referral::Kept;
@@ -24,7 +24,7 @@ fn flag_unit(b: bool) -> u16
 
 // Text n of place i from the reply, as the last text of the place.
 pub fn add_text(cache: &mut [u16], i: usize, n: usize, reply: &[u8], s: Span)
-    requires { ⌜ (i < length (now cache) / 2336) × ((n < 9) × (Inside (now reply) s × (s .units ≤ 256))) ⌝ }
+    requires { ⌜ (i < placeCount (now cache)) × ((n < 9) × (Inside (now reply) s × (s .units ≤ 256))) ⌝ }
     ensures { λ r. ⌜ now (cache .exit) ≡ changed i (addText n (spanned (now (reply .entry)) s)) (now (cache .entry)) ⌝ }
 {
     let at = i * PLACE;
@@ -36,7 +36,7 @@ pub fn add_text(cache: &mut [u16], i: usize, n: usize, reply: &[u8], s: Span)
 
 // Target n of place i from the reply.
 fn add_target(cache: &mut [u16], i: usize, n: usize, reply: &[u8], k: Kept)
-    requires { ⌜ (i < length (now cache) / 2336) × ((n < 8) × (keptFits (now reply) k ≡ true)) ⌝ }
+    requires { ⌜ (i < placeCount (now cache)) × ((n < 8) × (keptFits (now reply) k ≡ true)) ⌝ }
     ensures { λ r. ⌜ now (cache .exit) ≡ changed i (addTarget n (heldTarget (now (reply .entry)) k)) (now (cache .entry)) ⌝ }
 {
     let s = k.path;
@@ -46,7 +46,7 @@ fn add_target(cache: &mut [u16], i: usize, n: usize, reply: &[u8], k: Kept)
 
 // The targets of the reply into place i, which has none.
 pub fn add_targets(cache: &mut [u16], i: usize, reply: &[u8], kept: [Kept; 8], count: usize)
-    requires { ⌜ (i < length (now cache) / 2336) × ((count ≤ 8) × (every (keptFits (now reply)) (take count kept) ≡ true)) ⌝ }
+    requires { ⌜ (i < placeCount (now cache)) × ((count ≤ 8) × (every (keptFits (now reply)) (take count kept) ≡ true)) ⌝ }
     ensures { λ r. ⌜ now (cache .exit) ≡ changed i (addAll addTarget 0 (map (heldTarget (now (reply .entry))) (take count kept))) (now (cache .entry)) ⌝ }
 {
     let mut n = 0;
@@ -59,7 +59,7 @@ pub fn add_targets(cache: &mut [u16], i: usize, reply: &[u8], kept: [Kept; 8], c
 
 // Place i with a prefix from the reply and nothing else.
 pub fn begin_entry(cache: &mut [u16], i: usize, reply: &[u8], s: Span)
-    requires { ⌜ (i < length (now cache) / 2336) × (Inside (now reply) s × (s .units ≤ 256)) ⌝ }
+    requires { ⌜ (i < placeCount (now cache)) × (Inside (now reply) s × (s .units ≤ 256)) ⌝ }
     ensures { λ r. ⌜ now (cache .exit) ≡ changed i (begun (spanned (now (reply .entry)) s)) (now (cache .entry)) ⌝ }
 {
     places::clear_place(cache, i);
@@ -76,7 +76,7 @@ pub fn put_settings(
     ttl: u32,
     taken: u32,
 )
-    requires { ⌜ i < length (now cache) / 2336 ⌝ }
+    requires { ⌜ i < placeCount (now cache) ⌝ }
     ensures { λ r. ⌜ now (cache .exit) ≡ changed i (putSettings (settings root interlink failback ttl taken)) (now (cache .entry)) ⌝ }
 {
     let a = flag_unit(root);

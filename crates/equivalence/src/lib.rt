@@ -2,13 +2,13 @@
 ghost use mathlib.Core.Path.{_≡_};
 ghost use mathlib.Core.Bool.{true, _&&_, not};
 ghost use mathlib.Core.List.{map};
-ghost use Prim.Native.Nat.{_-_, _/_, _≤_, _<_};
-ghost use lib.ListN.{length, take};
+ghost use Prim.Native.Nat.{_-_, _≤_, _<_};
+ghost use lib.ListN.{take};
 ghost use Rattle.laws.specs.Lists.{every, part};
 ghost use Rattle.unc.specs.Names.{sameName};
 ghost use Rattle.spans.specs.Spans.{Inside};
 ghost use Rattle.referral.specs.Found.{keptInside};
-ghost use Rattle.places.specs.Layout.{placeAt, listCount};
+ghost use Rattle.places.specs.Layout.{placeCount, placeAt, listCount};
 ghost use Rattle.equivalence.specs.Equivalence.{sameTargets, paths, sets, sameSets, equivalent, matched};
 ghost use Rattle.equivalence.specs.Marking.{unmarked, firstPlace};
 ghost use Rattle.equivalence.specs.Compared.{heldTargets, givenPath, givenTargets, boundaries, givenBoundaries, setEnd};
@@ -66,7 +66,7 @@ fn matched_from(
     to: usize,
     marks: [bool; 8],
 ) -> bool
-    requires { ⌜ (i < length (now cache) / 2336) × ((end ≤ listCount (placeAt i (now cache))) × ((from ≤ to) × ((to ≤ 8) × (every (keptInside (now reply)) (take to kept) ≡ true)))) ⌝ }
+    requires { ⌜ (i < placeCount (now cache)) × ((end ≤ listCount (placeAt i (now cache))) × ((from ≤ to) × ((to ≤ 8) × (every (keptInside (now reply)) (take to kept) ≡ true)))) ⌝ }
     ensures { λ r. ⌜ r ≡ matched (part t (end - t) (paths (heldTargets i (now (cache .entry))))) (unmarked (part from (to - from) marks) (part from (to - from) (map (givenPath (now (reply .entry))) kept))) ⌝ }
 {
     if end <= t {
@@ -92,7 +92,7 @@ fn same_set(
     from: usize,
     to: usize,
 ) -> bool
-    requires { ⌜ (i < length (now cache) / 2336) × ((start ≤ end) × ((end ≤ listCount (placeAt i (now cache))) × ((from ≤ to) × ((to ≤ 8) × (every (keptInside (now reply)) (take to kept) ≡ true))))) ⌝ }
+    requires { ⌜ (i < placeCount (now cache)) × ((start ≤ end) × ((end ≤ listCount (placeAt i (now cache))) × ((from ≤ to) × ((to ≤ 8) × (every (keptInside (now reply)) (take to kept) ≡ true))))) ⌝ }
     ensures { λ r. ⌜ r ≡ sameTargets (part start (end - start) (paths (heldTargets i (now (cache .entry))))) (part from (to - from) (map (givenPath (now (reply .entry))) kept)) ⌝ }
 {
     if end - start != to - from {
@@ -103,7 +103,7 @@ fn same_set(
 
 // How many targets the entry at place i has.
 fn held_count(cache: &[u16], i: usize) -> usize
-    requires { ⌜ i < length (now cache) / 2336 ⌝ }
+    requires { ⌜ i < placeCount (now cache) ⌝ }
     ensures { λ r. ⌜ r ≡ listCount (placeAt i (now (cache .entry))) ⌝ }
 {
     let units = places::unit(cache, i, 9);
@@ -115,7 +115,7 @@ fn held_count(cache: &[u16], i: usize) -> usize
 
 // Where the set that starts at the entry's target a ends, before place n.
 fn held_end(cache: &[u16], i: usize, a: usize, n: usize) -> usize
-    requires { ⌜ (i < length (now cache) / 2336) × ((n ≡ listCount (placeAt i (now cache))) × (a < n)) ⌝ }
+    requires { ⌜ (i < placeCount (now cache)) × ((n ≡ listCount (placeAt i (now cache))) × (a < n)) ⌝ }
     ensures { λ r. ⌜ r ≡ setEnd a (boundaries (heldTargets i (now (cache .entry)))) ⌝ }
 {
     let mut e = a + 1;
@@ -146,7 +146,7 @@ fn given_end(kept: [Kept; 8], b: usize, n: usize) -> usize
 
 // Whether the entry's n targets and the first `count` of the reply are in as many sets, and each holds the same targets.
 fn same_sets(cache: &[u16], i: usize, n: usize, reply: &[u8], kept: [Kept; 8], count: usize) -> bool
-    requires { ⌜ (i < length (now cache) / 2336) × ((n ≡ listCount (placeAt i (now cache))) × ((count ≤ 8) × (every (keptInside (now reply)) (take count kept) ≡ true))) ⌝ }
+    requires { ⌜ (i < placeCount (now cache)) × ((n ≡ listCount (placeAt i (now cache))) × ((count ≤ 8) × (every (keptInside (now reply)) (take count kept) ≡ true))) ⌝ }
     ensures { λ r. ⌜ r ≡ sameSets (sets (heldTargets i (now (cache .entry)))) (sets (givenTargets (now (reply .entry)) (take count kept))) ⌝ }
 {
     let mut a = 0;
@@ -175,7 +175,7 @@ pub fn equivalent(
     count: usize,
     version: u16,
 ) -> bool
-    requires { ⌜ (i < length (now cache) / 2336) × ((count ≤ 8) × (every (keptInside (now reply)) (take count kept) ≡ true)) ⌝ }
+    requires { ⌜ (i < placeCount (now cache)) × ((count ≤ 8) × (every (keptInside (now reply)) (take count kept) ≡ true)) ⌝ }
     ensures { λ r. ⌜ r ≡ equivalent version (heldTargets i (now (cache .entry))) (givenTargets (now (reply .entry)) (take count kept)) ⌝ }
 {
     let n = held_count(cache, i);

@@ -3,7 +3,7 @@ use mathlib.Core.Path.{_≡_, refl, sym, ap, _∙_}
 use mathlib.Core.Bool.{Bool, true, false, not}
 use mathlib.Core.List.{List, [], _∷_, _++_, map}
 use mathlib.Core.Logic.{_⊎_, inl, inr}
-use Prim.Native.Nat.{ℕ, suc, _+_, _/_, _≤_, _<_}
+use Prim.Native.Nat.{ℕ, suc, _+_, _≤_, _<_}
 use native.Mathlib.Numerals.{add-one}
 use native.Mathlib.Omega.{arith}
 use lib.ListN.{length, getD, drop, length-append, length-drop, drop-of-length-le, List·getD-eq-default}
@@ -15,7 +15,7 @@ use Rattle.laws.specs.Lists.{every}
 use Rattle.laws.proofs.Choices.{and-both, and-left, and-right}
 use Rattle.laws.proofs.Every.{every-at}
 use Rattle.laws.proofs.Orders.{lt-or-le}
-use Rattle.places.specs.Layout.{changed, flagUnit, putUnit, putSettings, written, blank}
+use Rattle.places.specs.Layout.{placeCount, changed, flagUnit, putUnit, putSettings, written, blank}
 use Rattle.places.proofs.LayoutLaws.{changed-step}
 use Rattle.places.proofs.WrittenLaws.{Shaped, length-written}
 use Rattle.places.proofs.PutLaws.{put-settings, put-hint}
@@ -195,7 +195,7 @@ module _ (text : List ℕ) (i n : ℕ) (at : LinesAt text i n (drop 1 (entryLine
           stands = line-passed text (k .next) (numberLine hintKey (e .hint)) (linesText (targetLines (e .targets)) ++ restAfter text i) after-taken (hint-later (e .hint)) (c .next);
         }
 
-        pub settings-read : (raw : List ℕ) → i < length raw / 2336 → {x y z : Bool} {m o : List ℕ} → x ≡ eqb (getD text (n + 5) 0) 114 → y ≡ eqb (getD text (n + 20) 0) 49
+        pub settings-read : (raw : List ℕ) → i < placeCount raw → {x y z : Bool} {m o : List ℕ} → x ≡ eqb (getD text (n + 5) 0) 114 → y ≡ eqb (getD text (n + 20) 0) 49
             → z ≡ eqb (getD text (n + 31) 0) 49 → m ≡ changed i (putSettings (settings x y z (t .value) (k .value))) raw → o ≡ changed i (putUnit 10 (h .value)) m
             → SettingsRead text i raw o (h .next)
         unfolding settled
@@ -299,7 +299,7 @@ module _ (text : List ℕ) (i n m : ℕ) (at : LinesAt text i n (targetLines (dr
     is-here : here ≡ record { path = unspelled (valueAt 7 (drop n text)); opens = false }
     is-here = λ j. record { path = sym (path-says targetKey after (here .path) refl units-here short-here (target-later (here .path)) line-here) j; opens = closed-here j }
 
-    module _ (raw : List ℕ) (fits : i < length raw / 2336) {o : List ℕ} {r : ℕ} (w : TargetRead n text i m raw o r) where
+    module _ (raw : List ℕ) (fits : i < placeCount raw) {o : List ℕ} {r : ℕ} (w : TargetRead n text i m raw o r) where
       pub target-next : LinesAt text i r (targetLines (drop (m + 1) (saidAt text i .targets)))
       unfolding after
       target-next = record {
@@ -314,7 +314,7 @@ module _ (text : List ℕ) (i n m : ℕ) (at : LinesAt text i n (targetLines (dr
           all-more addTarget short keeps-target raw i fits ts m (record { path = unspelled (valueAt 7 (drop n text)); opens = false }) l targets-few
           (fit-rooms ts (referral-told (saidAt text i) (targets-told .good) .each)) is-here (w .memory)
 
-  pub targets-done : (first raw : List ℕ) → i < length raw / 2336 → changed i (addAll addTarget 0 (saidAt text i .targets)) first ≡ changed i (addAll addTarget m (drop m (saidAt text i .targets))) raw
+  pub targets-done : (first raw : List ℕ) → i < placeCount raw → changed i (addAll addTarget 0 (saidAt text i .targets)) first ≡ changed i (addAll addTarget m (drop m (saidAt text i .targets))) raw
       → length (saidAt text i .targets) ≤ m → TargetsRead text i first raw n
   targets-done first raw fits q h = record {
     memory = all-done addTarget short keeps-target raw i fits m ts q h;
@@ -350,7 +350,7 @@ module _ (e : Referral) (good : goodReferral e ≡ true) where
   unfolding referralUnits
   long-entry = length-written _ (e .hint) _ (referralSettings e) (referral-shape e good)
 
-  place-read : (raw : List ℕ) (i : ℕ) → i < length raw / 2336 → {a b c o : List ℕ} → a ≡ changed i (λ q. blank) raw → b ≡ changed i (addText 0 (e .prefix)) a
+  place-read : (raw : List ℕ) (i : ℕ) → i < placeCount raw → {a b c o : List ℕ} → a ≡ changed i (λ q. blank) raw → b ≡ changed i (addText 0 (e .prefix)) a
       → c ≡ changed i (settled e) b → o ≡ changed i (addAll addTarget 0 (e .targets)) c → o ≡ changed i (λ q. referralUnits e) raw
   place-read raw i fits p q r s =
       let u = length-written (e .prefix ∷ []) 0 [] [] keyShape in
@@ -387,7 +387,7 @@ module _ (text : List ℕ) (i n : ℕ) (at : LinesAt text i n (entryLines (saidA
     stands = line-passed text n (pathLine prefixKey (saidAt text i .prefix)) afterPrefix prefix-line (prefix-later (saidAt text i .prefix)) (w .next);
   }
 
-  pub entry-read : (raw : List ℕ) → i < length raw / 2336 → {a b c o : List ℕ} {r s t : ℕ} → a ≡ changed i (λ q. blank) raw → PathRead n text i 0 a b r
+  pub entry-read : (raw : List ℕ) → i < placeCount raw → {a b c o : List ℕ} {r s t : ℕ} → a ≡ changed i (λ q. blank) raw → PathRead n text i 0 a b r
       → SettingsRead text i b c s → TargetsRead text i c o t → EntryRead text i raw o t
   entry-read raw fits {a} p q u v = record {
     memory = place-read (saidAt text i) (entry-listable .good) raw i fits p (q .memory ∙ ap (λ (x : List ℕ). changed i (addText 0 x) a) prefix-says) (u .memory) (v .memory);

@@ -1,14 +1,14 @@
 -- Laws of a text, and of a target, that is written into its place.
 use mathlib.Core.Path.{_≡_, refl, sym, _∙_}
 use mathlib.Core.List.{List, [], _∷_}
-use Prim.Native.Nat.{ℕ, _+_, _-_, _*_, _/_, _≤_, _<_}
+use Prim.Native.Nat.{ℕ, _+_, _-_, _*_, _≤_, _<_}
 use native.Mathlib.Omega.{arith}
 use lib.ListN.{length, getD, drop, replicate}
 use Rattle.laws.specs.Choice.{choose}
 use Rattle.laws.specs.Lists.{pasted, roomed}
 use Rattle.laws.proofs.Orders.{Lies, low, within, high, lies}
 use Rattle.laws.proofs.Pasting.{length-pasted, getD-pasted-low, getD-pasted-in, getD-pasted-high, by-parts, pasted-room, length-roomed}
-use Rattle.places.specs.Layout.{changed, putUnit, flagUnit}
+use Rattle.places.specs.Layout.{placeCount, changed, putUnit, flagUnit}
 use Rattle.spelling.specs.Spelling.{Put}
 use Rattle.entries.specs.Writing.{addText}
 use Rattle.entries.specs.Writing.{addTarget}
@@ -45,7 +45,7 @@ pasted-swap d a p b q h k =
         ∙ sym (getD-pasted-high (pasted d a p) b q (let v = length-pasted d a p (omega arith) in omega arith) i z m ∙ getD-pasted-high d a p (omega arith) i z l)
 
 -- a text, the zeros after it, its length, and that it is the last
-pub value-put : (raw : List ℕ) (i : ℕ) → i < length raw / 2336 → (j : ℕ) (t : List ℕ) → j < 9 → length t ≤ 256 → {a b c o : List ℕ} {stop : ℕ}
+pub value-put : (raw : List ℕ) (i : ℕ) → i < placeCount raw → (j : ℕ) (t : List ℕ) → j < 9 → length t ≤ 256 → {a b c o : List ℕ} {stop : ℕ}
     → Put raw (i * 2336 + 32 + j * 256) t a stop → b ≡ pasted a stop (replicate (i * 2336 + 32 + j * 256 + 256 - stop) 0)
     → c ≡ pasted b (i * 2336 + j) ((stop - (i * 2336 + 32 + j * 256)) ∷ []) → o ≡ changed i (putUnit 9 j) c → o ≡ changed i (addText j t) raw
 value-put raw i fits j t h k {a} {b} {c} {o} {stop} w e f g =
@@ -59,7 +59,7 @@ value-put raw i fits j t h k {a} {b} {c} {o} {stop} w e f g =
     (f ∙ ((λ n. pasted (r n) (i * 2336 + j) (y n ∷ [])) ∙ pasted-swap raw (i * 2336 + j) (length t ∷ []) s (roomed 256 t) (omega arith) (omega arith))) g h k
 
 -- a target, and that it opens no set
-pub target-put : (raw : List ℕ) (i : ℕ) → i < length raw / 2336 → (m n : ℕ) (text : List ℕ) → m < 8 → PathAt (drop n text) → {a o : List ℕ} {r : ℕ}
+pub target-put : (raw : List ℕ) (i : ℕ) → i < placeCount raw → (m n : ℕ) (text : List ℕ) → m < 8 → PathAt (drop n text) → {a o : List ℕ} {r : ℕ}
     → PathRead n text i (1 + m) raw a r → o ≡ changed i (putUnit (11 + m) 0) a → TargetRead n text i m raw o r
 unfolding addTarget flagUnit choose
 target-put raw i fits m n text h p w e =

@@ -1,7 +1,7 @@
 // A listing read into the places of a referral cache: document 01, "The listing". What is read here has been tested; nothing is tested again.
 ghost use mathlib.Core.Path.{_≡_};
 ghost use mathlib.Core.Bool.{true};
-ghost use Prim.Native.Nat.{_+_, _-_, _/_, _≤_, _<_};
+ghost use Prim.Native.Nat.{_+_, _-_, _≤_, _<_};
 ghost use lib.ListN.{length, take, drop};
 ghost use Rattle.places.specs.Layout.{placeCount, changed};
 ghost use Rattle.caches.specs.Memory.{referrals, rightSize, encode};
@@ -57,7 +57,7 @@ fn number_at(text: &[u16], at: usize, key: usize) -> Read
 
 // Text j of place i, as the last text of the place, from the spelling between `from` and `end`.
 fn put_value(text: &[u16], from: usize, end: usize, refs: &mut [u16], i: usize, j: usize)
-    requires { ⌜ (i < length (now refs) / 2336) × ((j < 9) × ((from ≤ end) × ((end ≤ length (now text)) × ((isSpelled (take (end - from) (drop from (now text))) ≡ true) × (length (unspelled (take (end - from) (drop from (now text)))) ≤ 256))))) ⌝ }
+    requires { ⌜ (i < placeCount (now refs)) × ((j < 9) × ((from ≤ end) × ((end ≤ length (now text)) × ((isSpelled (take (end - from) (drop from (now text))) ≡ true) × (length (unspelled (take (end - from) (drop from (now text)))) ≤ 256))))) ⌝ }
     ensures { λ r. ⌜ now (refs .exit) ≡ changed i (addText j (unspelled (take (end - from) (drop from (now (text .entry)))))) (now (refs .entry)) ⌝ }
 {
     let at = i * PLACE;
@@ -70,7 +70,7 @@ fn put_value(text: &[u16], from: usize, end: usize, refs: &mut [u16], i: usize, 
 
 // Text j of place i from the line of a prefix or a target at `at`; answers where the next line begins.
 fn put_path(text: &[u16], at: usize, refs: &mut [u16], i: usize, j: usize) -> usize
-    requires { ⌜ (i < length (now refs) / 2336) × ((j < 9) × PathAt (drop at (now text))) ⌝ }
+    requires { ⌜ (i < placeCount (now refs)) × ((j < 9) × PathAt (drop at (now text))) ⌝ }
     ensures { λ r. ⌜ PathRead at (now (text .entry)) i j (now (refs .entry)) (now (refs .exit)) r ⌝ }
 {
     let end = lines::line_end(text, at);
@@ -80,7 +80,7 @@ fn put_path(text: &[u16], at: usize, refs: &mut [u16], i: usize, j: usize) -> us
 
 // Target n of place i, which opens no set, from the line at `at`.
 fn put_target(text: &[u16], at: usize, refs: &mut [u16], i: usize, n: usize) -> usize
-    requires { ⌜ (i < length (now refs) / 2336) × ((n < 8) × PathAt (drop at (now text))) ⌝ }
+    requires { ⌜ (i < placeCount (now refs)) × ((n < 8) × PathAt (drop at (now text))) ⌝ }
     ensures { λ r. ⌜ TargetRead at (now (text .entry)) i n (now (refs .entry)) (now (refs .exit)) r ⌝ }
 {
     let next = put_path(text, at, refs, i, 1 + n);
@@ -90,7 +90,7 @@ fn put_target(text: &[u16], at: usize, refs: &mut [u16], i: usize, n: usize) -> 
 
 // The targets of entry i into its place, up to the next entry or the end.
 fn put_targets(text: &[u16], at: usize, refs: &mut [u16], i: usize) -> usize
-    requires { ⌜ (i < length (now refs) / 2336) × LinesAt (now text) i at (targetLines (saidAt (now text) i .targets)) ⌝ }
+    requires { ⌜ (i < placeCount (now refs)) × LinesAt (now text) i at (targetLines (saidAt (now text) i .targets)) ⌝ }
     ensures { λ r. ⌜ TargetsRead (now (text .entry)) i (now (refs .entry)) (now (refs .exit)) r ⌝ }
 {
     let mut end = at;
@@ -107,7 +107,7 @@ fn put_targets(text: &[u16], at: usize, refs: &mut [u16], i: usize) -> usize
 
 // The lines of entry i between its prefix and its targets: kind=, interlink= and failback=, which have 10, 12 and 11 units whatever they say, then ttl=, taken= and hint=.
 fn put_settings(text: &[u16], at: usize, refs: &mut [u16], i: usize) -> usize
-    requires { ⌜ (i < length (now refs) / 2336) × LinesAt (now text) i at (drop 1 (entryLines (saidAt (now text) i))) ⌝ }
+    requires { ⌜ (i < placeCount (now refs)) × LinesAt (now text) i at (drop 1 (entryLines (saidAt (now text) i))) ⌝ }
     ensures { λ r. ⌜ SettingsRead (now (text .entry)) i (now (refs .entry)) (now (refs .exit)) r ⌝ }
 {
     let root = text[at + 5] == ROOT;
@@ -123,7 +123,7 @@ fn put_settings(text: &[u16], at: usize, refs: &mut [u16], i: usize) -> usize
 
 // Entry i of the text, which begins at `at`, into place i; answers where the next entry begins.
 fn put_entry(text: &[u16], at: usize, refs: &mut [u16], i: usize) -> usize
-    requires { ⌜ (i < length (now refs) / 2336) × LinesAt (now text) i at (entryLines (saidAt (now text) i)) ⌝ }
+    requires { ⌜ (i < placeCount (now refs)) × LinesAt (now text) i at (entryLines (saidAt (now text) i)) ⌝ }
     ensures { λ r. ⌜ EntryRead (now (text .entry)) i (now (refs .entry)) (now (refs .exit)) r ⌝ }
 {
     places::clear_place(refs, i);

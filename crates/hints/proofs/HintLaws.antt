@@ -3,7 +3,7 @@ use mathlib.Core.Path.{_≡_, refl, sym, ap, _∙_}
 use mathlib.Core.Bool.{true}
 use mathlib.Core.List.{List, [], _∷_}
 use mathlib.Core.Logic.{inr}
-use Prim.Native.Nat.{ℕ, zero, suc, _/_, _<_}
+use Prim.Native.Nat.{ℕ, zero, suc, _<_}
 use native.Mathlib.Omega.{arith}
 use lib.ListN.{length, getD, set}
 use lib.Seq.{getD-set-same}
@@ -11,7 +11,7 @@ use borrow.Author.Tests.{ltb-true, ne-eqb}
 use Rattle.laws.specs.Lists.{every}
 use Rattle.laws.proofs.Choices.{choose-no}
 use Rattle.laws.proofs.Listed.{every-set}
-use Rattle.places.specs.Layout.{placeAt, listCount}
+use Rattle.places.specs.Layout.{placeCount, placeAt, listCount}
 use Rattle.caches.specs.Entries.{Domain, Place, free, used}
 use Rattle.caches.specs.Order.{goodDomain, goodDCHint}
 use Rattle.caches.specs.Memory.{Kind, referrals, domains, decode, encode, inOrder, goodPlace}
@@ -81,7 +81,7 @@ dc-hint = record {
 }
 
 -- the hint of the entry at place i set in memory in order, and set back
-module _ {E : Type 0} (k : Kind E) (law : Lawful k) (hint : Hint k) (raw : List ℕ) (i h : ℕ) (order : inOrder k raw ≡ true) (fits : i < length raw / 2336)
+module _ {E : Type 0} (k : Kind E) (law : Lawful k) (hint : Hint k) (raw : List ℕ) (i h : ℕ) (order : inOrder k raw ≡ true) (fits : i < placeCount raw)
     (below : h < hint .count (entryAt k i raw)) {m : List ℕ} (g : m ≡ encode k (set (decode k raw) i (onEntry (hint .to h) (getD (decode k raw) i free)))) where
   some : 0 < listCount (placeAt i raw)
   some = let n : hint .count (entryAt k i raw) ≡ listCount (placeAt i raw) = hint .counts raw i in omega arith
@@ -108,7 +108,7 @@ module _ {E : Type 0} (k : Kind E) (law : Lawful k) (hint : Hint k) (raw : List 
       ap (λ (ps : List (Place E)). getD ps i free) (hint-held ∙ is-set)
       ∙ getD-set-same (decode k raw) i _ free (rw (length-decode k raw) fits)
 
-  hint-fits : i < length m / 2336
+  hint-fits : i < placeCount m
   hint-fits = used-fits k m i _ there
 
   hint-below : {n : ℕ} → n ≡ hint .hint (entryAt k i raw) → n < hint .count (entryAt k i m)
@@ -127,7 +127,7 @@ module _ {E : Type 0} (k : Kind E) (law : Lawful k) (hint : Hint k) (raw : List 
       ∙ (ap (encode k) (set-same (decode k raw) i free) ∙ encode-decode k raw order))))
 
 -- TargetHint
-module _ (refs : List ℕ) (i h : ℕ) (order : inOrder referrals refs ≡ true) (fits : i < length refs / 2336) (below : h < length (entryAt referrals i refs .targets)) {m : List ℕ}
+module _ (refs : List ℕ) (i h : ℕ) (order : inOrder referrals refs ≡ true) (fits : i < placeCount refs) (below : h < length (entryAt referrals i refs .targets)) {m : List ℕ}
     (g : m ≡ encode referrals (targetHinted i h (decode referrals refs))) where
   pub target-held : decode referrals m ≡ targetHinted i h (decode referrals refs)
   unfolding targetHinted target-hint
@@ -136,7 +136,7 @@ module _ (refs : List ℕ) (i h : ℕ) (order : inOrder referrals refs ≡ true)
   pub target-order : inOrder referrals m ≡ true
   target-order = ap (inOrder referrals) g ∙ target-hint-order refs i h order fits below
 
-  pub target-fits : i < length m / 2336
+  pub target-fits : i < placeCount m
   unfolding targetHinted target-hint
   target-fits = hint-fits referrals referrals-lawful target-hint refs i h order fits below g
 
@@ -150,7 +150,7 @@ module _ (refs : List ℕ) (i h : ℕ) (order : inOrder referrals refs ≡ true)
     target-back f = hint-back referrals referrals-lawful target-hint refs i h order fits below g e f
 
 -- DCHint
-module _ (doms : List ℕ) (i h : ℕ) (order : inOrder domains doms ≡ true) (fits : i < length doms / 2336) (below : h < length (entryAt domains i doms .dcs)) {m : List ℕ}
+module _ (doms : List ℕ) (i h : ℕ) (order : inOrder domains doms ≡ true) (fits : i < placeCount doms) (below : h < length (entryAt domains i doms .dcs)) {m : List ℕ}
     (g : m ≡ encode domains (dcHinted i h (decode domains doms))) where
   pub dc-held : decode domains m ≡ dcHinted i h (decode domains doms)
   unfolding dcHinted dc-hint
@@ -159,7 +159,7 @@ module _ (doms : List ℕ) (i h : ℕ) (order : inOrder domains doms ≡ true) (
   pub dc-order : inOrder domains m ≡ true
   dc-order = ap (inOrder domains) g ∙ dc-hint-order doms i h order fits below
 
-  pub dc-fits : i < length m / 2336
+  pub dc-fits : i < placeCount m
   unfolding dcHinted dc-hint
   dc-fits = hint-fits domains domains-lawful dc-hint doms i h order fits below g
 

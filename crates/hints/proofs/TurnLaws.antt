@@ -3,7 +3,7 @@ use mathlib.Core.Path.{_≡_, refl, sym, ap, _∙_, subst}
 use mathlib.Core.Bool.{Bool, true, false, _&&_, _||_, not}
 use mathlib.Core.List.{List, []}
 use mathlib.Core.Logic.{_⊎_, inl, inr}
-use Prim.Native.Nat.{ℕ, _/_, _≤_, _<_}
+use Prim.Native.Nat.{ℕ, _≤_, _<_}
 use native.Mathlib.Omega.{arith}
 use lib.ListN.{length, getD, take}
 use lib.Seq.{length-take-le, take-take}
@@ -13,6 +13,7 @@ use Rattle.laws.specs.Choice.{choose}
 use Rattle.laws.proofs.Choices.{choose-yes, choose-no, and-left}
 use Rattle.laws.proofs.Orders.{told}
 use Rattle.unc.specs.Paths.{components}
+use Rattle.places.specs.Layout.{placeCount}
 use Rattle.caches.specs.Entries.{Referral}
 use Rattle.caches.specs.Memory.{referrals, domains, decode, encode, inOrder}
 use Rattle.caches.proofs.MemoryLaws.{encode-decode}
@@ -176,7 +177,7 @@ module _ (refs doms rooms : List ℕ) (len left size clock room : ℕ) (q : Aski
     link-none h = let z : withKey referrals (take (q .entry) (take len rooms)) (decode referrals refs) ≡ Nothing = sym found-is ∙ h in rw z refl
 
     module _ (i : ℕ) (h : g ≡ At i) where
-      pub link-fits : i < length refs / 2336
+      pub link-fits : i < placeCount refs
       link-fits = targets-fit (take (q .entry) (take len rooms)) refs found-is i h
 
       pub link-below : q .party < length (entryAt referrals i refs .targets)
@@ -229,9 +230,9 @@ module _ (refs doms rooms : List ℕ) (len left size clock room : ℕ) (q : Aski
               held-back = unfit-back left clock room (cachesOf m doms) _ _ _ (sym tested ∙ n) k
 
               module _ {old : ℕ} (x : old ≡ entryAt referrals i refs .hint) where
-                pub link-again : (inOrder referrals v ≡ true) × ((i < length v / 2336) × (old < length (entryAt referrals i v .targets)))
+                pub link-again : (inOrder referrals v ≡ true) × ((i < placeCount v) × (old < length (entryAt referrals i v .targets)))
                 link-again =
-                    subst (λ (z : List ℕ). (inOrder referrals z ≡ true) × ((i < length z / 2336) × (old < length (entryAt referrals i z .targets)))) (sym held-back)
+                    subst (λ (z : List ℕ). (inOrder referrals z ≡ true) × ((i < placeCount z) × (old < length (entryAt referrals i z .targets)))) (sym held-back)
                     (target-order refs i (q .party) (s .ready .order) link-fits link-below a, (target-fits refs i (q .party) (s .ready .order) link-fits link-below a, target-below refs i (q .party) (s .ready .order) link-fits link-below a x))
 
                 pub link-back : {z : List ℕ} → z ≡ encode referrals (targetHinted i old (decode referrals v))
@@ -252,7 +253,7 @@ module _ (refs doms rooms : List ℕ) (len left size clock room : ℕ) (q : Aski
   dc-none h = let z : withKey domains (getD (components (take len rooms)) 0 []) (decode domains doms) ≡ Nothing = sym named-is ∙ h in rw z refl
 
   module _ (i : ℕ) (h : g ≡ At i) where
-    pub through-fits : i < length doms / 2336
+    pub through-fits : i < placeCount doms
     through-fits = dcs-fit (take len rooms) doms named-is i h
 
     pub through-below : q .party < length (entryAt domains i doms .dcs)
@@ -294,7 +295,7 @@ module _ (refs doms rooms : List ℕ) (len left size clock room : ℕ) (q : Aski
               (sym (encode-decode domains m (dc-order doms i (q .party) order through-fits through-below a))))
 
           module _ {old : ℕ} (x : old ≡ entryAt domains i doms .hint) where
-            pub through-again : (inOrder domains m ≡ true) × ((i < length m / 2336) × (old < length (entryAt domains i m .dcs)))
+            pub through-again : (inOrder domains m ≡ true) × ((i < placeCount m) × (old < length (entryAt domains i m .dcs)))
             through-again =
                 (dc-order doms i (q .party) order through-fits through-below a, (dc-fits doms i (q .party) order through-fits through-below a, dc-below doms i (q .party) order through-fits through-below a x))
 

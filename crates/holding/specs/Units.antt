@@ -7,8 +7,6 @@ use lib.ListN.{take, drop}
 use lib.Dec.{eqb}
 use Rattle.laws.specs.Choice.{choose}
 use Rattle.laws.specs.Lists.{pasted}
-use Rattle.domains.specs.Domains as dom
-use Rattle.domains.specs.declared.DomainsRead.{DomainsRead}
 use Rattle.steps.specs.declared.End.the-variants.{Gone}
 use Rattle.steps.specs.declared.Next.the-variants.{Ends}
 use Rattle.walks.specs.declared.Walk.{Walk}

@@ -3,7 +3,7 @@ ghost use mathlib.Core.Path.{_≡_};
 ghost use mathlib.Core.List.{_++_};
 ghost use Prim.Native.Nat.{_+_, _/_, _≤_, _<_};
 ghost use lib.ListN.{length};
-ghost use Rattle.places.specs.Layout.{placeAt, flagAt, flagUnit};
+ghost use Rattle.places.specs.Layout.{placeCount, placeAt, flagAt, flagUnit};
 ghost use Rattle.caches.specs.Memory.{referralOf};
 ghost use Rattle.spelling.specs.Spelling.{spelled, decimal, Put};
 ghost use Rattle.listing.specs.Form.{kindKey, kindWord, pathLine, numberLine, ended, linesText, targetLines, settingLines, countLines, entryText};
@@ -54,7 +54,7 @@ fn number_units(key: usize, n: u32) -> usize
 
 // The units of the lines before the targets. The lines of kind, interlink and failback have 10, 12 and 11 whatever they say.
 fn head_units(cache: &[u16], i: usize) -> usize
-    requires { ⌜ i < length (now cache) / 2336 ⌝ }
+    requires { ⌜ i < placeCount (now cache) ⌝ }
     ensures { λ r. ⌜ r ≡ length (linesText (settingLines (referralOf (placeAt i (now (cache .entry)))) ++ countLines (referralOf (placeAt i (now (cache .entry)))))) ⌝ }
 {
     let prefix = path_units(7, places::text(cache, i, 0));
@@ -65,7 +65,7 @@ fn head_units(cache: &[u16], i: usize) -> usize
 }
 
 fn targets_units(cache: &[u16], i: usize) -> usize
-    requires { ⌜ i < length (now cache) / 2336 ⌝ }
+    requires { ⌜ i < placeCount (now cache) ⌝ }
     ensures units { λ r. ⌜ r ≡ length (linesText (targetLines (referralOf (placeAt i (now (cache .entry))) .targets))) ⌝ }
     ensures few { λ r. ⌜ r ≤ 10304 ⌝ }
 {
@@ -81,7 +81,7 @@ fn targets_units(cache: &[u16], i: usize) -> usize
 
 // How many units the listing has.
 fn listing_units(cache: &[u16]) -> usize
-    requires { ⌜ length (now cache) / 2336 ≤ 32 ⌝ }
+    requires { ⌜ placeCount (now cache) ≤ 32 ⌝ }
     ensures { λ r. ⌜ r ≡ length (textOf (now (cache .entry))) ⌝ }
 {
     let count = cache.len() / PLACE;
@@ -145,7 +145,7 @@ fn put_kind(out: &mut [u16], at: usize, root: bool) -> usize
 
 // Whether flag j of place i is set.
 fn flag(cache: &[u16], i: usize, j: usize) -> bool
-    requires { ⌜ (i < length (now cache) / 2336) × (j < 2336) ⌝ }
+    requires { ⌜ (i < placeCount (now cache)) × (j < 2336) ⌝ }
     ensures { λ r. ⌜ r ≡ flagAt j (placeAt i (now (cache .entry))) ⌝ }
 {
     places::unit(cache, i, j) == 1
@@ -162,7 +162,7 @@ fn put_flag(out: &mut [u16], at: usize, key: &[u16], set: bool) -> usize
 }
 
 fn put_settings(cache: &[u16], i: usize, out: &mut [u16], at: usize) -> usize
-    requires { ⌜ (i < length (now cache) / 2336) × (at + length (linesText (settingLines (referralOf (placeAt i (now cache))))) ≤ length (now out)) ⌝ }
+    requires { ⌜ (i < placeCount (now cache)) × (at + length (linesText (settingLines (referralOf (placeAt i (now cache))))) ≤ length (now out)) ⌝ }
     ensures { λ r. ⌜ Put (now (out .entry)) at (linesText (settingLines (referralOf (placeAt i (now (cache .entry)))))) (now (out .exit)) r ⌝ }
 {
     let prefix = PREFIX;
@@ -175,7 +175,7 @@ fn put_settings(cache: &[u16], i: usize, out: &mut [u16], at: usize) -> usize
 }
 
 fn put_counts(cache: &[u16], i: usize, out: &mut [u16], at: usize) -> usize
-    requires { ⌜ (i < length (now cache) / 2336) × (at + length (linesText (countLines (referralOf (placeAt i (now cache))))) ≤ length (now out)) ⌝ }
+    requires { ⌜ (i < placeCount (now cache)) × (at + length (linesText (countLines (referralOf (placeAt i (now cache))))) ≤ length (now out)) ⌝ }
     ensures { λ r. ⌜ Put (now (out .entry)) at (linesText (countLines (referralOf (placeAt i (now (cache .entry)))))) (now (out .exit)) r ⌝ }
 {
     let ttl = TTL;
@@ -187,7 +187,7 @@ fn put_counts(cache: &[u16], i: usize, out: &mut [u16], at: usize) -> usize
 }
 
 fn put_targets(cache: &[u16], i: usize, out: &mut [u16], at: usize) -> usize
-    requires { ⌜ (i < length (now cache) / 2336) × (at + length (linesText (targetLines (referralOf (placeAt i (now cache)) .targets))) ≤ length (now out)) ⌝ }
+    requires { ⌜ (i < placeCount (now cache)) × (at + length (linesText (targetLines (referralOf (placeAt i (now cache)) .targets))) ≤ length (now out)) ⌝ }
     ensures { λ r. ⌜ Put (now (out .entry)) at (linesText (targetLines (referralOf (placeAt i (now (cache .entry))) .targets))) (now (out .exit)) r ⌝ }
 {
     let target = TARGET;
@@ -202,7 +202,7 @@ fn put_targets(cache: &[u16], i: usize, out: &mut [u16], at: usize) -> usize
 }
 
 fn put_entry(cache: &[u16], i: usize, out: &mut [u16], at: usize) -> usize
-    requires { ⌜ (i < length (now cache) / 2336) × (at + length (entryText (referralOf (placeAt i (now cache)))) ≤ length (now out)) ⌝ }
+    requires { ⌜ (i < placeCount (now cache)) × (at + length (entryText (referralOf (placeAt i (now cache)))) ≤ length (now out)) ⌝ }
     ensures { λ r. ⌜ Put (now (out .entry)) at (entryText (referralOf (placeAt i (now (cache .entry))))) (now (out .exit)) r ⌝ }
 {
     let a = put_settings(cache, i, out, at);

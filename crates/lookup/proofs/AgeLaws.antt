@@ -1,15 +1,15 @@
 -- Laws of ages and of the place that a new entry takes.
 use mathlib.Core.Path.{_≡_, refl, sym, ap, _∙_}
 use mathlib.Core.List.{List, _∷_}
-use Prim.Native.Nat.{ℕ, suc, _+_, _/_, _%_, _^_, _≤_, _<_}
+use Prim.Native.Nat.{ℕ, suc, _+_, _%_, _^_, _≤_, _<_}
 use native.Mathlib.Numerals.{add-one}
 use native.Mathlib.Omega.{arith}
-use lib.ListN.{length, drop}
+use lib.ListN.{drop}
 use lib.Dec.{leb, ltb}
 use borrow.Author.Tests.{ne-eqb, le-ltb, lt-ltb}
 use Rattle.laws.specs.Choice.{choose}
 use Rattle.laws.proofs.Choices.{choose-yes, choose-no}
-use Rattle.places.specs.Layout.{placeAt, unitAt, wideAt}
+use Rattle.places.specs.Layout.{placeCount, placeAt, unitAt, wideAt}
 use Rattle.lookup.specs.declared.Found.{Found}
 use Rattle.lookup.specs.declared.Found.the-variants.{At, Nothing}
 use Rattle.caches.specs.Entries.{Referral, Place}
@@ -47,11 +47,11 @@ module _ (clock : ℕ) (raw : List ℕ) (i : ℕ) where
 
 -- the loop that finds a free place
 module _ (raw : List ℕ) (i : ℕ) where
-  pub free-hit : {u : ℕ} → u ≡ unitAt 0 (placeAt i raw) → u ≡ 0 → i < length raw / 2336 → firstFreeFrom i (drop i (decode referrals raw)) ≡ At i
+  pub free-hit : {u : ℕ} → u ≡ unitAt 0 (placeAt i raw) → u ≡ 0 → i < placeCount raw → firstFreeFrom i (drop i (decode referrals raw)) ≡ At i
   unfolding firstFreeFrom
   free-hit e h v = rw (drop-decode referrals raw i v, place-free referrals (placeAt i raw) (sym e ∙ h))
 
-  pub free-miss : {u : ℕ} → u ≡ unitAt 0 (placeAt i raw) → (u ≡ 0 → ⊥) → i < length raw / 2336
+  pub free-miss : {u : ℕ} → u ≡ unitAt 0 (placeAt i raw) → (u ≡ 0 → ⊥) → i < placeCount raw
       → firstFreeFrom i (drop i (decode referrals raw)) ≡ firstFreeFrom (i + 1) (drop (i + 1) (decode referrals raw))
   unfolding firstFreeFrom
   free-miss e n v =
@@ -60,7 +60,7 @@ module _ (raw : List ℕ) (i : ℕ) where
       (place-used referrals (placeAt i raw) (ne-eqb (unitAt 0 (placeAt i raw)) 0 (λ z. n (e ∙ z))))
       ∙ ap (λ (k : ℕ). firstFreeFrom (i + 1) (drop k (decode referrals raw))) (sym (add-one i)))
 
-  pub free-end : length raw / 2336 ≤ i → firstFreeFrom i (drop i (decode referrals raw)) ≡ Nothing
+  pub free-end : placeCount raw ≤ i → firstFreeFrom i (drop i (decode referrals raw)) ≡ Nothing
   unfolding firstFreeFrom
   free-end h = rw (drop-decode-end referrals raw i h)
 
@@ -70,7 +70,7 @@ unfolding oldest
 oldest-start clock raw = refl
 
 module _ (clock : ℕ) (raw : List ℕ) (i best n : ℕ) where
-  oldest-step : i < length raw / 2336 → {a : ℕ} → a ≡ placeAge clock (placeOf referrals (placeAt i raw))
+  oldest-step : i < placeCount raw → {a : ℕ} → a ≡ placeAge clock (placeOf referrals (placeAt i raw))
       → oldestFrom clock i best n (drop i (decode referrals raw))
       ≡ oldestFrom clock (i + 1) (choose (ltb n a) i best) (choose (ltb n a) a n) (drop (i + 1) (decode referrals raw))
   unfolding oldestFrom
@@ -79,19 +79,19 @@ module _ (clock : ℕ) (raw : List ℕ) (i best n : ℕ) where
       ∙ (λ j. oldestFrom clock (i + 1) (choose (ltb n (sym e j)) i best) (choose (ltb n (sym e j)) (sym e j) n) (drop (sym (add-one i) j) (decode referrals raw)))
 
   module _ {a best′ n′ : ℕ} (e : a ≡ placeAge clock (placeOf referrals (placeAt i raw))) where
-    pub oldest-hit : n < a → best′ ≡ i → n′ ≡ a → i < length raw / 2336
+    pub oldest-hit : n < a → best′ ≡ i → n′ ≡ a → i < placeCount raw
         → oldestFrom clock i best n (drop i (decode referrals raw)) ≡ oldestFrom clock (i + 1) best′ n′ (drop (i + 1) (decode referrals raw))
     oldest-hit h p q u =
         oldest-step u e
         ∙ (λ j. oldestFrom clock (i + 1) ((choose-yes i best (lt-ltb n a h) ∙ sym p) j) ((choose-yes a n (lt-ltb n a h) ∙ sym q) j) (drop (i + 1) (decode referrals raw)))
 
-    pub oldest-miss : a ≤ n → best′ ≡ best → n′ ≡ n → i < length raw / 2336
+    pub oldest-miss : a ≤ n → best′ ≡ best → n′ ≡ n → i < placeCount raw
         → oldestFrom clock i best n (drop i (decode referrals raw)) ≡ oldestFrom clock (i + 1) best′ n′ (drop (i + 1) (decode referrals raw))
     oldest-miss h p q u =
         oldest-step u e
         ∙ (λ j. oldestFrom clock (i + 1) ((choose-no i best (le-ltb n a h) ∙ sym p) j) ((choose-no a n (le-ltb n a h) ∙ sym q) j) (drop (i + 1) (decode referrals raw)))
 
-  pub oldest-end : length raw / 2336 ≤ i → oldestFrom clock i best n (drop i (decode referrals raw)) ≡ best
+  pub oldest-end : placeCount raw ≤ i → oldestFrom clock i best n (drop i (decode referrals raw)) ≡ best
   unfolding oldestFrom
   oldest-end h = rw (drop-decode-end referrals raw i h)
 

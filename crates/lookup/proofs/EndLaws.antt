@@ -11,7 +11,7 @@ use borrow.Author.Tests.{eq-eqb, ne-eqb}
 use Rattle.laws.proofs.Choices.{choose-yes, choose-no}
 use Rattle.laws.proofs.Tests.{not-both}
 use Rattle.unc.proofs.WithinLaws.{within-low}
-use Rattle.places.specs.Layout.{placeAt, unitAt, roomAt, textAt}
+use Rattle.places.specs.Layout.{placeCount, placeAt, unitAt, roomAt, textAt}
 use Rattle.caches.specs.Memory.{referrals, placeOf, decode}
 use Rattle.lookup.specs.declared.Found.{Found}
 use Rattle.lookup.specs.Lookup.{longerMatch, longestFrom, longestMatch}
@@ -62,7 +62,7 @@ best-at i h = sym (choose-no Nothing (At i) (ne-eqb _ _ h))
 
 module _ (raw path : List ℕ) where
   -- a place whose last units are not those of the path
-  pub ends-apart : (i : ℕ) → i < length raw / 2336 → {u start a b : ℕ} {room : List ℕ} → u ≡ unitAt 0 (placeAt i raw) → room ≡ roomAt 0 (placeAt i raw)
+  pub ends-apart : (i : ℕ) → i < placeCount raw → {u start a b : ℕ} {room : List ℕ} → u ≡ unitAt 0 (placeAt i raw) → room ≡ roomAt 0 (placeAt i raw)
       → length path ≤ 256 → start + 4 ≡ min u (length path) → LowBits room start a → LowBits path start b → eqb (bitAnd (bitXor a b) 8725857424048159) 0 ≡ false
       → longerMatch path 0 (placeOf referrals (placeAt i raw)) ≡ false
   ends-apart i fits {start = start} eu er short e p q h =
@@ -76,7 +76,7 @@ module _ (raw path : List ℕ) where
   pub passed-on : {i j k : ℕ} → Passed raw path i j → Passed raw path j k → Passed raw path i k
   passed-on p q = record { same = λ best n. p .same best n ∙ q .same best n }
 
-  pub passed-one : {h i j : ℕ} → Passed raw path h i → longerMatch path 0 (placeOf referrals (placeAt i raw)) ≡ false → i < length raw / 2336 → j ≡ i + 1
+  pub passed-one : {h i j : ℕ} → Passed raw path h i → longerMatch path 0 (placeOf referrals (placeAt i raw)) ≡ false → i < placeCount raw → j ≡ i + 1
       → Passed raw path h j
   passed-one {i = i} p unmatched fits e =
       passed-on p (rw e (record { same = λ best n. find-miss raw path i best n (place-unlike (placeAt i raw) path n unmatched (omega arith)) refl refl refl fits }))
@@ -86,21 +86,21 @@ module _ (raw path : List ℕ) where
   find-begin = find-start raw path ∙ ap (λ (b : Found). longestFrom path 0 b 0 (drop 0 (decode referrals raw))) (best-none 0 refl)
 
   module _ (i best n : ℕ) {best′ n′ : ℕ} {r : Bool} (e : r ≡ longerMatch path n (placeOf referrals (placeAt i raw))) where
-    pub find-better : {key : List ℕ} → r ≡ true → best′ ≡ i → key ≡ textAt 0 (placeAt i raw) → n′ ≡ length key → i < length raw / 2336
+    pub find-better : {key : List ℕ} → r ≡ true → best′ ≡ i → key ≡ textAt 0 (placeAt i raw) → n′ ≡ length key → i < placeCount raw
         → longestFrom path i (bestFound best n) n (drop i (decode referrals raw)) ≡ longestFrom path (i + 1) (bestFound best′ n′) n′ (drop (i + 1) (decode referrals raw))
     find-better {key} h p k q u =
         let more : n < length key = rw k (longer-units (placeAt i raw) path n (sym e ∙ h)) in
         find-hit raw path i (bestFound best n) n e h (sym (best-at best′ (λ z. absurd (omega arith))) ∙ ap At p) k q u
 
-    pub find-worse : r ≡ false → best′ ≡ best → n′ ≡ n → i < length raw / 2336
+    pub find-worse : r ≡ false → best′ ≡ best → n′ ≡ n → i < placeCount raw
         → longestFrom path i (bestFound best n) n (drop i (decode referrals raw)) ≡ longestFrom path (i + 1) (bestFound best′ n′) n′ (drop (i + 1) (decode referrals raw))
     find-worse h p q u = find-miss raw path i (bestFound best n) n e h (ap₂ bestFound p q) q u
 
   -- none is longer than the path
-  find-over : (d i : ℕ) (best : Found) (n : ℕ) → length path ≤ n → i + d ≡ length raw / 2336 → longestFrom path i best n (drop i (decode referrals raw)) ≡ best
+  find-over : (d i : ℕ) (best : Found) (n : ℕ) → length path ≤ n → i + d ≡ placeCount raw → longestFrom path i best n (drop i (decode referrals raw)) ≡ best
   find-over zero i best n l e = find-end raw path i best n (omega arith)
   find-over (suc d) i best n l e =
       find-miss raw path i best n refl (no-longer (placeAt i raw) path n l) refl refl (omega arith) ∙ find-over d (i + 1) best n l (omega arith)
 
-  pub find-whole : (i : ℕ) (best : Found) (n : ℕ) → n ≡ length path → i ≤ length raw / 2336 → longestFrom path i best n (drop i (decode referrals raw)) ≡ best
-  find-whole i best n e u = find-over (length raw / 2336 - i) i best n (omega arith) (omega arith)
+  pub find-whole : (i : ℕ) (best : Found) (n : ℕ) → n ≡ length path → i ≤ placeCount raw → longestFrom path i best n (drop i (decode referrals raw)) ≡ best
+  find-whole i best n e u = find-over (placeCount raw - i) i best n (omega arith) (omega arith)

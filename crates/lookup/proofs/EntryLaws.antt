@@ -3,12 +3,12 @@ use mathlib.Core.Path.{_≡_, refl, sym, ap, _∙_}
 use mathlib.Core.Bool.{true}
 use mathlib.Core.List.{List, []}
 use mathlib.Core.Logic.{inr}
-use Prim.Native.Nat.{ℕ, _+_, _/_, _<_}
+use Prim.Native.Nat.{ℕ, _+_, _<_}
 use native.Mathlib.Omega.{arith}
 use lib.ListN.{length, getD, set}
 use lib.Dec.{eqb}
 use Rattle.laws.proofs.Listed.{length-listed, getD-listed}
-use Rattle.places.specs.Layout.{placeAt, changed, unitAt, flagAt, textAt, listCount, putUnit}
+use Rattle.places.specs.Layout.{placeCount, placeAt, changed, unitAt, flagAt, textAt, listCount, putUnit}
 use Rattle.places.proofs.PutLaws.{put-hint}
 use Rattle.caches.specs.Entries.{Target, Referral, Domain, Place, free, used}
 use Rattle.caches.specs.Order.{goodReferral, goodDomain}
@@ -78,7 +78,7 @@ module _ (raw : List ℕ) (i : ℕ) where
     read-dc e h = e ∙ sym (getD-listed (listCount (placeAt i raw)) (λ k. textAt (1 + k) (placeAt i raw)) j [] (rw length-listed at h))
 
 -- an entry of memory in order, with a list, changed in its place
-module _ {E : Type 0} (k : Kind E) (law : Lawful k) (raw : List ℕ) (i : ℕ) (order : inOrder k raw ≡ true) (fits : i < length raw / 2336)
+module _ {E : Type 0} (k : Kind E) (law : Lawful k) (raw : List ℕ) (i : ℕ) (order : inOrder k raw ≡ true) (fits : i < placeCount raw)
     (some : 0 < listCount (placeAt i raw)) where
   pub entry-here : getD (decode k raw) i free ≡ used (entryAt k i raw)
   entry-here = listed-used k law raw i order fits some
@@ -146,7 +146,7 @@ unfolding dcHintTo
 dc-hint = record { count = λ d. length (d .dcs); counts = count-dcs; to = dcHintTo; good = dc-hint-good; units = dc-hint-units; key = λ h d. refl }
 
 -- the hint of an entry of memory in order set, and the memory still in order
-module _ {E : Type 0} (k : Kind E) (law : Lawful k) (hint : Hint k) (raw : List ℕ) (i h : ℕ) (order : inOrder k raw ≡ true) (fits : i < length raw / 2336)
+module _ {E : Type 0} (k : Kind E) (law : Lawful k) (hint : Hint k) (raw : List ℕ) (i h : ℕ) (order : inOrder k raw ≡ true) (fits : i < placeCount raw)
     (below : h < hint .count (entryAt k i raw)) where
   some : 0 < listCount (placeAt i raw)
   some = let n : hint .count (entryAt k i raw) ≡ listCount (placeAt i raw) = hint .counts raw i in omega arith
@@ -161,7 +161,7 @@ module _ {E : Type 0} (k : Kind E) (law : Lawful k) (hint : Hint k) (raw : List 
   hint-order : inOrder k (encode k (set (decode k raw) i (onEntry (hint .to h) (getD (decode k raw) i free)))) ≡ true
   hint-order = on-entry-order k law raw i order fits some (hint .to h) well (hint .key h (entryAt k i raw))
 
-module _ (raw : List ℕ) (i h : ℕ) (order : inOrder referrals raw ≡ true) (fits : i < length raw / 2336) (below : h < length (entryAt referrals i raw .targets)) where
+module _ (raw : List ℕ) (i h : ℕ) (order : inOrder referrals raw ≡ true) (fits : i < placeCount raw) (below : h < length (entryAt referrals i raw .targets)) where
   pub target-hint-set : {m : List ℕ} → m ≡ changed i (putUnit 10 h) raw → m ≡ encode referrals (targetHinted i h (decode referrals raw))
   unfolding targetHinted target-hint
   target-hint-set = hint-set referrals referrals-lawful target-hint raw i h order fits below
@@ -170,7 +170,7 @@ module _ (raw : List ℕ) (i h : ℕ) (order : inOrder referrals raw ≡ true) (
   unfolding targetHinted target-hint
   target-hint-order = hint-order referrals referrals-lawful target-hint raw i h order fits below
 
-module _ (raw : List ℕ) (i h : ℕ) (order : inOrder domains raw ≡ true) (fits : i < length raw / 2336) (below : h < length (entryAt domains i raw .dcs)) where
+module _ (raw : List ℕ) (i h : ℕ) (order : inOrder domains raw ≡ true) (fits : i < placeCount raw) (below : h < length (entryAt domains i raw .dcs)) where
   pub dc-hint-set : {m : List ℕ} → m ≡ changed i (putUnit 10 h) raw → m ≡ encode domains (dcHinted i h (decode domains raw))
   unfolding dcHinted dc-hint
   dc-hint-set = hint-set domains domains-lawful dc-hint raw i h order fits below

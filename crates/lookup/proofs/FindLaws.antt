@@ -3,7 +3,7 @@ use mathlib.Core.Path.{_≡_, refl, sym, ap, _∙_}
 use mathlib.Core.Bool.{Bool, true, false, _&&_}
 use mathlib.Core.List.{List, [], _∷_, map}
 use mathlib.Core.Logic.{_⊎_, inl, inr}
-use Prim.Native.Nat.{ℕ, _+_, _/_, _≤_, _<_, min}
+use Prim.Native.Nat.{ℕ, _+_, _≤_, _<_, min}
 use native.Mathlib.Numerals.{add-one}
 use native.Mathlib.Omega.{arith}
 use lib.ListN.{length, getD, take, drop, length-take}
@@ -87,7 +87,7 @@ module _ (p : List ℕ) where
         go (inr l) = sym (place-shorter refl l)
 
 -- a prefix whose units are not the first ones of the path
-module _ (raw path : List ℕ) (i : ℕ) (fits : i < length raw / 2336) where
+module _ (raw path : List ℕ) (i : ℕ) (fits : i < placeCount raw) where
   abbrev prefix : List ℕ
   prefix = textAt 0 (placeAt i raw)
 
@@ -124,7 +124,7 @@ module _ (raw path : List ℕ) (i : ℕ) (fits : i < length raw / 2336) where
 -- the loop that finds the longest match
 module _ (raw path : List ℕ) (i : ℕ) (best : Found) (n : ℕ) where
   -- one place more
-  find-step : i < length raw / 2336 → longestFrom path i best n (drop i (decode referrals raw))
+  find-step : i < placeCount raw → longestFrom path i best n (drop i (decode referrals raw))
       ≡ longestFrom path (i + 1) (choose (longerMatch path n (placeOf referrals (placeAt i raw))) (At i) best)
       (choose (longerMatch path n (placeOf referrals (placeAt i raw))) (prefixUnits (placeOf referrals (placeAt i raw))) n) (drop (i + 1) (decode referrals raw))
   unfolding longestFrom
@@ -136,7 +136,7 @@ module _ (raw path : List ℕ) (i : ℕ) (best : Found) (n : ℕ) where
 
   -- the best and its units after that
   module _ {best′ : Found} {n′ : ℕ} {r : Bool} (e : r ≡ longerMatch path n (placeOf referrals (placeAt i raw))) where
-    pub find-hit : {key : List ℕ} → r ≡ true → best′ ≡ At i → key ≡ textAt 0 (placeAt i raw) → n′ ≡ length key → i < length raw / 2336
+    pub find-hit : {key : List ℕ} → r ≡ true → best′ ≡ At i → key ≡ textAt 0 (placeAt i raw) → n′ ≡ length key → i < placeCount raw
         → longestFrom path i best n (drop i (decode referrals raw)) ≡ longestFrom path (i + 1) best′ n′ (drop (i + 1) (decode referrals raw))
     find-hit h p k q u =
         let l : prefixUnits (placeOf referrals (placeAt i raw)) ≡ n′ = units-place (placeAt i raw) ∙ (ap length (sym k) ∙ sym q) in
@@ -144,14 +144,14 @@ module _ (raw path : List ℕ) (i : ℕ) (best : Found) (n : ℕ) where
         ∙ (λ j. longestFrom path (i + 1) ((choose-yes (At i) best (sym e ∙ h) ∙ sym p) j)
         ((choose-yes (prefixUnits (placeOf referrals (placeAt i raw))) n (sym e ∙ h) ∙ l) j) (drop (i + 1) (decode referrals raw)))
 
-    pub find-miss : r ≡ false → best′ ≡ best → n′ ≡ n → i < length raw / 2336
+    pub find-miss : r ≡ false → best′ ≡ best → n′ ≡ n → i < placeCount raw
         → longestFrom path i best n (drop i (decode referrals raw)) ≡ longestFrom path (i + 1) best′ n′ (drop (i + 1) (decode referrals raw))
     find-miss h p q u =
         find-step u
         ∙ (λ j. longestFrom path (i + 1) ((choose-no (At i) best (sym e ∙ h) ∙ sym p) j)
         ((choose-no (prefixUnits (placeOf referrals (placeAt i raw))) n (sym e ∙ h) ∙ sym q) j) (drop (i + 1) (decode referrals raw)))
 
-  pub find-end : length raw / 2336 ≤ i → longestFrom path i best n (drop i (decode referrals raw)) ≡ best
+  pub find-end : placeCount raw ≤ i → longestFrom path i best n (drop i (decode referrals raw)) ≡ best
   unfolding longestFrom
   find-end h = rw (drop-decode-end referrals raw i h)
 
@@ -178,15 +178,15 @@ module _ (name raw : List ℕ) where
   key-start = refl
 
   module _ (i : ℕ) where
-    pub key-hit : {r : Bool} → r ≡ keyIs name (placeAt i raw) → r ≡ true → i < length raw / 2336 → keyFrom name raw i ≡ At i
+    pub key-hit : {r : Bool} → r ≡ keyIs name (placeAt i raw) → r ≡ true → i < placeCount raw → keyFrom name raw i ≡ At i
     unfolding keyFrom keyPlaceFrom
     key-hit e h u = rw (drop-listed (placeCount raw) (λ k. placeAt k raw) i u) (choose-yes (At i) _ (sym e ∙ h))
 
-    pub key-miss : {r : Bool} → r ≡ keyIs name (placeAt i raw) → r ≡ false → i < length raw / 2336 → keyFrom name raw i ≡ keyFrom name raw (i + 1)
+    pub key-miss : {r : Bool} → r ≡ keyIs name (placeAt i raw) → r ≡ false → i < placeCount raw → keyFrom name raw i ≡ keyFrom name raw (i + 1)
     unfolding keyFrom keyPlaceFrom
     key-miss e h u = rw (drop-listed (placeCount raw) (λ k. placeAt k raw) i u, add-one i) (choose-no (At i) _ (sym e ∙ h))
 
-    pub key-end : length raw / 2336 ≤ i → keyFrom name raw i ≡ Nothing
+    pub key-end : placeCount raw ≤ i → keyFrom name raw i ≡ Nothing
     unfolding keyFrom keyPlaceFrom
     key-end h = rw (drop-listed-end (placeCount raw) (λ k. placeAt k raw) i h)
 

@@ -3,7 +3,7 @@ ghost use mathlib.Core.Path.{_≡_};
 ghost use mathlib.Core.Bool.{true, false};
 ghost use Prim.Native.Nat.{_+_, _/_, _≤_, _<_};
 ghost use lib.ListN.{length};
-ghost use Rattle.places.specs.Layout.{placeAt};
+ghost use Rattle.places.specs.Layout.{placeCount, placeAt};
 ghost use Rattle.caches.specs.Memory.{referrals, domains, placeOf, decode, encode, inOrder};
 ghost use Rattle.lookup.specs.Lookup.{longerMatch, longestMatch, withKey, entryAt, age, expired, firstFreeFrom, placeAge, oldest, newPlace, targetPath, targetOpens, dcName, targetHinted, dcHinted};
 ghost use Rattle.lookup.specs.Keys.{keyIs, keyPlace};
@@ -40,7 +40,7 @@ fn four_units(s: &[u16], k: usize) -> u64
 // Whether the prefix of place i may match by its last four units. Paths of one namespace begin alike, so that their ends tell most of them apart. A prefix that
 // is longer than the path is compared where the path ends: it does not match anyway, and a test for it would often be guessed wrong.
 fn may_match(cache: &[u16], i: usize, path: &[u16]) -> bool
-    requires { ⌜ (i < length (now cache) / 2336) × ((4 ≤ length (now path)) × (length (now path) ≤ 256)) ⌝ }
+    requires { ⌜ (i < placeCount (now cache)) × ((4 ≤ length (now path)) × (length (now path) ≤ 256)) ⌝ }
     ensures { λ r. ⌜ (r ≡ false → longerMatch (now (path .entry)) 0 (placeOf referrals (placeAt i (now (cache .entry)))) ≡ false) ⌝ }
 {
     let units = places::unit(cache, i, 0) as usize;
@@ -54,7 +54,7 @@ fn may_match(cache: &[u16], i: usize, path: &[u16]) -> bool
 
 // Of the places of a turn, from i on, how many come before the first whose prefix may match.
 fn passed(cache: &[u16], i: usize, path: &[u16]) -> usize
-    requires { ⌜ (i + 4 ≤ length (now cache) / 2336) × ((4 ≤ length (now path)) × (length (now path) ≤ 256)) ⌝ }
+    requires { ⌜ (i + 4 ≤ placeCount (now cache)) × ((4 ≤ length (now path)) × (length (now path) ≤ 256)) ⌝ }
     ensures { λ r. ⌜ (r ≤ 4) × Passed (now (cache .entry)) (now (path .entry)) i (i + r) ⌝ }
 {
     let mut k = 0;
@@ -69,8 +69,8 @@ fn passed(cache: &[u16], i: usize, path: &[u16]) -> usize
 
 // The first place from `from` on whose prefix may match, or the number of places. A path of less than four units, or longer than any prefix, is not tested.
 fn next_candidate(cache: &[u16], from: usize, path: &[u16]) -> usize
-    requires { ⌜ from ≤ length (now cache) / 2336 ⌝ }
-    ensures { λ r. ⌜ (from ≤ r) × ((r ≤ length (now (cache .entry)) / 2336) × Passed (now (cache .entry)) (now (path .entry)) from r) ⌝ }
+    requires { ⌜ from ≤ placeCount (now cache) ⌝ }
+    ensures { λ r. ⌜ (from ≤ r) × ((r ≤ placeCount (now (cache .entry))) × Passed (now (cache .entry)) (now (path .entry)) from r) ⌝ }
 {
     if path.len() < END {
         return from;
@@ -98,7 +98,7 @@ fn next_candidate(cache: &[u16], from: usize, path: &[u16]) -> usize
 
 // Whether the prefix of place i has more units than `units` and matches the path.
 fn longer_match(cache: &[u16], i: usize, path: &[u16], units: usize) -> bool
-    requires { ⌜ i < length (now cache) / 2336 ⌝ }
+    requires { ⌜ i < placeCount (now cache) ⌝ }
     ensures { λ r. ⌜ r ≡ longerMatch (now (path .entry)) units (placeOf referrals (placeAt i (now (cache .entry)))) ⌝ }
 {
     let prefix = places::text(cache, i, 0);
@@ -149,7 +149,7 @@ pub fn find(cache: &[u16], path: &[u16]) -> Found
 
 // Whether place i is used and its key is an equal name.
 fn key_is(cache: &[u16], i: usize, name: &[u16]) -> bool
-    requires { ⌜ i < length (now cache) / 2336 ⌝ }
+    requires { ⌜ i < placeCount (now cache) ⌝ }
     ensures { λ r. ⌜ r ≡ keyIs (now (name .entry)) (placeAt i (now (cache .entry))) ⌝ }
 {
     if places::unit(cache, i, 0) == 0 {
@@ -194,21 +194,21 @@ pub fn age(clock: u32, taken: u32) -> u32
 }
 
 pub fn ttl(cache: &[u16], i: usize) -> u32
-    requires { ⌜ i < length (now cache) / 2336 ⌝ }
+    requires { ⌜ i < placeCount (now cache) ⌝ }
     ensures { λ r. ⌜ r ≡ entryAt referrals i (now (cache .entry)) .ttl ⌝ }
 {
     places::wide(cache, i, 22)
 }
 
 pub fn taken(cache: &[u16], i: usize) -> u32
-    requires { ⌜ i < length (now cache) / 2336 ⌝ }
+    requires { ⌜ i < placeCount (now cache) ⌝ }
     ensures { λ r. ⌜ r ≡ entryAt referrals i (now (cache .entry)) .taken ⌝ }
 {
     places::wide(cache, i, 24)
 }
 
 pub fn is_expired(cache: &[u16], i: usize, clock: u32) -> bool
-    requires { ⌜ i < length (now cache) / 2336 ⌝ }
+    requires { ⌜ i < placeCount (now cache) ⌝ }
     ensures { λ r. ⌜ r ≡ expired clock (entryAt referrals i (now (cache .entry))) ⌝ }
 {
     ttl(cache, i) <= age(clock, taken(cache, i))
@@ -216,7 +216,7 @@ pub fn is_expired(cache: &[u16], i: usize, clock: u32) -> bool
 
 // The age of what a place holds; 0 where it is free.
 fn place_age(cache: &[u16], i: usize, clock: u32) -> u32
-    requires { ⌜ i < length (now cache) / 2336 ⌝ }
+    requires { ⌜ i < placeCount (now cache) ⌝ }
     ensures { λ r. ⌜ r ≡ placeAge clock (placeOf referrals (placeAt i (now (cache .entry)))) ⌝ }
 {
     if places::unit(cache, i, 0) == 0 {
@@ -269,35 +269,35 @@ pub fn new_place(cache: &[u16], clock: u32) -> usize
 }
 
 pub fn prefix(cache: &[u16], i: usize) -> &[u16]
-    requires { ⌜ i < length (now cache) / 2336 ⌝ }
+    requires { ⌜ i < placeCount (now cache) ⌝ }
     ensures { λ r. ⌜ now r ≡ entryAt referrals i (now (cache .entry)) .prefix ⌝ }
 {
     places::text(cache, i, 0)
 }
 
 pub fn is_root(cache: &[u16], i: usize) -> bool
-    requires { ⌜ i < length (now cache) / 2336 ⌝ }
+    requires { ⌜ i < placeCount (now cache) ⌝ }
     ensures { λ r. ⌜ r ≡ entryAt referrals i (now (cache .entry)) .root ⌝ }
 {
     places::unit(cache, i, 19) == 1
 }
 
 pub fn is_interlink(cache: &[u16], i: usize) -> bool
-    requires { ⌜ i < length (now cache) / 2336 ⌝ }
+    requires { ⌜ i < placeCount (now cache) ⌝ }
     ensures { λ r. ⌜ r ≡ entryAt referrals i (now (cache .entry)) .interlink ⌝ }
 {
     places::unit(cache, i, 20) == 1
 }
 
 pub fn target_count(cache: &[u16], i: usize) -> usize
-    requires { ⌜ i < length (now cache) / 2336 ⌝ }
+    requires { ⌜ i < placeCount (now cache) ⌝ }
     ensures { λ r. ⌜ r ≡ length (entryAt referrals i (now (cache .entry)) .targets) ⌝ }
 {
     places::list_count(cache, i)
 }
 
 pub fn target_hint(cache: &[u16], i: usize) -> u16
-    requires { ⌜ i < length (now cache) / 2336 ⌝ }
+    requires { ⌜ i < placeCount (now cache) ⌝ }
     ensures { λ r. ⌜ r ≡ entryAt referrals i (now (cache .entry)) .hint ⌝ }
 {
     places::unit(cache, i, 10)
@@ -305,7 +305,7 @@ pub fn target_hint(cache: &[u16], i: usize) -> u16
 
 // Target j of the entry at place i, as it lies in the cache.
 pub fn target(cache: &[u16], i: usize, j: usize) -> &[u16]
-    requires { ⌜ (i < length (now cache) / 2336) × (j < length (entryAt referrals i (now cache) .targets)) ⌝ }
+    requires { ⌜ (i < placeCount (now cache)) × (j < length (entryAt referrals i (now cache) .targets)) ⌝ }
     ensures { λ r. ⌜ now r ≡ targetPath j (entryAt referrals i (now (cache .entry))) ⌝ }
 {
     places::text(cache, i, 1 + j)
@@ -313,21 +313,21 @@ pub fn target(cache: &[u16], i: usize, j: usize) -> &[u16]
 
 // Whether a set opens before target j.
 pub fn target_opens(cache: &[u16], i: usize, j: usize) -> bool
-    requires { ⌜ (i < length (now cache) / 2336) × (j < length (entryAt referrals i (now cache) .targets)) ⌝ }
+    requires { ⌜ (i < placeCount (now cache)) × (j < length (entryAt referrals i (now cache) .targets)) ⌝ }
     ensures { λ r. ⌜ r ≡ targetOpens j (entryAt referrals i (now (cache .entry))) ⌝ }
 {
     places::unit(cache, i, 11 + j) == 1
 }
 
 pub fn dc_count(cache: &[u16], i: usize) -> usize
-    requires { ⌜ i < length (now cache) / 2336 ⌝ }
+    requires { ⌜ i < placeCount (now cache) ⌝ }
     ensures { λ r. ⌜ r ≡ length (entryAt domains i (now (cache .entry)) .dcs) ⌝ }
 {
     places::list_count(cache, i)
 }
 
 pub fn dc_hint(cache: &[u16], i: usize) -> u16
-    requires { ⌜ i < length (now cache) / 2336 ⌝ }
+    requires { ⌜ i < placeCount (now cache) ⌝ }
     ensures { λ r. ⌜ r ≡ entryAt domains i (now (cache .entry)) .hint ⌝ }
 {
     places::unit(cache, i, 10)
@@ -335,7 +335,7 @@ pub fn dc_hint(cache: &[u16], i: usize) -> u16
 
 // DC j of the entry at place i, as it lies in the cache.
 pub fn dc(cache: &[u16], i: usize, j: usize) -> &[u16]
-    requires { ⌜ (i < length (now cache) / 2336) × (j < length (entryAt domains i (now cache) .dcs)) ⌝ }
+    requires { ⌜ (i < placeCount (now cache)) × (j < length (entryAt domains i (now cache) .dcs)) ⌝ }
     ensures { λ r. ⌜ now r ≡ dcName j (entryAt domains i (now (cache .entry))) ⌝ }
 {
     places::text(cache, i, 1 + j)
@@ -343,7 +343,7 @@ pub fn dc(cache: &[u16], i: usize, j: usize) -> &[u16]
 
 // TargetHint of the entry at place i.
 pub fn set_target_hint(cache: &mut [u16], i: usize, target: u16)
-    requires { ⌜ (inOrder referrals (now cache) ≡ true) × ((i < length (now cache) / 2336) × (target < length (entryAt referrals i (now cache) .targets))) ⌝ }
+    requires { ⌜ (inOrder referrals (now cache) ≡ true) × ((i < placeCount (now cache)) × (target < length (entryAt referrals i (now cache) .targets))) ⌝ }
     ensures { λ r. ⌜ now (cache .exit) ≡ encode referrals (targetHinted i target (decode referrals (now (cache .entry)))) ⌝ }
 {
     places::put_unit(cache, i, 10, target);
@@ -351,7 +351,7 @@ pub fn set_target_hint(cache: &mut [u16], i: usize, target: u16)
 
 // DCHint of the entry at place i.
 pub fn set_dc_hint(cache: &mut [u16], i: usize, dc: u16)
-    requires { ⌜ (inOrder domains (now cache) ≡ true) × ((i < length (now cache) / 2336) × (dc < length (entryAt domains i (now cache) .dcs))) ⌝ }
+    requires { ⌜ (inOrder domains (now cache) ≡ true) × ((i < placeCount (now cache)) × (dc < length (entryAt domains i (now cache) .dcs))) ⌝ }
     ensures { λ r. ⌜ now (cache .exit) ≡ encode domains (dcHinted i dc (decode domains (now (cache .entry)))) ⌝ }
 {
     places::put_unit(cache, i, 10, dc);

@@ -4,12 +4,13 @@ use mathlib.Core.Bool.{Bool, true, false, _||_}
 use mathlib.Core.List.{List}
 use mathlib.Core.Logic.{_⊎_, inl, inr}
 use mathlib.Core.Option.{Option}
-use Prim.Native.Nat.{ℕ, _/_, _<_}
+use Prim.Native.Nat.{ℕ, _<_}
 use lib.ListN.{length}
 use Rattle.laws.specs.Choice.{choose}
 use Rattle.laws.proofs.Choices.{choose-yes, choose-no}
 use Rattle.laws.proofs.Orders.{told}
 use Rattle.unc.specs.Paths.{firstOf}
+use Rattle.places.specs.Layout.{placeCount}
 use Rattle.caches.specs.Entries.{Referral}
 use Rattle.caches.specs.Memory.{referrals, domains, decode, inOrder}
 use Rattle.lookup.specs.Lookup.{longestMatch, withKey, entryAt, expired}
@@ -94,7 +95,7 @@ module _ (refs doms : List ℕ) (w : Core) where
 module _ (refs path : List ℕ) where
   pub Facts : Matched → Type 0
   Facts (Fresh i) = Usable refs path i
-  Facts (Refresh i) = i < length refs / 2336
+  Facts (Refresh i) = i < placeCount refs
   Facts Stale = _≡_ {A = ℕ} 0 0
   Facts Missed = _≡_ {A = ℕ} 0 0
 
@@ -148,7 +149,7 @@ module _ (refs path : List ℕ) where
   unfolding Facts
   fresh-usable clock i order e h = subst Facts (sym e ∙ h) (facts2 clock order .0)
 
-  pub refresh-fits : (clock i : ℕ) {m : Matched} → inOrder referrals refs ≡ true → m ≡ step2In clock path refs → m ≡ Refresh i → i < length refs / 2336
+  pub refresh-fits : (clock i : ℕ) {m : Matched} → inOrder referrals refs ≡ true → m ≡ step2In clock path refs → m ≡ Refresh i → i < placeCount refs
   unfolding Facts
   refresh-fits clock i order e h = subst Facts (sym e ∙ h) (facts2 clock order .0)
 

@@ -16,6 +16,7 @@ use Rattle.unc.specs.declared.Written.{Written}
 use Rattle.unc.specs.declared.Written.the-variants.{Units, TooLong}
 use Rattle.texts.specs.Texts.{textsOf, Standing}
 use Rattle.texts.proofs.TextLaws.{path-in, taken-stands, told-fits, written-units, written-long}
+use Rattle.places.specs.Layout.{placeCount}
 use Rattle.caches.specs.Order.{goodPrefix}
 use Rattle.caches.specs.Memory.{referrals, domains, decode, inOrder}
 use Rattle.caches.proofs.MemoryLaws.{cache-told, order-good, length-decode}
@@ -34,7 +35,7 @@ use Rattle.moves.proofs.MatchedLaws.{fresh-usable, refresh-fits}
 use Rattle.moves.proofs.MoveLaws.{standing-path, new-good, turns-to, tries-at, lookup-fresh, lookup-refresh, lookup-stale, lookup-missed, replaces-long, replaces-made, goes-stops, domain-asked, tried-steps, link-steps, end-steps, inter-limit}
 
 -- a cache in order has 32 places at most
-pub place-few : (refs : List ℕ) (i : ℕ) → inOrder referrals refs ≡ true → i < length refs / 2336 → i < 32
+pub place-few : (refs : List ℕ) (i : ℕ) → inOrder referrals refs ≡ true → i < placeCount refs → i < 32
 place-few refs i h u = omega (arith, cache-told referrals (decode referrals refs) (order-good referrals refs h) .most, length-decode referrals refs)
 
 -- the parts of a point
@@ -59,12 +60,12 @@ module _ (what i n left : ℕ) (a : what < 8) (b : i < 32) (c : n ≤ 256) where
       stepsFrom (left-in k) refs doms clock (coreOf (take (units-in k) texts) size true)
       (calledFor doms (coreOf (take (units-in k) texts) size true) (entryAt referrals (place-in k) refs) (what-in k))
 
-  point-made : (refs texts : List ℕ) → left < 65536 → Ready refs texts n → (what < 2 → Usable refs (take n texts) i) → (what ≡ 2 → i < length refs / 2336)
+  point-made : (refs texts : List ℕ) → left < 65536 → Ready refs texts n → (what < 2 → Usable refs (take n texts) i) → (what ≡ 2 → i < placeCount refs)
       → Point refs texts (what + 8 * i + 256 * n + 131072 * left)
   point-made refs texts l r u f = record {
     ready = subst (λ (m : ℕ). Ready refs texts m) (sym units-in) r;
     usable = λ h. subst (λ (m : ℕ). Usable refs (take m texts) ((what + 8 * i + 256 * n + 131072 * left) / 8 % 32)) (sym units-in) (subst (λ (j : ℕ). Usable refs (take n texts) j) (sym place-in) (u (omega (arith, what-in))));
-    fits = λ h. let z : i < length refs / 2336 = f (sym what-in ∙ h) in omega (arith, place-in);
+    fits = λ h. let z : i < placeCount refs = f (sym what-in ∙ h) in omega (arith, place-in);
     counted = omega (arith, left-in);
   }
 
@@ -229,7 +230,7 @@ module _ (refs texts : List ℕ) (n : ℕ) (r : Ready refs texts n) (clock : ℕ
   usable-there : (i : ℕ) → step2In clock (take n texts) refs ≡ Fresh i → Usable refs (take n texts) i
   usable-there i h = fresh-usable refs (take n texts) clock i (r .order) refl h
 
-  fits-there : (i : ℕ) → step2In clock (take n texts) refs ≡ Refresh i → i < length refs / 2336
+  fits-there : (i : ℕ) → step2In clock (take n texts) refs ≡ Refresh i → i < placeCount refs
   fits-there i h = refresh-fits refs (take n texts) clock i (r .order) refl h
 
   request-is : (k i : ℕ) → k + 8 * i + 256 * length (take n texts) ≡ k + 8 * i + 256 * n
@@ -469,8 +470,8 @@ module _ (refs doms texts : List ℕ) (size n : ℕ) (t : Halted refs texts n) {
   pub usable-at : {q : ℕ} → q ≡ placeIn n → whatOf n ≡ 0 → Usable refs (take u texts) q
   usable-at {q} b h = subst (λ (k : ℕ). Usable refs (take k texts) q) (sym a) (subst (λ (k : ℕ). Usable refs (take (unitsOf n) texts) k) (sym b) (t .point .usable (omega arith)))
 
-  pub fits-at : {q : ℕ} → q ≡ placeIn n → whatOf n ≡ 2 → q < length refs / 2336
-  fits-at b h = let z : placeIn n < length refs / 2336 = t .point .fits h in omega arith
+  pub fits-at : {q : ℕ} → q ≡ placeIn n → whatOf n ≡ 2 → q < placeCount refs
+  fits-at b h = let z : placeIn n < placeCount refs = t .point .fits h in omega arith
 
   pub rest-try : {q : ℕ} {x : Packed} → q ≡ placeIn n → whatOf n ≡ 0
       → x ≡ packed (asking l (coreOf (take u texts) 0 true) (step8 (coreOf (take u texts) 0 true) (entryAt referrals q refs) (entryAt referrals q refs .hint) (entryAt referrals q refs .hint)))

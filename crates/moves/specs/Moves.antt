@@ -1,5 +1,5 @@
 -- Words of the functions that move: what they are given, and what they leave.
-use Prim.Native.Nat.{ℕ, _/_, _<_}
+use Prim.Native.Nat.{ℕ, _<_}
 use mathlib.Core.Path.{_≡_}
 use mathlib.Core.Bool.{true}
 use mathlib.Core.List.{List, []}
@@ -8,6 +8,7 @@ use Rattle.laws.specs.Choice.{choose}
 use lib.ListN.{length, take}
 use Rattle.unc.specs.Paths.{matches}
 use Rattle.texts.specs.Texts.{textsOf, Standing}
+use Rattle.places.specs.Layout.{placeCount}
 use Rattle.caches.specs.Order.{goodPrefix, goodReferral}
 use Rattle.caches.specs.Memory.{referrals, domains, decode, inOrder}
 use Rattle.lookup.specs.Lookup.{entryAt}
@@ -45,7 +46,7 @@ pub record Ready (refs texts : List ℕ) (len : ℕ) : Type 0 where
 
 -- place i holds a good entry, whose prefix matches the path
 pub record Usable (refs path : List ℕ) (i : ℕ) : Type 0 where
-  pub fits : i < length refs / 2336
+  pub fits : i < placeCount refs
   pub good : goodReferral (entryAt referrals i refs) ≡ true
   pub matched : matches (entryAt referrals i refs .prefix) path ≡ true
 

@@ -7,6 +7,7 @@ use mathlib.Core.List.{List, []}
 use lib.Dec.{leb}
 use lib.ListN.{length, take}
 use Rattle.laws.specs.Choice.{choose}
+use Rattle.places.specs.Layout.{placeCount}
 use Rattle.caches.specs.Entries.{Referral}
 use Rattle.caches.specs.Memory.{referrals, domains, decode}
 use Rattle.lookup.specs.Lookup.{entryAt}
@@ -47,7 +48,7 @@ stepsAt refs doms size clock n texts =
 pub record Point (refs texts : List ℕ) (n : ℕ) : Type 0 where
   pub ready : Ready refs texts (unitsOf n)
   pub usable : whatOf n < 2 → Usable refs (take (unitsOf n) texts) (placeIn n)
-  pub fits : whatOf n ≡ 2 → placeIn n < length refs / 2336
+  pub fits : whatOf n ≡ 2 → placeIn n < placeCount refs
   pub counted : leftOf n < 65536
 
 -- one from which no move is made: no replacement, unless the limit is reached

@@ -1,7 +1,7 @@
 -- Laws of the layout: reading a place of the memory, changing one place, and reading what `written` wrote.
 use mathlib.Core.Path.{_≡_, refl, sym, ap, _∙_}
 use mathlib.Core.List.{List}
-use Prim.Native.Nat.{ℕ, _+_, _-_, _*_, _/_, _≤_, _<_, min}
+use Prim.Native.Nat.{ℕ, _+_, _-_, _*_, _≤_, _<_, min}
 use native.Mathlib.Nat.{add-assoc}
 use native.Mathlib.Omega.{arith}
 use lib.ListN.{length, getD, take, drop}
@@ -10,10 +10,10 @@ use Rattle.laws.specs.Lists.{pasted, part}
 use Rattle.laws.proofs.Orders.{lt-or-le}
 use Rattle.laws.proofs.Pasting.{getD-part, length-part, length-pasted, part-pasted, part-pasted-low, part-pasted-high, pasted-in-part, pasted-again, pasted-part}
 use Rattle.laws.proofs.Parts.{part-part, take-part, part-slice}
-use Rattle.places.specs.Layout.{placeAt, changed, unitAt, wideAt, roomAt, textAt}
+use Rattle.places.specs.Layout.{placeCount, placeAt, changed, unitAt, wideAt, roomAt, textAt}
 
 -- a place of the memory
-module _ (raw : List ℕ) (i : ℕ) (fits : i < length raw / 2336) where
+module _ (raw : List ℕ) (i : ℕ) (fits : i < placeCount raw) where
   pub length-place : length (placeAt i raw) ≡ 2336
   unfolding placeAt
   length-place = length-part (i * 2336) 2336 raw (omega arith)
@@ -89,7 +89,7 @@ module _ (raw : List ℕ) (i : ℕ) (fits : i < length raw / 2336) where
         ∙ part-pasted raw (i * 2336) (f (part (i * 2336) 2336 raw)) (omega arith)
 
     -- every other place stays as it was
-    pub place-kept : (j : ℕ) → j < length raw / 2336 → (j ≡ i → ⊥) → placeAt j (changed i f raw) ≡ placeAt j raw
+    pub place-kept : (j : ℕ) → j < placeCount raw → (j ≡ i → ⊥) → placeAt j (changed i f raw) ≡ placeAt j raw
     unfolding changed placeAt
     place-kept j h e = go (lt-or-le j i)
       where

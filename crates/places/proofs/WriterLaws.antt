@@ -8,7 +8,7 @@ use lib.ListN.{length, take, drop, replicate, drop-of-length-le, length-replicat
 use Rattle.laws.specs.Lists.{pasted, roomed}
 use Rattle.laws.proofs.Pasting.{length-pasted, pasted-join, length-roomed}
 use Rattle.laws.proofs.Parts.{part-slice}
-use Rattle.places.specs.Layout.{placeAt, changed, wideUnits, blank, putUnit, putWide, putText, putSettings, keyOnly}
+use Rattle.places.specs.Layout.{placeCount, placeAt, changed, wideUnits, blank, putUnit, putWide, putText, putSettings, keyOnly}
 use Rattle.places.proofs.LayoutLaws.{length-place, changed-pasted, changed-then}
 
 pub length-putUnit : (j v : ℕ) (piece : List ℕ) → length piece ≡ 2336 → j < 2336 → length (putUnit j v piece) ≡ 2336
@@ -21,7 +21,7 @@ unfolding pasted
 pasted-over d p h =
     rw (zero-add (length p)) (ap (λ (x : List ℕ). p ++ x) (drop-of-length-le d {i = length p} (omega arith)) ∙ append-nil p)
 
-module _ (raw : List ℕ) (i : ℕ) (fits : i < length raw / 2336) where
+module _ (raw : List ℕ) (i : ℕ) (fits : i < placeCount raw) where
   pub unit-put : (j v : ℕ) {m : List ℕ} → m ≡ pasted raw (i * 2336 + j) (v ∷ []) → j < 2336 → m ≡ changed i (putUnit j v) raw
   unfolding putUnit
   unit-put j v e h = e ∙ changed-pasted raw i fits (i * 2336 + j) j (v ∷ []) refl (omega arith)

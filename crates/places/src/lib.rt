@@ -4,7 +4,7 @@ ghost use mathlib.Core.List.{_∷_, _++_};
 ghost use Prim.Native.Nat.{_+_, _-_, _/_, _≤_, _<_};
 ghost use lib.ListN.{length};
 ghost use Rattle.laws.specs.Lists.{part};
-ghost use Rattle.places.specs.Layout.{placeAt, changed, unitAt, wideAt, roomAt, textAt, listCount, blank, zeros, tidyRooms, tidy, putUnit, putWide, putSettings, keyOnly, wideUnits};
+ghost use Rattle.places.specs.Layout.{placeCount, placeAt, changed, unitAt, wideAt, roomAt, textAt, listCount, blank, zeros, tidyRooms, tidy, putUnit, putWide, putSettings, keyOnly, wideUnits};
 
 pub const PLACE: usize = 2336;
 
@@ -17,7 +17,7 @@ const TEXTS: usize = 9;
 
 // Unit j of place i.
 pub fn unit(cache: &[u16], i: usize, j: usize) -> u16
-    requires { ⌜ (i < length (now cache) / 2336) × (j < 2336) ⌝ }
+    requires { ⌜ (i < placeCount (now cache)) × (j < 2336) ⌝ }
     ensures { λ r. ⌜ r ≡ unitAt j (placeAt i (now (cache .entry))) ⌝ }
 {
     cache[i * PLACE + j]
@@ -25,7 +25,7 @@ pub fn unit(cache: &[u16], i: usize, j: usize) -> u16
 
 // The number of 32 bits at units j and j + 1 of place i.
 pub fn wide(cache: &[u16], i: usize, j: usize) -> u32
-    requires { ⌜ (i < length (now cache) / 2336) × (j + 1 < 2336) ⌝ }
+    requires { ⌜ (i < placeCount (now cache)) × (j + 1 < 2336) ⌝ }
     ensures { λ r. ⌜ r ≡ wideAt j (placeAt i (now (cache .entry))) ⌝ }
 {
     let at = i * PLACE + j;
@@ -34,7 +34,7 @@ pub fn wide(cache: &[u16], i: usize, j: usize) -> u32
 
 // Text j of place i, as it lies in the cache.
 pub fn text(cache: &[u16], i: usize, j: usize) -> &[u16]
-    requires { ⌜ (i < length (now cache) / 2336) × (j < 9) ⌝ }
+    requires { ⌜ (i < placeCount (now cache)) × (j < 9) ⌝ }
     ensures { λ r. ⌜ now r ≡ textAt j (placeAt i (now (cache .entry))) ⌝ }
 {
     let at = i * PLACE;
@@ -50,7 +50,7 @@ pub fn text(cache: &[u16], i: usize, j: usize) -> &[u16]
 
 // The room of text j of place i.
 pub fn room(cache: &[u16], i: usize, j: usize) -> &[u16]
-    requires { ⌜ (i < length (now cache) / 2336) × (j < 9) ⌝ }
+    requires { ⌜ (i < placeCount (now cache)) × (j < 9) ⌝ }
     ensures { λ r. ⌜ (now r ≡ roomAt j (placeAt i (now (cache .entry)))) × (length (now r) ≡ 256) ⌝ }
 {
     let start = i * PLACE + HEAD + j * ROOM;
@@ -60,7 +60,7 @@ pub fn room(cache: &[u16], i: usize, j: usize) -> &[u16]
 
 // How many texts the list of place i has.
 pub fn list_count(cache: &[u16], i: usize) -> usize
-    requires { ⌜ i < length (now cache) / 2336 ⌝ }
+    requires { ⌜ i < placeCount (now cache) ⌝ }
     ensures { λ r. ⌜ r ≡ listCount (placeAt i (now (cache .entry))) ⌝ }
 {
     let count = unit(cache, i, 9) as usize;
@@ -71,7 +71,7 @@ pub fn list_count(cache: &[u16], i: usize) -> usize
 }
 
 pub fn put_unit(cache: &mut [u16], i: usize, j: usize, v: u16)
-    requires { ⌜ (i < length (now cache) / 2336) × (j < 2336) ⌝ }
+    requires { ⌜ (i < placeCount (now cache)) × (j < 2336) ⌝ }
     ensures { λ r. ⌜ now (cache .exit) ≡ changed i (putUnit j v) (now (cache .entry)) ⌝ }
 {
     rooms::put_unit(cache, i * PLACE + j, v);
@@ -79,7 +79,7 @@ pub fn put_unit(cache: &mut [u16], i: usize, j: usize, v: u16)
 
 // A number of 32 bits into units j and j + 1 of place i.
 pub fn put_wide(cache: &mut [u16], i: usize, j: usize, v: u32)
-    requires { ⌜ (i < length (now cache) / 2336) × (j + 1 < 2336) ⌝ }
+    requires { ⌜ (i < placeCount (now cache)) × (j + 1 < 2336) ⌝ }
     ensures { λ r. ⌜ now (cache .exit) ≡ changed i (putWide j v) (now (cache .entry)) ⌝ }
 {
     let at = i * PLACE + j;
@@ -89,7 +89,7 @@ pub fn put_wide(cache: &mut [u16], i: usize, j: usize, v: u32)
 
 // Three units and two numbers of 32 bits, as settings of place i.
 pub fn put_settings(cache: &mut [u16], i: usize, a: u16, b: u16, c: u16, d: u32, e: u32)
-    requires { ⌜ i < length (now cache) / 2336 ⌝ }
+    requires { ⌜ i < placeCount (now cache) ⌝ }
     ensures { λ r. ⌜ now (cache .exit) ≡ changed i (putSettings (a ∷ b ∷ c ∷ (wideUnits d ++ wideUnits e))) (now (cache .entry)) ⌝ }
 {
     put_unit(cache, i, 19, a);
@@ -101,7 +101,7 @@ pub fn put_settings(cache: &mut [u16], i: usize, a: u16, b: u16, c: u16, d: u32,
 
 // Makes all of place i but its key zero.
 pub fn keep_key(cache: &mut [u16], i: usize)
-    requires { ⌜ i < length (now cache) / 2336 ⌝ }
+    requires { ⌜ i < placeCount (now cache) ⌝ }
     ensures { λ r. ⌜ now (cache .exit) ≡ changed i keyOnly (now (cache .entry)) ⌝ }
 {
     let at = i * PLACE;
@@ -110,7 +110,7 @@ pub fn keep_key(cache: &mut [u16], i: usize)
 }
 
 pub fn clear_place(cache: &mut [u16], i: usize)
-    requires { ⌜ i < length (now cache) / 2336 ⌝ }
+    requires { ⌜ i < placeCount (now cache) ⌝ }
     ensures { λ r. ⌜ now (cache .exit) ≡ changed i (λ q. blank) (now (cache .entry)) ⌝ }
 {
     rooms::clear_units(cache, i * PLACE, PLACE);
@@ -118,7 +118,7 @@ pub fn clear_place(cache: &mut [u16], i: usize)
 
 // Keeps place i, to be put back by `put_place`.
 pub fn save_place(cache: &[u16], i: usize, saved: &mut [u16])
-    requires { ⌜ (i < length (now cache) / 2336) × (length (now saved) ≡ 2336) ⌝ }
+    requires { ⌜ (i < placeCount (now cache)) × (length (now saved) ≡ 2336) ⌝ }
     ensures { λ r. ⌜ now (saved .exit) ≡ placeAt i (now (cache .entry)) ⌝ }
 {
     let at = i * PLACE;
@@ -127,7 +127,7 @@ pub fn save_place(cache: &[u16], i: usize, saved: &mut [u16])
 }
 
 pub fn put_place(cache: &mut [u16], i: usize, saved: &[u16])
-    requires { ⌜ (i < length (now cache) / 2336) × (length (now saved) ≡ 2336) ⌝ }
+    requires { ⌜ (i < placeCount (now cache)) × (length (now saved) ≡ 2336) ⌝ }
     ensures { λ r. ⌜ now (cache .exit) ≡ changed i (λ q. now (saved .entry)) (now (cache .entry)) ⌝ }
 {
     rooms::copy_units(cache, i * PLACE, saved);

@@ -12,7 +12,7 @@ ghost use Rattle.referral.specs.Replies.{pathOf};
 ghost use Rattle.referral.specs.Replies.{referralCount, versionAt, sizeAt, serverTypeAt, entries, fits, readable};
 ghost use Rattle.referral.specs.Replies.{goodFields, goodEntry, keptTargets, prefixAt, targetAt, referralIn, readReferral};
 ghost use Rattle.referral.specs.Replies.{says};
-ghost use Rattle.referral.specs.Found.{isInside, FirstEntry, GoodReply, ReferralInside, noReferral, opensAt, keptInside, targetShown, denoted, asked};
+ghost use Rattle.referral.specs.Found.{FirstEntry, GoodReply, ReferralInside, noReferral, opensAt, keptInside, targetShown, denoted, asked};
 use spans::Read;
 use spans::Span;
 

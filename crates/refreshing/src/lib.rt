@@ -1,8 +1,8 @@
 // A root, link or SYSVOL reply into the referral cache: a new entry, or one refreshed.
 ghost use mathlib.Core.Path.{_≡_};
 ghost use mathlib.Core.Bool.{true, false};
-ghost use Prim.Native.Nat.{_/_, _<_};
-ghost use lib.ListN.{length};
+ghost use Prim.Native.Nat.{_<_};
+ghost use Rattle.places.specs.Layout.{placeCount};
 ghost use Rattle.spans.specs.Spans.{spanned, Inside};
 ghost use Rattle.caches.specs.Memory.{referrals, decode, encode, inOrder};
 ghost use Rattle.storing.specs.Stored.{stored, storePlace};
@@ -21,7 +21,7 @@ fn insert(
     interlink: bool,
     clock: u32,
 )
-    requires { ⌜ (i < length (now cache) / 2336) × Storable (now reply) found ⌝ }
+    requires { ⌜ (i < placeCount (now cache)) × Storable (now reply) found ⌝ }
     ensures { λ r. ⌜ now (cache .exit) ≡ insertedAt i (now (reply .entry)) found interlink clock (now (cache .entry)) ⌝ }
 {
     let prefix = found.prefix;

@@ -2,13 +2,14 @@
 use mathlib.Core.Path.{_≡_, refl, sym, ap, _∙_}
 use mathlib.Core.Bool.{Bool, true, false, _||_}
 use mathlib.Core.List.{List, []}
-use Prim.Native.Nat.{ℕ, _+_, _/_, _≤_, _<_}
+use Prim.Native.Nat.{ℕ, _+_, _≤_, _<_}
 use native.Mathlib.Omega.{arith}
 use lib.ListN.{length, getD, take}
 use lib.Dec.{ltb, eqb}
 use borrow.Author.Tests.{eq-eqb, ne-eqb, lt-ltb, le-ltb, le-leb, lt-leb}
 use Rattle.laws.proofs.Choices.{choose-yes, choose-no}
 use Rattle.unc.specs.Paths.{components}
+use Rattle.places.specs.Layout.{placeCount}
 use Rattle.caches.specs.Memory.{referrals, domains, decode}
 use Rattle.lookup.specs.Lookup.{withKey, entryAt}
 use Rattle.lookup.specs.declared.Found.{Found}
@@ -42,7 +43,7 @@ module _ (path raw : List ℕ) {f : Found} (e : f ≡ withKey domains (getD (com
     unfolding domainThere domainNamed isThere
     there-held = sym (ap isThere (key-held domains (getD (components path) 0 []) raw i (sym e ∙ h)))
 
-    pub dcs-fit : i < length raw / 2336
+    pub dcs-fit : i < placeCount raw
     dcs-fit = key-fits domains (getD (components path) 0 []) raw i (sym e ∙ h)
 
     pub dcs-held : {n : ℕ} → n ≡ length (entryAt domains i raw .dcs) → n ≡ dcsNamed path raw
@@ -56,7 +57,7 @@ module _ (prefix raw : List ℕ) {f : Found} (e : f ≡ withKey referrals prefix
   targets-gone h = sym (ap targetCount (none-held (decode referrals raw) (sym e ∙ h)))
 
   module _ (i : ℕ) (h : f ≡ At i) where
-    pub targets-fit : i < length raw / 2336
+    pub targets-fit : i < placeCount raw
     targets-fit = key-fits referrals prefix raw i (sym e ∙ h)
 
     pub targets-held : {n : ℕ} → n ≡ length (entryAt referrals i raw .targets) → n ≡ targetsUnder prefix raw

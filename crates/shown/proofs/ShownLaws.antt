@@ -4,7 +4,7 @@ use mathlib.Core.Bool.{Bool, true, false, _&&_, _||_}
 use mathlib.Core.List.{List, [], _∷_}
 use mathlib.Core.Logic.{_⊎_, inl, inr}
 use mathlib.Core.Option.{Option, none, some}
-use Prim.Native.Nat.{ℕ, _+_, _-_, _/_, _≤_, _<_}
+use Prim.Native.Nat.{ℕ, _+_, _-_, _≤_, _<_}
 use native.Mathlib.Omega.{arith}
 use lib.ListN.{length, getD, take, drop, set, length-take, length-drop}
 use lib.Seq.{take-all}
@@ -15,7 +15,7 @@ use Rattle.laws.specs.Lists.{pasted, part}
 use Rattle.laws.proofs.Choices.{choose-yes, choose-no, and-left}
 use Rattle.unc.specs.Paths.{components, firstOf}
 use Rattle.unc.proofs.PieceLaws.{spans}
-use Rattle.places.specs.Layout.{placeAt, textAt, roomAt}
+use Rattle.places.specs.Layout.{placeCount, placeAt, textAt, roomAt}
 use Rattle.caches.specs.Entries.{Referral, Domain}
 use Rattle.caches.specs.Order.{goodPrefix}
 use Rattle.caches.specs.Memory.{referrals, domains, decode, inOrder}
@@ -82,7 +82,7 @@ module _ (path doms : List ℕ) (place : ℕ) (out : List ℕ) {name : List ℕ}
   dc-gone h = ap (λ (d : Option Domain). showsSome (dcAtPlace place d) out) (sym (none-held (decode domains doms) (sym named-found ∙ h)))
 
   module _ (i : ℕ) (h : f ≡ At i) where
-    pub dc-fits : place < dcsNamed path doms → (i < length doms / 2336) × (place < length (entryAt domains i doms .dcs))
+    pub dc-fits : place < dcsNamed path doms → (i < placeCount doms) × (place < length (entryAt domains i doms .dcs))
     dc-fits l =
         let k : length (entryAt domains i doms .dcs) ≡ dcsNamed path doms = dcs-held path doms named-found i h refl in
         (dcs-fit path doms named-found i h, omega arith)
@@ -106,7 +106,7 @@ module _ (prefix refs : List ℕ) (place : ℕ) (out : List ℕ) {f : Found} (e 
   target-gone h = ap (λ (d : Option Referral). showsSome (targetAtPlace place d) out) (sym (none-held (decode referrals refs) (sym e ∙ h)))
 
   module _ (i : ℕ) (h : f ≡ At i) where
-    pub target-fits : place < targetsUnder prefix refs → (i < length refs / 2336) × (place < length (entryAt referrals i refs .targets))
+    pub target-fits : place < targetsUnder prefix refs → (i < placeCount refs) × (place < length (entryAt referrals i refs .targets))
     target-fits l =
         let k : length (entryAt referrals i refs .targets) ≡ targetsUnder prefix refs = targets-held prefix refs e i h refl in
         (targets-fit prefix refs e i h, omega arith)

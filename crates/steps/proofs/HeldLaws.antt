@@ -4,14 +4,14 @@ use mathlib.Core.Bool.{true, false}
 use mathlib.Core.List.{List}
 use mathlib.Core.Logic.{_⊎_, inl, inr}
 use mathlib.Core.Option.{none, some}
-use Prim.Native.Nat.{ℕ, _/_, _<_}
+use Prim.Native.Nat.{ℕ, _<_}
 use native.Mathlib.Omega.{arith}
-use lib.ListN.{length, getD}
+use lib.ListN.{getD}
 use lib.Dec.{eqb}
 use borrow.Author.Tests.{eqb-true}
 use Rattle.laws.proofs.Orders.{told}
 use Rattle.unc.specs.Paths.{matches}
-use Rattle.places.specs.Layout.{placeAt, unitAt}
+use Rattle.places.specs.Layout.{placeCount, placeAt, unitAt}
 use Rattle.caches.specs.Entries.{Referral, Place, free, used}
 use Rattle.caches.specs.Order.{goodReferral}
 use Rattle.caches.specs.Memory.{Kind, referrals, decode, inOrder, placeOf}
@@ -27,7 +27,7 @@ use Rattle.steps.specs.Steps.{longest}
 
 -- a used place lies inside the memory and holds what is read there
 module _ {E : Type 0} (k : Kind E) (raw : List ℕ) (i : ℕ) (e : E) (here : getD (decode k raw) i free ≡ used e) where
-  pub used-fits : i < length raw / 2336
+  pub used-fits : i < placeCount raw
   used-fits = rw (← length-decode k raw) (used-inside (decode k raw) i e here)
 
   pub used-is : entryAt k i raw ≡ e
@@ -55,7 +55,7 @@ module _ {E : Type 0} (k : Kind E) (name raw : List ℕ) (i : ℕ) (h : withKey 
   there : KeyAt k name (decode k raw) i
   there = key-found k name (decode k raw) i h
 
-  pub key-fits : i < length raw / 2336
+  pub key-fits : i < placeCount raw
   key-fits = used-fits k raw i (there .entry) (there .here)
 
   pub key-held : held (withKey k name (decode k raw)) (decode k raw) ≡ some (entryAt k i raw)
@@ -66,7 +66,7 @@ module _ (path raw : List ℕ) (i : ℕ) (h : longestMatch path (decode referral
   best : LongestAt path (decode referrals raw) i
   best = longest-found path (decode referrals raw) i h
 
-  pub longest-fits : i < length raw / 2336
+  pub longest-fits : i < placeCount raw
   longest-fits = used-fits referrals raw i (best .entry) (best .found .here)
 
   pub longest-held : longest path (decode referrals raw) ≡ some (entryAt referrals i raw)

@@ -3,7 +3,7 @@ use mathlib.Core.Path.{_≡_, refl, sym, ap, _∙_}
 use mathlib.Core.Bool.{Bool, true, false, _&&_}
 use mathlib.Core.List.{List, []}
 use mathlib.Core.Logic.{_⊎_, inl, inr}
-use Prim.Native.Nat.{ℕ, zero, suc, _+_, _-_, _/_, _≤_, _<_}
+use Prim.Native.Nat.{ℕ, zero, suc, _+_, _-_, _≤_, _<_}
 use native.Mathlib.Omega.{arith}
 use lib.ListN.{length, getD, take, drop, length-take}
 use lib.Seq.{length-take-le}
@@ -19,7 +19,7 @@ use Rattle.caches.proofs.KindLaws.{prefix-some}
 use Rattle.unc.proofs.PieceLaws.{spans, first-over}
 use Rattle.unc.proofs.SpanLaws.{span-start, span-some}
 use Rattle.laws.specs.Lists.{part}
-use Rattle.places.specs.Layout.{textAt, roomAt}
+use Rattle.places.specs.Layout.{placeCount, textAt, roomAt}
 use Rattle.caches.specs.Memory.{referrals, domains, decode, referralOf}
 use Rattle.lookup.specs.Lookup.{longestMatch, withKey, entryAt, expired}
 use Rattle.lookup.specs.declared.Found.{Found}
@@ -69,7 +69,7 @@ module _ (path raw : List ℕ) {f : Found} (e : f ≡ withKey referrals (firstOf
   step9-none h = sym (ap (step9At raw) (sym e ∙ h))
 
   module _ (i : ℕ) (h : f ≡ At i) where
-    pub step9-fits : i < length raw / 2336
+    pub step9-fits : i < placeCount raw
     step9-fits = key-fits referrals (firstOf 2 path) raw i (sym e ∙ h)
 
     pub step9-root : {r : Bool} → r ≡ entryAt referrals i raw .root → r ≡ true → Refresh i ≡ step9In path raw
@@ -87,7 +87,7 @@ module _ (clock : ℕ) (path raw : List ℕ) {f : Found} (e : f ≡ longestMatch
   step2-none h = sym (ap (step2At clock path raw) (sym e ∙ h))
 
   module _ (i : ℕ) (h : f ≡ At i) where
-    pub step2-fits : i < length raw / 2336
+    pub step2-fits : i < placeCount raw
     step2-fits = longest-fits path raw i (sym e ∙ h)
 
     pub step2-fresh : {r : Bool} → r ≡ expired clock (entryAt referrals i raw) → r ≡ false → Fresh i ≡ step2In clock path raw

@@ -2,9 +2,10 @@
 ghost use mathlib.Core.Path.{_≡_};
 ghost use mathlib.Core.Bool.{true, false};
 ghost use mathlib.Core.List.{[]};
-ghost use Prim.Native.Nat.{_/_, _≤_, _<_};
+ghost use Prim.Native.Nat.{_≤_, _<_};
 ghost use lib.ListN.{length, getD};
 ghost use Rattle.unc.specs.Paths.{components};
+ghost use Rattle.places.specs.Layout.{placeCount};
 ghost use Rattle.caches.specs.Order.{goodPrefix};
 ghost use Rattle.caches.specs.Memory.{referrals, domains, decode};
 ghost use Rattle.lookup.specs.Lookup.{entryAt};
@@ -128,7 +129,7 @@ pub fn step2(refs: &[u16], path: &[u16], clock: u32) -> Matched
 
 // Step 9's question: a link request to the target hinted at.
 pub fn ask_link(refs: &[u16], path: &[u16], i: usize, left: u16, size: u32) -> Rested
-    requires { ⌜ (i < length (now refs) / 2336) × (length (now path) ≤ 256) ⌝ }
+    requires { ⌜ (i < placeCount (now refs)) × (length (now path) ≤ 256) ⌝ }
     ensures { λ r. ⌜ r ≡ restedOf (asking left (coreOf (now (path .entry)) size true) (linkRequest (coreOf (now (path .entry)) size true) (length (entryAt referrals i (now (refs .entry)) .prefix)) (entryAt referrals i (now (refs .entry)) .hint) (entryAt referrals i (now (refs .entry)) .hint) false)) ⌝ }
 {
     let n = lookup::prefix(refs, i).len();
@@ -162,7 +163,7 @@ fn domain_asking(kind: Kind, path: &[u16], party: u16, size: u32) -> Asking
 
 // Step 5.2.
 fn ask_domain(doms: &[u16], path: &[u16], i: usize, left: u16, hit: bool, size: u32) -> Rested
-    requires { ⌜ (i < length (now doms) / 2336) × (length (now path) ≤ 256) ⌝ }
+    requires { ⌜ (i < placeCount (now doms)) × (length (now path) ≤ 256) ⌝ }
     ensures { λ r. ⌜ r ≡ restedOf (asking left (coreOf (now (path .entry)) size hit) (step5Domain (coreOf (now (path .entry)) size hit) (entryAt domains i (now (doms .entry))))) ⌝ }
 {
     if lookup::dc_count(doms, i) == 0 {
@@ -220,7 +221,7 @@ pub fn step5(doms: &[u16], path: &[u16], left: u16, hit: bool, size: u32) -> Res
 
 // Whether the entry at place i leads to step 11.
 pub fn turns(refs: &[u16], path: &[u16], i: usize) -> bool
-    requires { ⌜ i < length (now refs) / 2336 ⌝ }
+    requires { ⌜ i < placeCount (now refs) ⌝ }
     ensures { λ r. ⌜ r ≡ turning (now (path .entry)) (entryAt referrals i (now (refs .entry))) ⌝ }
 {
     if lookup::is_root(refs, i) {

@@ -3,7 +3,7 @@ use mathlib.Core.Path.{_≡_, refl, sym, ap, _∙_, subst}
 use mathlib.Core.Bool.{Bool, true, false}
 use mathlib.Core.List.{List}
 use mathlib.Core.Option.{Option, none, some}
-use Prim.Native.Nat.{ℕ, _/_, _≤_, _<_}
+use Prim.Native.Nat.{ℕ, _≤_, _<_}
 use lib.ListN.{length, getD, take, set}
 use lib.Seq.{getD-set-same}
 use Rattle.laws.specs.Lists.{every}
@@ -12,7 +12,7 @@ use Rattle.laws.proofs.Listed.{every-set}
 use Rattle.unc.specs.Names.{sameName}
 use Rattle.unc.specs.Paths.{matches}
 use Rattle.spans.specs.Spans.{spanned}
-use Rattle.places.specs.Layout.{placeAt, changed}
+use Rattle.places.specs.Layout.{placeCount, placeAt, changed}
 use Rattle.caches.specs.Entries.{Referral, Place, free, used}
 use Rattle.caches.specs.Order.{goodReferral}
 use Rattle.caches.specs.Memory.{referrals, domains, decode, encode, inOrder, goodPlace}
@@ -89,12 +89,12 @@ module _ (refs : List ℕ) (order : inOrder referrals refs ≡ true) (reply : Li
           (refreshed-stored (entryAt referrals i refs) reply f s interlink clock path (held-there refs order (spanned reply (f .prefix)) i h .good)
           (matches-same (entryAt referrals i refs .prefix) (spanned reply (f .prefix)) path (ap (λ (x : Referral). sameName (x .prefix) (spanned reply (f .prefix))) e ∙ k .same) m))
 
-  place-fits : storePlace clock (spanned reply (f .prefix)) (decode referrals refs) < length refs / 2336
+  place-fits : storePlace clock (spanned reply (f .prefix)) (decode referrals refs) < placeCount refs
   place-fits = go (withKey referrals (spanned reply (f .prefix)) (decode referrals refs)) refl
     where
-      go : (g : Found) → withKey referrals (spanned reply (f .prefix)) (decode referrals refs) ≡ g → storePlace clock (spanned reply (f .prefix)) (decode referrals refs) < length refs / 2336
-      go Nothing h = subst (λ (n : ℕ). n < length refs / 2336) (place-new clock (spanned reply (f .prefix)) (decode referrals refs) refl h refl) (new-fits refs order clock refl)
-      go (At i) h = subst (λ (n : ℕ). n < length refs / 2336) (place-found clock (spanned reply (f .prefix)) (decode referrals refs) refl h) (key-fits referrals (spanned reply (f .prefix)) refs i h)
+      go : (g : Found) → withKey referrals (spanned reply (f .prefix)) (decode referrals refs) ≡ g → storePlace clock (spanned reply (f .prefix)) (decode referrals refs) < placeCount refs
+      go Nothing h = subst (λ (n : ℕ). n < placeCount refs) (place-new clock (spanned reply (f .prefix)) (decode referrals refs) refl h refl) (new-fits refs order clock refl)
+      go (At i) h = subst (λ (n : ℕ). n < placeCount refs) (place-found clock (spanned reply (f .prefix)) (decode referrals refs) refl h) (key-fits referrals (spanned reply (f .prefix)) refs i h)
 
   -- the cache that the store leaves
   module _ (place : ℕ) (p : place ≡ storePlace clock (spanned reply (f .prefix)) (decode referrals refs)) {more : List ℕ}
@@ -105,8 +105,8 @@ module _ (refs : List ℕ) (order : inOrder referrals refs ≡ true) (reply : Li
     is-set =
         ap (λ (n : ℕ). set (decode referrals refs) n (used (storedEntry (prefixed (spanned reply (f .prefix)) (decode referrals refs)) (referralShown reply f) interlink clock))) (sym p)
 
-    pub place-inside : place < length refs / 2336
-    place-inside = subst (λ (n : ℕ). n < length refs / 2336) (sym p) place-fits
+    pub place-inside : place < placeCount refs
+    place-inside = subst (λ (n : ℕ). n < placeCount refs) (sym p) place-fits
 
     all-good : every (goodPlace referrals) (set (decode referrals refs) place (used (storedEntry (prefixed (spanned reply (f .prefix)) (decode referrals refs)) (referralShown reply f) interlink clock))) ≡ true
     unfolding goodPlace
@@ -127,7 +127,7 @@ module _ (refs : List ℕ) (order : inOrder referrals refs ≡ true) (reply : Li
     entry-there : entryAt referrals place more ≡ storedEntry (prefixed (spanned reply (f .prefix)) (decode referrals refs)) (referralShown reply f) interlink clock
     entry-there = used-is referrals more place _ here
 
-    pub more-fits : place < length more / 2336
+    pub more-fits : place < placeCount more
     more-fits = used-fits referrals more place _ here
 
     pub more-usable : Usable more path place

@@ -3,7 +3,7 @@ use mathlib.Core.Path.{_≡_, refl, sym, ap, _∙_}
 use mathlib.Core.Bool.{Bool, true, false}
 use mathlib.Core.List.{List, [], _∷_, map}
 use mathlib.Core.Logic.{_⊎_, inl, inr}
-use Prim.Native.Nat.{ℕ, suc, _+_, _/_, _≤_, _<_}
+use Prim.Native.Nat.{ℕ, suc, _+_, _≤_, _<_}
 use native.Mathlib.Omega.{arith}
 use lib.ListN.{length, take, replicate, length-replicate}
 use Rattle.laws.specs.Choice.{choose}
@@ -11,7 +11,7 @@ use Rattle.laws.specs.Lists.{pasted}
 use Rattle.laws.proofs.Choices.{choose-yes, choose-no}
 use Rattle.laws.proofs.Orders.{told}
 use Rattle.unc.specs.Names.{sameName}
-use Rattle.places.specs.Layout.{placeAt, changed, putUnit, putSettings, keyOnly}
+use Rattle.places.specs.Layout.{placeCount, placeAt, changed, putUnit, putSettings, keyOnly}
 use Rattle.places.proofs.LayoutLaws.{place-changed, length-changed}
 use Rattle.caches.specs.Entries.{Target, Referral}
 use Rattle.caches.specs.Order.{goodReferral}
@@ -55,11 +55,11 @@ back-within failback ts h k = go _
         either (inr e) = rw (choose-no 0 h e) k
 
 -- a place that holds an entry, and then its hint
-module _ (raw : List ℕ) (i : ℕ) (fits : i < length raw / 2336) (e : Referral) (good : goodReferral e ≡ true) (m : List ℕ) (h : m ≡ changed i (λ q. referralUnits e) raw) where
+module _ (raw : List ℕ) (i : ℕ) (fits : i < placeCount raw) (e : Referral) (good : goodReferral e ≡ true) (m : List ℕ) (h : m ≡ changed i (λ q. referralUnits e) raw) where
   long : length (referralUnits e) ≡ 2336
   long = referrals-lawful .long e good
 
-  pub held-fits : i < length m / 2336
+  pub held-fits : i < placeCount m
   held-fits = let l : length (changed i (λ q. referralUnits e) raw) ≡ length raw = length-changed raw i fits (λ q. referralUnits e) long in rw (h, l) fits
 
   pub held-entry : entryAt referrals i m ≡ e
@@ -139,7 +139,7 @@ module _ (raw : List ℕ) (i : ℕ) (place : HeldEntry i raw) (r : List ℕ) (f 
     good-held : goodReferral (based (entryAt referrals i raw) (referralShown r f) interlink clock (entryAt referrals i raw .targets) (entryAt referrals i raw .hint)) ≡ true
     good-held = held-good (entryAt referrals i raw) (referralShown r f) interlink clock (place .good)
 
-    pub held-ready : (i < length m / 2336) × (hint < length (entryAt referrals i m .targets))
+    pub held-ready : (i < placeCount m) × (hint < length (entryAt referrals i m .targets))
     held-ready =
         let g = referral-told (entryAt referrals i raw) (place .good) in
         let k : hint < length (entryAt referrals i raw .targets) = rw h (first-within (hinted (entryAt referrals i raw)) (entryAt referrals i raw .targets) (g .some)) in (
@@ -176,7 +176,7 @@ module _ (raw : List ℕ) (i : ℕ) (place : HeldEntry i raw) (r : List ℕ) (f 
 
     module _ (k l m : List ℕ) (a : k ≡ changed i keyOnly raw) (b : l ≡ changed i (addAll addTarget 0 (map (heldTarget r) (take (f .targets) (f .kept)))) k) (c : m ≡ changed i (putSettings (settings (f .root) interlink (f .failback) (f .ttl) clock)) l) (hint : ℕ)
         (h : hint ≡ firstEqual 0 (hinted (entryAt referrals i raw)) (map (heldTarget r) (take (f .targets) (f .kept)))) where
-      pub given-ready : (i < length m / 2336) × (hint < length (entryAt referrals i m .targets))
+      pub given-ready : (i < placeCount m) × (hint < length (entryAt referrals i m .targets))
       unfolding fresh
       given-ready =
           let g = referral-told (fresh (referralShown r f) false 0) (s .good) in

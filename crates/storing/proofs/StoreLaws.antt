@@ -2,10 +2,10 @@
 use mathlib.Core.Path.{_≡_, refl, sym, ap, _∙_}
 use mathlib.Core.Bool.{Bool, true, false}
 use mathlib.Core.List.{List, [], _∷_, map}
-use Prim.Native.Nat.{ℕ, _+_, _/_, _≤_, _<_}
+use Prim.Native.Nat.{ℕ, _+_, _≤_, _<_}
 use native.Mathlib.Omega.{arith}
 use lib.ListN.{length, take, length-map, length-take}
-use Rattle.places.specs.Layout.{placeAt, changed, putSettings}
+use Rattle.places.specs.Layout.{placeCount, placeAt, changed, putSettings}
 use Rattle.spans.specs.Spans.{spanned}
 use Rattle.spans.proofs.UnitLaws.{length-spanned}
 use Rattle.caches.specs.Entries.{Target}
@@ -66,7 +66,7 @@ new-entry r f s interlink clock p =
     (map (heldTarget r) (take (f .targets) (f .kept))) (sym (targets-in r f)) p
 
 -- a new entry, written in three steps
-module _ (raw : List ℕ) (i : ℕ) (fits : i < length raw / 2336) (r : List ℕ) (f : ReferralFound) (s : Storable r f) (interlink : Bool) (clock : ℕ) where
+module _ (raw : List ℕ) (i : ℕ) (fits : i < placeCount raw) (r : List ℕ) (f : ReferralFound) (s : Storable r f) (interlink : Bool) (clock : ℕ) where
   pub keeps-kept : Keeps (addAll addTarget 0 (map (heldTarget r) (take (f .targets) (f .kept))))
   keeps-kept =
       keeps-all addTarget short keeps-target 0 (map (heldTarget r) (take (f .targets) (f .kept)))

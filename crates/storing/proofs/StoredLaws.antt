@@ -4,13 +4,13 @@ use mathlib.Core.Bool.{Bool, true, false}
 use mathlib.Core.List.{List, [], _∷_}
 use mathlib.Core.Logic.{_⊎_, inl, inr}
 use mathlib.Core.Option.{some}
-use Prim.Native.Nat.{ℕ, _+_, _*_, _/_, _<_}
+use Prim.Native.Nat.{ℕ, _+_, _*_, _<_}
 use lib.ListN.{length, getD, take, set}
 use lib.Dec.{leb}
 use Rattle.laws.specs.Lists.{every}
 use Rattle.laws.proofs.Choices.{and-left, and-right, and-both}
 use Rattle.laws.proofs.Orders.{told}
-use Rattle.places.specs.Layout.{changed}
+use Rattle.places.specs.Layout.{placeCount, changed}
 use Rattle.spans.specs.Spans.{spanned}
 use Rattle.caches.specs.Entries.{Referral, Place, free, used}
 use Rattle.caches.specs.Order.{goodReferral}
@@ -86,14 +86,14 @@ module _ (raw : List ℕ) (order : inOrder referrals raw ≡ true) where
   pub places-some : 0 < length (decode referrals raw)
   places-some = cache-told referrals (decode referrals raw) (order-good referrals raw order) .least
 
-  pub new-fits : {n : ℕ} (clock : ℕ) → n ≡ newPlace clock (decode referrals raw) → n < length raw / 2336
+  pub new-fits : {n : ℕ} (clock : ℕ) → n ≡ newPlace clock (decode referrals raw) → n < placeCount raw
   new-fits clock e = rw (e, ← length-decode referrals raw) (new-inside clock (decode referrals raw) places-some)
 
   module _ (prefix : List ℕ) (i : ℕ) (h : withKey referrals prefix (decode referrals raw) ≡ At i) where
     at : KeyAt referrals prefix (decode referrals raw) i
     at = key-found referrals prefix (decode referrals raw) i h
 
-    fits : i < length raw / 2336
+    fits : i < placeCount raw
     fits = rw (← length-decode referrals raw) (used-inside (decode referrals raw) i (at .entry) (at .here))
 
     entry-here : entryAt referrals i raw ≡ at .entry
@@ -137,7 +137,7 @@ module _ (raw : List ℕ) (order : inOrder referrals raw ≡ true) where
       (used (storedEntry (held (sym (sym a ∙ b) j) (decode referrals raw)) (referralShown r f) interlink clock)))))
 
 -- an entry written into a place of a cache in order
-place-holds : (raw : List ℕ) → inOrder referrals raw ≡ true → (i : ℕ) → i < length raw / 2336 → (e : Referral) → goodReferral e ≡ true
+place-holds : (raw : List ℕ) → inOrder referrals raw ≡ true → (i : ℕ) → i < placeCount raw → (e : Referral) → goodReferral e ≡ true
     → changed i (λ q. referralUnits e) raw ≡ encode referrals (set (decode referrals raw) i (used e))
 unfolding pieceOf goodPlace
 place-holds raw order i u e g = changed-encode referrals referrals-lawful raw i (used e) order g u

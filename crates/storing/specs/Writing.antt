@@ -1,11 +1,11 @@
 -- What is known of a reply and of a place where an entry is written.
-use Prim.Native.Nat.{ℕ, _/_, _≤_, _<_}
+use Prim.Native.Nat.{ℕ, _≤_, _<_}
 use mathlib.Core.Path.{_≡_}
 use mathlib.Core.Bool.{Bool, true, false}
 use mathlib.Core.List.{List}
-use lib.ListN.{length, take}
+use lib.ListN.{take}
 use Rattle.laws.specs.Lists.{every}
-use Rattle.places.specs.Layout.{placeAt, changed}
+use Rattle.places.specs.Layout.{placeCount, placeAt, changed}
 use Rattle.spans.specs.Spans.{Inside}
 use Rattle.caches.specs.Order.{goodReferral}
 use Rattle.caches.specs.Memory.{referrals, referralUnits}
@@ -25,7 +25,7 @@ pub record Storable (r : List ℕ) (f : ReferralFound) : Type 0 where
 
 -- place i holds a good referral entry, and exactly it
 pub record HeldEntry (i : ℕ) (raw : List ℕ) : Type 0 where
-  pub fits : i < length raw / 2336
+  pub fits : i < placeCount raw
   pub good : goodReferral (entryAt referrals i raw) ≡ true
   pub units : placeAt i raw ≡ referralUnits (entryAt referrals i raw)
 

@@ -6,7 +6,7 @@ ghost use Prim.Native.Nat.{_/_, _≤_, _<_};
 ghost use lib.ListN.{length, take};
 ghost use Rattle.laws.specs.Lists.{every};
 ghost use Rattle.spans.specs.Spans.{spanned, Inside};
-ghost use Rattle.places.specs.Layout.{changed, placeAt, putUnit, putSettings};
+ghost use Rattle.places.specs.Layout.{placeCount, changed, placeAt, putUnit, putSettings};
 ghost use Rattle.caches.specs.Memory.{referrals, decode};
 ghost use Rattle.lookup.specs.Keys.{keyIs};
 ghost use Rattle.lookup.specs.Lookup.{entryAt, withKey};
@@ -20,7 +20,7 @@ use spans::Span;
 
 // Whether place i is used and its prefix is an equal name.
 fn prefix_is(cache: &[u16], i: usize, reply: &[u8], s: Span) -> bool
-    requires { ⌜ (i < length (now cache) / 2336) × Inside (now reply) s ⌝ }
+    requires { ⌜ (i < placeCount (now cache)) × Inside (now reply) s ⌝ }
     ensures { λ r. ⌜ r ≡ keyIs (spanned (now (reply .entry)) s) (placeAt i (now (cache .entry))) ⌝ }
 {
     if places::unit(cache, i, 0) == 0 {
@@ -47,7 +47,7 @@ pub fn find_prefix(cache: &[u16], reply: &[u8], s: Span) -> Found
 
 // The first target of the entry at place i that is equal to the one hinted at.
 pub fn held_place(cache: &[u16], i: usize) -> usize
-    requires { ⌜ (i < length (now cache) / 2336) × (entryAt referrals i (now cache) .hint < length (entryAt referrals i (now cache) .targets)) ⌝ }
+    requires { ⌜ (i < placeCount (now cache)) × (entryAt referrals i (now cache) .hint < length (entryAt referrals i (now cache) .targets)) ⌝ }
     ensures { λ r. ⌜ r ≡ firstEqual 0 (hinted (entryAt referrals i (now (cache .entry)))) (entryAt referrals i (now (cache .entry)) .targets) ⌝ }
 {
     let count = lookup::target_count(cache, i);
@@ -65,7 +65,7 @@ pub fn held_place(cache: &[u16], i: usize) -> usize
 
 // The first target of the reply that is equal to the one that the entry at place i hints at; 0 where there is none.
 pub fn given_place(cache: &[u16], i: usize, reply: &[u8], kept: [Kept; 8], count: usize) -> usize
-    requires { ⌜ (i < length (now cache) / 2336) × ((entryAt referrals i (now cache) .hint < length (entryAt referrals i (now cache) .targets)) × ((count ≤ 8) × (every (keptFits (now reply)) (take count kept) ≡ true))) ⌝ }
+    requires { ⌜ (i < placeCount (now cache)) × ((entryAt referrals i (now cache) .hint < length (entryAt referrals i (now cache) .targets)) × ((count ≤ 8) × (every (keptFits (now reply)) (take count kept) ≡ true))) ⌝ }
     ensures { λ r. ⌜ r ≡ firstEqual 0 (hinted (entryAt referrals i (now (cache .entry)))) (map (heldTarget (now (reply .entry))) (take count kept)) ⌝ }
 {
     let hint = lookup::target_hint(cache, i) as usize;
@@ -83,7 +83,7 @@ pub fn given_place(cache: &[u16], i: usize, reply: &[u8], kept: [Kept; 8], count
 
 // Whether target `hint` of the entry at place i is in its first target set.
 fn in_first_set(cache: &[u16], i: usize, hint: usize) -> bool
-    requires { ⌜ (i < length (now cache) / 2336) × (hint < length (entryAt referrals i (now cache) .targets)) ⌝ }
+    requires { ⌜ (i < placeCount (now cache)) × (hint < length (entryAt referrals i (now cache) .targets)) ⌝ }
     ensures { λ r. ⌜ r ≡ inFirstSet hint (entryAt referrals i (now (cache .entry)) .targets) ⌝ }
 {
     let mut k = 0;
@@ -98,7 +98,7 @@ fn in_first_set(cache: &[u16], i: usize, hint: usize) -> bool
 
 // The hint of place i: target `hint`, or by failback the first where that is not in the first set.
 pub fn put_hint(cache: &mut [u16], i: usize, hint: usize, failback: bool)
-    requires { ⌜ (i < length (now cache) / 2336) × (hint < length (entryAt referrals i (now cache) .targets)) ⌝ }
+    requires { ⌜ (i < placeCount (now cache)) × (hint < length (entryAt referrals i (now cache) .targets)) ⌝ }
     ensures { λ r. ⌜ now (cache .exit) ≡ changed i (putUnit 10 (failedBack failback (entryAt referrals i (now (cache .entry)) .targets) hint)) (now (cache .entry)) ⌝ }
 {
     if !failback {
@@ -114,7 +114,7 @@ pub fn put_hint(cache: &mut [u16], i: usize, hint: usize, failback: bool)
 
 // The settings of the reply, and the time taken, into place i.
 pub fn settle(cache: &mut [u16], i: usize, found: ReferralFound, interlink: bool, clock: u32)
-    requires { ⌜ i < length (now cache) / 2336 ⌝ }
+    requires { ⌜ i < placeCount (now cache) ⌝ }
     ensures { λ r. ⌜ now (cache .exit) ≡ changed i (putSettings (settings (found .root) interlink (found .failback) (found .ttl) clock)) (now (cache .entry)) ⌝ }
 {
     entries::put_settings(

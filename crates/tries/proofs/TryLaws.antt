@@ -18,6 +18,7 @@ use Rattle.laws.proofs.Tests.{eq-or-ne}
 use Rattle.unc.specs.Paths.{matches}
 use Rattle.texts.specs.Texts.{textsOf, Standing}
 use Rattle.texts.proofs.TextLaws.{path-in, tried-put}
+use Rattle.places.specs.Layout.{placeCount}
 use Rattle.caches.specs.Entries.{Referral}
 use Rattle.caches.specs.Order.{goodReferral}
 use Rattle.caches.specs.Memory.{referrals, domains, decode, encode, inOrder}
@@ -107,7 +108,7 @@ module _ (prefix raw : List ℕ) (party began : ℕ) where
 
 -- the entry in use
 module _ {prefix refs : List ℕ} {party began i : ℕ} (u : InUse prefix refs party began i) where
-  use-fits : i < length refs / 2336
+  use-fits : i < placeCount refs
   use-fits = key-fits referrals prefix refs i (u .found)
 
   use-party : party < length (entryAt referrals i refs .targets)
@@ -226,7 +227,7 @@ module _ {refs rooms : List ℕ} {len tried : ℕ} {q : Asking} (k : Trying refs
       in-use : InUse (take (q .entry) (take len rooms)) refs (q .party) (q .began) i
       in-use = use-told _ refs _ _ i (place-is h)
 
-      pub done-fits : i < length refs / 2336
+      pub done-fits : i < placeCount refs
       done-fits = use-fits in-use
 
       pub done-party : q .party < length (entryAt referrals i refs .targets)

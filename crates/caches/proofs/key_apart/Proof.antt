@@ -1,19 +1,19 @@
 -- Compares a key with those of later places. The invariant: the places from j on decide.
-use Prim.Native.Nat.{_-_, _/_, _≤_}
-use lib.ListN.{length}
+use Prim.Native.Nat.{_-_, _≤_}
 use mathlib.Core.Path.{_≡_, sym, _∙_}
 use native.Mathlib.Omega.{arith}
 use borrow.Author.Needs.{needs}
+use Rattle.places.specs.Layout.{placeCount}
 use Rattle.caches.specs.Tests.{keyApart}
 use Rattle.caches.proofs.TestLaws.{freshFrom, fresh-free, fresh-start, fresh-more, fresh-stop, fresh-end}
 use Rattle.caches.proofs.key_apart.Statement.{statement}
 use Rattle.caches.proofs.key_apart.Tie as tie
 
 abbrev Inv-loop : tie.InvT-loop
-Inv-loop cache i count key j₀ j = (j ≤ length cache / 2336) × (keyApart cache i ≡ freshFrom cache i j)
+Inv-loop cache i count key j₀ j = (j ≤ placeCount cache) × (keyApart cache i ≡ freshFrom cache i j)
 
 abbrev μ-loop : tie.MeasureT-loop
-μ-loop cache i count key j₀ j = length cache / 2336 - j
+μ-loop cache i count key j₀ j = placeCount cache - j
 
 unit-requires : tie.Need-unit-requires Inv-loop μ-loop
 unit-requires c κs = search needs

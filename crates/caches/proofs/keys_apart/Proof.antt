@@ -1,20 +1,20 @@
 -- Tests that no two keys are equal. The invariant: the places from i on decide.
-use Prim.Native.Nat.{_-_, _/_, _≤_}
-use lib.ListN.{length}
+use Prim.Native.Nat.{_-_, _≤_}
 use borrow.Author.Tests.{not-true, not-false}
 use mathlib.Core.Path.{_≡_, sym, _∙_}
 use native.Mathlib.Omega.{arith}
 use borrow.Author.Needs.{needs}
+use Rattle.places.specs.Layout.{placeCount}
 use Rattle.caches.specs.Tests.{keysApart}
 use Rattle.caches.proofs.TestLaws.{apartFrom, apart-start, apart-more, apart-stop, apart-end}
 use Rattle.caches.proofs.keys_apart.Statement.{statement}
 use Rattle.caches.proofs.keys_apart.Tie as tie
 
 abbrev Inv-loop : tie.InvT-loop
-Inv-loop cache count i₀ i = (i ≤ length cache / 2336) × (keysApart cache ≡ apartFrom cache i)
+Inv-loop cache count i₀ i = (i ≤ placeCount cache) × (keysApart cache ≡ apartFrom cache i)
 
 abbrev μ-loop : tie.MeasureT-loop
-μ-loop cache count i₀ i = length cache / 2336 - i
+μ-loop cache count i₀ i = placeCount cache - i
 
 loop-holds : tie.Need-loop-holds Inv-loop μ-loop
 loop-holds c = (search needs, apart-start _)

@@ -1,20 +1,20 @@
 -- The order of every place. The invariant: the places from i on decide.
-use Prim.Native.Nat.{_-_, _/_, _≤_}
-use lib.ListN.{length}
+use Prim.Native.Nat.{_-_, _≤_}
 use borrow.Author.Tests.{not-true, not-false}
 use mathlib.Core.Path.{_≡_, sym, _∙_}
 use native.Mathlib.Omega.{arith}
 use borrow.Author.Needs.{needs}
+use Rattle.places.specs.Layout.{placeCount}
 use Rattle.caches.specs.Tests.{allOrdered}
 use Rattle.caches.proofs.TestLaws.{orderedFrom, ordered-start, ordered-more, ordered-stop, ordered-end}
 use Rattle.caches.proofs.places_ordered.Statement.{statement}
 use Rattle.caches.proofs.places_ordered.Tie as tie
 
 abbrev Inv-loop : tie.InvT-loop
-Inv-loop cache domain count i₀ i = (i ≤ length cache / 2336) × (allOrdered domain cache ≡ orderedFrom domain cache i)
+Inv-loop cache domain count i₀ i = (i ≤ placeCount cache) × (allOrdered domain cache ≡ orderedFrom domain cache i)
 
 abbrev μ-loop : tie.MeasureT-loop
-μ-loop cache domain count i₀ i = length cache / 2336 - i
+μ-loop cache domain count i₀ i = placeCount cache - i
 
 loop-holds : tie.Need-loop-holds Inv-loop μ-loop
 loop-holds c = (search needs, ordered-start _ _)

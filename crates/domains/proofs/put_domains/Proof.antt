@@ -14,6 +14,7 @@ use Rattle.domains.specs.Domains.{goodNameSpan}
 use Rattle.domains.proofs.DcLaws.{fits-room, all-good}
 use Rattle.domains.proofs.NamesLaws.{all-free, name-put, names-put}
 use borrow.Author.Needs.{needs}
+use Rattle.places.specs.Layout.{placeCount}
 use Rattle.domains.proofs.put_domains.Statement.{statement}
 use Rattle.domains.proofs.put_domains.Tie as tie
 
@@ -63,7 +64,7 @@ loop-again c =
       omega arith,
       (
         omega arith,
-        name-put (length (now (s .args .cache)) / 2336) i (map (spanned (now (s .args .reply))) (take (s .args .count) (s .args .t3)))
+        name-put (placeCount (now (s .args .cache))) i (map (spanned (now (s .args .reply))) (take (s .args .count) (s .args .t3)))
             (all-good (now (s .args .reply)) (take (s .args .count) (s .args .t3)) (s .pre .1 .1)) (omega arith) (omega arith) _
             (shown-at (s .args .t3) (s .args .count) i _ (omega arith) (omega arith) (spanned (now (s .args .reply))) _)
             (c .before .before .before .before .before .before .loop .inv .1 .1) (c .before .before .add-text .ensures),
@@ -79,7 +80,7 @@ returns c =
     let l : length (s .args .t3) ≡ 33 = search needs in
     let m = size-told (now (s .args .cache)) (s .pre .0) .most in
     let n = length-shown (spanned (now (s .args .reply))) (s .args .t3) (s .args .count) (omega arith) in
-    names-put (length (now (s .args .cache)) / 2336) (map (spanned (now (s .args .reply))) (take (s .args .count) (s .args .t3))) (c .before .loop .i)
+    names-put (placeCount (now (s .args .cache))) (map (spanned (now (s .args .reply))) (take (s .args .count) (s .args .t3))) (c .before .loop .i)
     (c .before .loop .inv .1 .1) (omega arith)
 
 pub put-domains-spec : {M : Type 1} → statement M

@@ -1,6 +1,6 @@
 -- Finds the longest match. The invariant: the places from i on decide, with the best so far.
-use Prim.Native.Nat.{_-_, _/_, _≤_}
-use lib.ListN.{length, drop}
+use Prim.Native.Nat.{_-_, _≤_}
+use lib.ListN.{drop}
 use mathlib.Core.Logic.{⊎-elim}
 use mathlib.Core.Path.{_≡_, refl, sym, _∙_}
 use native.Mathlib.Omega.{arith}
@@ -10,16 +10,17 @@ use Rattle.lookup.specs.Ends.{bestFound}
 use Rattle.lookup.proofs.FindLaws.{find-hit, find-end}
 use Rattle.lookup.proofs.EndLaws.{find-begin, find-better, find-worse, find-whole}
 use borrow.Author.Needs.{needs}
+use Rattle.places.specs.Layout.{placeCount}
 use Rattle.lookup.proofs.find.Statement.{statement}
 use Rattle.lookup.proofs.find.Tie as tie
 
 abbrev Inv-loop : tie.InvT-loop
 Inv-loop cache path count best₀ units₀ i₀ best units i =
-    (i ≤ length cache / 2336)
+    (i ≤ placeCount cache)
     × (longestMatch path (decode referrals cache) ≡ longestFrom path i (bestFound best units) units (drop i (decode referrals cache)))
 
 abbrev μ-loop : tie.MeasureT-loop
-μ-loop cache path count best₀ units₀ i₀ best units i = length cache / 2336 - i
+μ-loop cache path count best₀ units₀ i₀ best units i = placeCount cache - i
 
 loop-holds : tie.Need-loop-holds Inv-loop μ-loop
 loop-holds c = (search needs, find-begin _ _)

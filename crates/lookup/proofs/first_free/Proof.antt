@@ -1,9 +1,10 @@
 -- Finds the lowest free place. The invariant: the places from i on decide.
-use Prim.Native.Nat.{_-_, _/_, _≤_}
-use lib.ListN.{length, drop}
+use Prim.Native.Nat.{_-_, _≤_}
+use lib.ListN.{drop}
 use mathlib.Core.Path.{_≡_, refl, sym, _∙_}
 use native.Mathlib.Omega.{arith}
 use borrow.Author.Needs.{needs}
+use Rattle.places.specs.Layout.{placeCount}
 use Rattle.caches.specs.Memory.{referrals, decode}
 use Rattle.lookup.specs.Lookup.{firstFreeFrom}
 use Rattle.lookup.proofs.AgeLaws.{free-hit, free-miss, free-end}
@@ -12,10 +13,10 @@ use Rattle.lookup.proofs.first_free.Tie as tie
 
 abbrev Inv-loop : tie.InvT-loop
 Inv-loop cache count i₀ i =
-    (i ≤ length cache / 2336) × (firstFreeFrom 0 (decode referrals cache) ≡ firstFreeFrom i (drop i (decode referrals cache)))
+    (i ≤ placeCount cache) × (firstFreeFrom 0 (decode referrals cache) ≡ firstFreeFrom i (drop i (decode referrals cache)))
 
 abbrev μ-loop : tie.MeasureT-loop
-μ-loop cache count i₀ i = length cache / 2336 - i
+μ-loop cache count i₀ i = placeCount cache - i
 
 loop-holds : tie.Need-loop-holds Inv-loop μ-loop
 loop-holds c = (search needs, refl)

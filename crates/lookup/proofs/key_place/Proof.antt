@@ -1,19 +1,19 @@
 -- Finds the place with an equal key. The invariant: the places from i on decide.
-use Prim.Native.Nat.{_-_, _/_, _≤_}
-use lib.ListN.{length}
+use Prim.Native.Nat.{_-_, _≤_}
 use mathlib.Core.Path.{_≡_, sym, _∙_}
 use native.Mathlib.Omega.{arith}
 use borrow.Author.Needs.{needs}
+use Rattle.places.specs.Layout.{placeCount}
 use Rattle.lookup.specs.Keys.{keyPlace}
 use Rattle.lookup.proofs.FindLaws.{keyFrom, key-start, key-hit, key-miss, key-end}
 use Rattle.lookup.proofs.key_place.Statement.{statement}
 use Rattle.lookup.proofs.key_place.Tie as tie
 
 abbrev Inv-loop : tie.InvT-loop
-Inv-loop cache name count i₀ i = (i ≤ length cache / 2336) × (keyPlace name cache ≡ keyFrom name cache i)
+Inv-loop cache name count i₀ i = (i ≤ placeCount cache) × (keyPlace name cache ≡ keyFrom name cache i)
 
 abbrev μ-loop : tie.MeasureT-loop
-μ-loop cache name count i₀ i = length cache / 2336 - i
+μ-loop cache name count i₀ i = placeCount cache - i
 
 loop-holds : tie.Need-loop-holds Inv-loop μ-loop
 loop-holds c = (search needs, key-start _ _)

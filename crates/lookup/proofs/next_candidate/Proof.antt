@@ -1,25 +1,25 @@
 -- Passes over places, a turn at a time and then one by one. The invariant of both loops: none from `from` up to i matches.
-use Prim.Native.Nat.{_-_, _/_, _≤_}
-use lib.ListN.{length}
+use Prim.Native.Nat.{_-_, _≤_}
 use mathlib.Core.Path.{refl}
 use native.Mathlib.Omega.{arith}
 use Rattle.lookup.specs.Ends.{Passed}
 use Rattle.lookup.proofs.EndLaws.{passed-none, passed-on, passed-one}
 use borrow.Author.Needs.{needs}
+use Rattle.places.specs.Layout.{placeCount}
 use Rattle.lookup.proofs.next_candidate.Statement.{statement}
 use Rattle.lookup.proofs.next_candidate.Tie as tie
 
 abbrev Inv-loop : tie.InvT-loop
-Inv-loop cache from path count i₀ i = (from ≤ i) × ((i ≤ length cache / 2336) × Passed cache path from i)
+Inv-loop cache from path count i₀ i = (from ≤ i) × ((i ≤ placeCount cache) × Passed cache path from i)
 
 abbrev μ-loop : tie.MeasureT-loop
-μ-loop cache from path count i₀ i = length cache / 2336 - i
+μ-loop cache from path count i₀ i = placeCount cache - i
 
 abbrev Inv-loop2 : tie.InvT-loop2
-Inv-loop2 cache from path count i₀ i = (from ≤ i) × ((i ≤ length cache / 2336) × Passed cache path from i)
+Inv-loop2 cache from path count i₀ i = (from ≤ i) × ((i ≤ placeCount cache) × Passed cache path from i)
 
 abbrev μ-loop2 : tie.MeasureT-loop2
-μ-loop2 cache from path count i₀ i = length cache / 2336 - i
+μ-loop2 cache from path count i₀ i = placeCount cache - i
 
 returns : tie.Need-returns Inv-loop μ-loop Inv-loop2 μ-loop2
 returns c = (search needs, (search needs, passed-none _ _ refl))

@@ -1,10 +1,11 @@
 -- Finds the lowest place of greatest age. The invariant: the places from i on decide, with the oldest so far.
-use Prim.Native.Nat.{_-_, _/_, _≤_}
-use lib.ListN.{length, drop}
+use Prim.Native.Nat.{_-_, _≤_}
+use lib.ListN.{drop}
 use mathlib.Core.Logic.{⊎-elim}
 use mathlib.Core.Path.{_≡_, sym, _∙_}
 use native.Mathlib.Omega.{arith}
 use borrow.Author.Needs.{needs}
+use Rattle.places.specs.Layout.{placeCount}
 use Rattle.caches.specs.Memory.{referrals, decode}
 use Rattle.lookup.specs.Lookup.{oldest, oldestFrom}
 use Rattle.lookup.proofs.AgeLaws.{oldest-start, oldest-hit, oldest-miss, oldest-end}
@@ -13,11 +14,11 @@ use Rattle.lookup.proofs.oldest_place.Tie as tie
 
 abbrev Inv-loop : tie.InvT-loop
 Inv-loop cache clock count best₀ most₀ i₀ best most i =
-    (i ≤ length cache / 2336)
+    (i ≤ placeCount cache)
     × (oldest clock (decode referrals cache) ≡ oldestFrom clock i best most (drop i (decode referrals cache)))
 
 abbrev μ-loop : tie.MeasureT-loop
-μ-loop cache clock count best₀ most₀ i₀ best most i = length cache / 2336 - i
+μ-loop cache clock count best₀ most₀ i₀ best most i = placeCount cache - i
 
 loop-holds : tie.Need-loop-holds Inv-loop μ-loop
 loop-holds c = (search needs, oldest-start _ _)

@@ -1,19 +1,19 @@
-use lib.ListN.{length}
-use Prim.Native.Nat.{_≤_, _-_, _/_}
+use Prim.Native.Nat.{_≤_, _-_}
 use mathlib.Core.Path.{_≡_, sym, _∙_}
 use native.Mathlib.Omega.{arith}
 use Rattle.spans.specs.Spans.{spanned}
 use Rattle.lookup.specs.Keys.{keyPlace}
 use Rattle.lookup.proofs.FindLaws.{keyFrom, key-start, key-hit, key-miss, key-end, key-referral}
 use borrow.Author.Needs.{needs}
+use Rattle.places.specs.Layout.{placeCount}
 use Rattle.storing.proofs.find_prefix.Statement.{statement}
 use Rattle.storing.proofs.find_prefix.Tie as tie
 
 abbrev Inv-loop : tie.InvT-loop
-Inv-loop cache reply s count i₀ i = (i ≤ length cache / 2336) × (keyPlace (spanned reply s) cache ≡ keyFrom (spanned reply s) cache i)
+Inv-loop cache reply s count i₀ i = (i ≤ placeCount cache) × (keyPlace (spanned reply s) cache ≡ keyFrom (spanned reply s) cache i)
 
 abbrev μ-loop : tie.MeasureT-loop
-μ-loop cache reply s count i₀ i = length cache / 2336 - i
+μ-loop cache reply s count i₀ i = placeCount cache - i
 
 loop-holds : tie.Need-loop-holds Inv-loop μ-loop
 loop-holds c = (search needs, key-start _ _)

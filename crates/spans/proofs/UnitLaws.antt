@@ -1,6 +1,6 @@
 -- Laws of units, spans and texts in bytes.
 use mathlib.Core.Path.{_≡_, refl, sym, ap, _∙_, subst}
-use mathlib.Core.Bool.{true, false}
+use mathlib.Core.Bool.{Bool, true, false}
 use mathlib.Core.List.{List, [], _∷_}
 use mathlib.Core.Logic.{_⊎_, inl, inr}
 use Prim.Native.Nat.{ℕ, zero, suc, _+_, _-_, _*_, _≤_, _<_}
@@ -16,6 +16,7 @@ use Rattle.laws.proofs.Choices.{choose-yes, choose-no}
 use Rattle.laws.specs.Lists.{pasted, roomed}
 use Rattle.laws.proofs.Orders.{told}
 use Rattle.laws.proofs.Pasting.{pasted-room}
+use Rattle.unc.specs.Names.{sameUnit}
 use Rattle.spans.specs.Bytes.{u16At, unitsAt, Text, terminated, unterminated, longer, text, textAt}
 use Rattle.spans.specs.Spans.{spanned, Inside, partOf, textEnd}
 use Rattle.spans.specs.declared.Span.{Span}
@@ -179,3 +180,8 @@ ended-at r i n h = ended-text r i n (text (drop i r)) (begins (drop i r)) h refl
 
 pub unended-at : (r : List ℕ) (i : ℕ) → Unended ≡ textEnd 0 (textAt r i) → textAt r i ≡ unterminated
 unended-at r i h = unended-text (textAt r i) h
+
+-- a unit of each of two lists, compared
+pub units-told : (s t : List ℕ) (i : ℕ) {x y : ℕ} {r : Bool} → r ≡ sameUnit x y → x ≡ getD s i 0 → y ≡ getD t i 0
+    → r ≡ sameUnit (getD s i 0) (getD t i 0)
+units-told s t i e p q = e ∙ (λ j. sameUnit (p j) (q j))

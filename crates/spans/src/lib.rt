@@ -81,7 +81,7 @@ pub fn part(s: Span, a: usize, e: usize) -> Span
     }
 }
 
-// Equal names, both in the bytes.
+// Equal names, both in the bytes, compared from the last unit on, as the order test does.
 pub fn same_spans(r: &[u8], a: Span, b: Span) -> bool
     requires { ⌜ Inside (now r) a × Inside (now r) b ⌝ }
     ensures { λ v. ⌜ v ≡ sameName (spanned (now (r .entry)) a) (spanned (now (r .entry)) b) ⌝ }
@@ -90,14 +90,14 @@ pub fn same_spans(r: &[u8], a: Span, b: Span) -> bool
     if n != b.units {
         return false;
     }
-    let mut i = 0;
-    while i < n {
-        let x = unc::fold(unit_of(r, a, i));
-        let y = unc::fold(unit_of(r, b, i));
-        if x != y {
+    let mut i = n;
+    while 0 < i {
+        i -= 1;
+        let x = unit_of(r, a, i);
+        let y = unit_of(r, b, i);
+        if !unc::same_unit(x, y) {
             return false;
         }
-        i += 1;
     }
     true
 }

@@ -12,23 +12,18 @@ use walks::Walk;
 
 const ROOM: usize = 256;
 
+// The path that an end shows: of end 20 the one tried.
 fn put_end(end: End, path: &[u16], tried: &[u16], out: &mut [u16]) -> Shown
     requires { ⌜ (length (now path) ≤ 256) × (length (now tried) ≤ 256) ⌝ }
     ensures { λ r. ⌜ given r (now (out .exit)) ≡ shows (endPath end (now (path .entry)) (now (tried .entry))) (now (out .entry)) ⌝ }
 {
-    match end {
-        End::Done => shown::put(tried, out),
-        End::NotDfs => shown::put(path, out),
-        End::NoDc => shown::put(path, out),
-        End::Failed => shown::put(path, out),
-        End::LimitReached => shown::put(path, out),
-        End::Malformed => shown::put(path, out),
-        End::TooLong => shown::put(path, out),
-        End::Gone => shown::put(path, out),
-    }
+    let End::Done = end else {
+        return shown::put(path, out);
+    };
+    shown::put(tried, out)
 }
 
-// The path of an end: of end 20 the path tried.
+// The path of an end.
 pub fn end_path(walk: Walk, texts: &[u16], out: &mut [u16]) -> Shown
     ensures { λ r. ⌜ given r (now (out .exit)) ≡ pathCall walk (now (texts .entry)) (now (out .entry)) ⌝ }
 {

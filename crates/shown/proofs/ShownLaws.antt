@@ -441,10 +441,6 @@ module _ (w : Walk) (texts out : List ℕ) {b : Bool} (f : b ≡ inForm w texts)
         shows-as out e (λ j. k j ∷ s ∷ w .moves ∷ [])
         ∙ (ap (λ (r : Rest). endAt (w .moves) r out) (rest-ended w texts x s n) ∙ sym (choose-yes _ _ (sym f ∙ h)))
 
--- the path of an end
-pub end-as : {x : End} (k : End) (path tried out : List ℕ) {g : Given} → x ≡ k → g ≡ shows (endPath k path tried) out → g ≡ shows (endPath x path tried) out
-end-as k path tried out h e = e ∙ ap (λ (y : End). shows (endPath y path tried) out) (sym h)
-
 -- three numbers
 pub numbers-short : (a b c : ℕ) (out : List ℕ) → length out < 3 → given ShortBuffer out ≡ shows (a ∷ b ∷ c ∷ []) out
 numbers-short a b c out h = put-short (a ∷ b ∷ c ∷ []) out h

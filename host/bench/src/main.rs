@@ -362,6 +362,21 @@ fn replies(goals: &mut Goals) {
     }
 }
 
+// What takes the longest: every name of a domain reply is compared with each that is kept, every prefix of a listing with each later one.
+fn longest() {
+    let best = |call: &mut dyn FnMut()| (0..5).map(|_| round(1, call)).fold(f64::MAX, f64::min);
+    for (differ, at_end) in [("last", true), ("first", false)] {
+        let (r, mut doms) = (data::domain_reply(at_end), domains(32));
+        assert_eq!(dfsc::calls::read_domains(&r, SIZE, &mut doms), 0);
+        let ns = best(&mut || { black_box(dfsc::calls::read_domains(black_box(&r), SIZE, &mut doms)); });
+        println!("reading a domain reply of {} bytes, 32 names of 255 units that differ in their {differ} units: {}", r.len(), shown(ns));
+    }
+    let (text, mut refs) = (data::long_listing(4600), referrals(32, USUAL));
+    assert_eq!(dfsc::calls::read(&text, &mut refs), 9, "more entries than places");
+    let ns = best(&mut || { black_box(dfsc::calls::read(black_box(&text), &mut refs)); });
+    println!("reading a listing of 4600 entries, {} units: {}", text.len(), shown(ns));
+}
+
 fn main() {
     black_box(shift as *const ());
     let args: Vec<String> = std::env::args().skip(1).collect();
@@ -387,6 +402,7 @@ fn main() {
     hold_look_ups(&mut goals, &builds);
     starts();
     replies(&mut goals);
+    longest();
     for m in &goals.missed {
         println!("missed: {m}");
     }

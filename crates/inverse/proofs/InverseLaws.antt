@@ -22,10 +22,11 @@ use Rattle.unspelling.proofs.HexLaws.{digit-back, unit-hex}
 use Rattle.unspelling.specs.declared.Spelled.the-variants.{Units}
 use Rattle.unspelling.specs.declared.Number.the-variants.{Value}
 use Rattle.listing.specs.Form.{pathLine, numberLine}
+use Rattle.listing.specs.Keys.{statusKey}
 use Rattle.lines.specs.Lines.{valueOf, lineHasKey, numberSaid}
 use Rattle.hexes.specs.Hexes.{isHex, hexValue, hexFrom, hexNumber}
 use Rattle.hexes.proofs.HexLaws.{upper-low}
-use Rattle.script.specs.Script.{statusKey, isText, textSaid, textRead, textTaken, statusSaid}
+use Rattle.script.specs.Script.{isText, textSaid, textRead, textTaken, statusSaid}
 use Rattle.printing.specs.Printed.{statusLine}
 use Rattle.inverse.specs.Inverse.{Inverse}
 

@@ -1,3 +1,4 @@
 -- Document 01, "The listing".
 pub mod Form
 pub mod Listed
+pub mod Keys

@@ -18,7 +18,8 @@ use Rattle.spelling.proofs.DecimalLaws.{in-low, in-high}
 use Rattle.listing.specs.Form.{pathLine, numberLine, ended, linesText}
 use Rattle.steps.specs.declared.Kind.{Kind}
 use Rattle.steps.specs.declared.Kind.the-variants.{Dc, Root, Link, Sysvol, Io}
-use Rattle.printing.specs.Printed.{toKey, nameKey, sizeKey, endKey, statusKey, pathKey, movesKey, refusedKey, askWord, askLine, statusLine, sizeLines, questionLines, endLines, refusedLine, isByte}
+use Rattle.listing.specs.Keys.{pathKey, sizeKey, statusKey}
+use Rattle.printing.specs.Printed.{toKey, nameKey, endKey, movesKey, refusedKey, askWord, askLine, statusLine, sizeLines, questionLines, endLines, refusedLine, isByte}
 
 byte : (u : ℕ) → u < 256 → isByte u ≡ true
 unfolding isByte

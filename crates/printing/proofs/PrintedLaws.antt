@@ -16,7 +16,8 @@ use Rattle.steps.specs.declared.Kind.{Kind}
 use Rattle.steps.specs.declared.Kind.the-variants.{Dc, Root, Link, Sysvol, Io}
 use Rattle.packing.specs.Packing.{kindNumber, kindAt}
 use Rattle.packing.proofs.PackLaws.{kind-dc, kind-root, kind-link, kind-sysvol, kind-io}
-use Rattle.printing.specs.Printed.{toKey, nameKey, sizeKey, endKey, statusKey, pathKey, movesKey, refusedKey, askWord, askLine, statusLine, sizeLines, questionLines, endLines, refusedLine}
+use Rattle.listing.specs.Keys.{pathKey, sizeKey, statusKey}
+use Rattle.printing.specs.Printed.{toKey, nameKey, endKey, movesKey, refusedKey, askWord, askLine, statusLine, sizeLines, questionLines, endLines, refusedLine}
 
 pub status-parts : (n : ℕ) → ended (statusLine n) ≡ statusKey ++ (hexUnits (n / 65536) ++ (hexUnits (n % 65536) ++ (10 ∷ [])))
 unfolding ended statusLine

@@ -7,6 +7,7 @@ use Rattle.spelling.specs.Spelling.{hexUnits}
 use Rattle.listing.specs.Form.{pathLine, numberLine, ended, linesText}
 use Rattle.steps.specs.declared.Kind.{Kind}
 use Rattle.steps.specs.declared.Kind.the-variants.{Dc, Root, Link, Sysvol, Io}
+use Rattle.listing.specs.Keys.{pathKey, sizeKey, statusKey}
 
 -- ask=
 abbrev pub askKey : List ℕ
@@ -20,21 +21,9 @@ toKey = 116 ∷ 111 ∷ 61 ∷ []
 abbrev pub nameKey : List ℕ
 nameKey = 110 ∷ 97 ∷ 109 ∷ 101 ∷ 61 ∷ []
 
--- size=
-abbrev pub sizeKey : List ℕ
-sizeKey = 115 ∷ 105 ∷ 122 ∷ 101 ∷ 61 ∷ []
-
 -- end=
 abbrev pub endKey : List ℕ
 endKey = 101 ∷ 110 ∷ 100 ∷ 61 ∷ []
-
--- status=
-abbrev pub statusKey : List ℕ
-statusKey = 115 ∷ 116 ∷ 97 ∷ 116 ∷ 117 ∷ 115 ∷ 61 ∷ []
-
--- path=
-abbrev pub pathKey : List ℕ
-pathKey = 112 ∷ 97 ∷ 116 ∷ 104 ∷ 61 ∷ []
 
 -- moves=
 abbrev pub movesKey : List ℕ

@@ -15,11 +15,12 @@ use Rattle.unspelling.specs.declared.Spelled.{Spelled}
 use Rattle.unspelling.specs.declared.Spelled.the-variants.{Bad, Units}
 use Rattle.unspelling.specs.declared.Number.{Number}
 use Rattle.unspelling.specs.declared.Number.the-variants.{None, Value}
+use Rattle.listing.specs.Keys.{statusKey}
 use Rattle.lines.specs.Lines.{valueOf, lineHasKey}
 use Rattle.lines.proofs.LineLaws.{key-fits}
 use Rattle.hexes.specs.Hexes.{isHex, hexNumber, hexBytes}
 use Rattle.hexes.specs.declared.Rest.{Rest}
-use Rattle.script.specs.Script.{replyKey, statusKey, after, isText, textSaid, TextRead, textRead, textTaken, ReadInto, readInto, textOrOther, orOther}
+use Rattle.script.specs.Script.{replyKey, after, isText, textSaid, TextRead, textRead, textTaken, ReadInto, readInto, textOrOther, orOther}
 use Rattle.script.specs.Script.{statusSaid, isStatus, isReply, wholeBytes, takesReply, withReply, InputRead, inputRead, WholeRead, wholeRead, takesAfter, isWhole, takes, goesOn, takesOn, lineDue}
 use Rattle.script.specs.declared.Due.the-variants as due
 use Rattle.script.specs.declared.Last.{Last}

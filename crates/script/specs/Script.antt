@@ -12,6 +12,7 @@ use Rattle.unspelling.specs.declared.Spelled.{Spelled}
 use Rattle.unspelling.specs.declared.Spelled.the-variants.{Bad, Units}
 use Rattle.unspelling.specs.declared.Number.{Number}
 use Rattle.unspelling.specs.declared.Number.the-variants.{None, Value}
+use Rattle.listing.specs.Keys.{pathKey, sizeKey, statusKey}
 use Rattle.lines.specs.Lines.{valueOf, lineHasKey, numberSaid}
 use Rattle.hexes.specs.Hexes.{isHex, hexNumber, hexBytes}
 use Rattle.hexes.specs.declared.Held.{Held}
@@ -25,17 +26,9 @@ use Rattle.script.specs.declared.Input.the-variants.{Part, Line, End}
 use Rattle.script.specs.declared.Due.{Due}
 use Rattle.script.specs.declared.Due.the-variants as due
 
--- path=
-abbrev pub pathKey : List ℕ
-pathKey = 112 ∷ 97 ∷ 116 ∷ 104 ∷ 61 ∷ []
-
 -- limit=
 abbrev pub limitKey : List ℕ
 limitKey = 108 ∷ 105 ∷ 109 ∷ 105 ∷ 116 ∷ 61 ∷ []
-
--- size=
-abbrev pub sizeKey : List ℕ
-sizeKey = 115 ∷ 105 ∷ 122 ∷ 101 ∷ 61 ∷ []
 
 -- now=
 abbrev pub nowKey : List ℕ
@@ -44,10 +37,6 @@ nowKey = 110 ∷ 111 ∷ 119 ∷ 61 ∷ []
 -- boot=
 abbrev pub bootKey : List ℕ
 bootKey = 98 ∷ 111 ∷ 111 ∷ 116 ∷ 61 ∷ []
-
--- status=
-abbrev pub statusKey : List ℕ
-statusKey = 115 ∷ 116 ∷ 97 ∷ 116 ∷ 117 ∷ 115 ∷ 61 ∷ []
 
 -- reply=
 abbrev pub replyKey : List ℕ

@@ -1,10 +1,11 @@
 use Rattle.printing.proofs.PrintedLaws.{end-parts}
 use Rattle.printing.proofs.PieceLaws.{fits-1, fits-2-of-3, fits-3-of-4, fits-4, four-put}
-use Rattle.printing.specs.Printed.{endKey, pathKey, movesKey, statusLine}
+use Rattle.printing.specs.Printed.{endKey, movesKey, statusLine}
 use Rattle.listing.specs.Form.{pathLine, numberLine, ended}
 use mathlib.Core.List.{_++_}
 use denote.Ref.{now}
 use borrow.Author.Needs.{needs}
+use Rattle.listing.specs.Keys.{pathKey}
 use Rattle.outcomes.proofs.put_end.Statement.{statement}
 use Rattle.outcomes.proofs.put_end.Tie as tie
 

@@ -6,10 +6,10 @@ use native.Mathlib.Omega.{arith}
 use Rattle.spelling.specs.Spelling.{hexUnits}
 use Rattle.spelling.proofs.PutLaws.{put-piece}
 use Rattle.spelling.proofs.SpellingLaws.{length-hex}
-use Rattle.printing.specs.Printed.{statusKey}
 use Rattle.printing.proofs.PrintedLaws.{status-parts}
 use Rattle.printing.proofs.PieceLaws.{fits-1, fits-2-of-3, fits-3-of-4, fits-4, four-put}
 use borrow.Author.Needs.{needs}
+use Rattle.listing.specs.Keys.{statusKey}
 use Rattle.printing.proofs.put_status.Statement.{statement}
 use Rattle.printing.proofs.put_status.Tie as tie
 

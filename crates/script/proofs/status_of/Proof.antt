@@ -1,5 +1,4 @@
 use Rattle.script.proofs.LineLaws.{status-other, status-long, status-length, status-digits, status-said}
-use Rattle.script.specs.Script.{statusKey}
 use Rattle.lines.proofs.LineLaws.{tail-value}
 use Rattle.hexes.specs.Hexes.{isHex, hexNumber}
 use Rattle.laws.specs.Lists.{every}
@@ -10,6 +9,7 @@ use mathlib.Core.Path.{sym, ap, _∙_}
 use native.Mathlib.Omega.{arith}
 use denote.Ref.{now}
 use borrow.Author.Needs.{needs}
+use Rattle.listing.specs.Keys.{statusKey}
 use Rattle.script.proofs.status_of.Statement.{statement}
 use Rattle.script.proofs.status_of.Tie as tie
 

@@ -8,26 +8,26 @@ use lib.ListN.{take, drop}
 use lib.Seq.{take-append-seam, drop-append-seam}
 use Rattle.laws.specs.Choice.{choose}
 use Rattle.walks.specs.declared.Walk.{Walk}
-use Rattle.packing.specs.Packing.{packed, unpacked}
+use Rattle.packing.specs.Packing.{packedWalk, unpacked}
 use Rattle.packing.proofs.PackLaws.{unpack-pack, length-packed}
 use Rattle.closing.specs.declared.Verdict.{Verdict}
 use Rattle.closing.specs.declared.Verdict.the-variants.{Taken, BadPath, LongPath, BadSettings, NotInOrder, OutOfForm, ShortBuffer}
 use Rattle.resolve.specs.Calls.{Answered, refusalNumber, startCall, referralCall, ioCall}
 use Rattle.closing.specs.Closing.{Left, refused, closes}
 use Rattle.steps.specs.Steps.{Resting}
-use Rattle.holding.specs.Units.{AnswerLeft, unitsLeft, heldIn, walkIn, headAfter, inUnits, startUnits, answerInUnits, referralUnits, ioUnits, noWalk, textsIn}
+use Rattle.holding.specs.Units.{AnswerLeft, unitsLeft, heldIn, walkIn, headAfter, inUnits, startUnits, answerInUnits, referralAnswerUnits, ioAnswerUnits, noWalk, textsIn}
 use Rattle.limits.specs.Calls.{Held, Start, Answer, referral, io, Calls, start, then, run, answered}
 use Rattle.limits.proofs.ListLaws.{answer-identity}
 use Rattle.limits.specs.Exported.{answeredUnits, unitsRun, unitsOf}
 
 module _ (w : Walk) (t : List ℕ) where
-  head : take 32 (packed w ++ t) ≡ packed w
-  head = ap (λ (n : ℕ). take n (packed w ++ t)) (sym (length-packed w)) ∙ take-append-seam (packed w) t
+  head : take 32 (packedWalk w ++ t) ≡ packedWalk w
+  head = ap (λ (n : ℕ). take n (packedWalk w ++ t)) (sym (length-packed w)) ∙ take-append-seam (packedWalk w) t
 
-  tail : drop 32 (packed w ++ t) ≡ t
-  tail = ap (λ (n : ℕ). drop n (packed w ++ t)) (sym (length-packed w)) ∙ drop-append-seam (packed w) t
+  tail : drop 32 (packedWalk w ++ t) ≡ t
+  tail = ap (λ (n : ℕ). drop n (packedWalk w ++ t)) (sym (length-packed w)) ∙ drop-append-seam (packedWalk w) t
 
-  walk-back : walkIn (packed w ++ t) ≡ w
+  walk-back : walkIn (packedWalk w ++ t) ≡ w
   unfolding walkIn heldIn
   walk-back = ap (λ (u : List ℕ). heldIn (unpacked u)) head ∙ ap heldIn (unpack-pack w)
 
@@ -51,7 +51,7 @@ not-short : ShortBuffer ≡ Taken → ⊥
 not-short e = let z : _≡_ {A = ℕ} 0 1 = cc in omega arith
 
 -- the packed form after a call
-head-after : (v : Verdict) (w : Walk) (u : List ℕ) → ((v ≡ Taken → ⊥) → take 32 u ≡ packed w) → headAfter (refusalNumber v) w u ≡ packed w
+head-after : (v : Verdict) (w : Walk) (u : List ℕ) → ((v ≡ Taken → ⊥) → take 32 u ≡ packedWalk w) → headAfter (refusalNumber v) w u ≡ packedWalk w
 unfolding headAfter refusalNumber choose
 head-after Taken w u h = refl
 head-after BadPath w u h = h not-path
@@ -61,19 +61,19 @@ head-after NotInOrder w u h = h not-order
 head-after OutOfForm w u h = h not-form
 head-after ShortBuffer w u h = h not-short
 
-units-left : (u : List ℕ) (o : Answered) → ((o .left .verdict ≡ Taken → ⊥) → take 32 u ≡ packed (o .left .walk)) → answerInUnits u o ≡ unitsOf o
+units-left : (u : List ℕ) (o : Answered) → ((o .left .verdict ≡ Taken → ⊥) → take 32 u ≡ packedWalk (o .left .walk)) → answerInUnits u o ≡ unitsOf o
 unfolding answerInUnits inUnits unitsOf
 units-left u o h =
     ap (λ (p : List ℕ). record { left = unitsLeft (refusalNumber (o .left .verdict)) (p ++ o .left .texts) (o .left .out); refs = o .refs; doms = o .doms })
     (head-after (o .left .verdict) (o .left .walk) u h)
 
 -- an answer to a walk that is held as units
-one-answer : (o : Answered) (a : Answer) → answeredUnits (unitsOf o) a ≡ answerInUnits (packed (o .left .walk) ++ o .left .texts) (answered o a)
-unfolding answeredUnits unitsOf referralUnits ioUnits answered
+one-answer : (o : Answered) (a : Answer) → answeredUnits (unitsOf o) a ≡ answerInUnits (packedWalk (o .left .walk) ++ o .left .texts) (answered o a)
+unfolding answeredUnits unitsOf referralAnswerUnits ioAnswerUnits answered
 one-answer o (referral status reply clock out) =
-    λ j. answerInUnits (packed (o .left .walk) ++ o .left .texts) (referralCall (o .refs) (o .doms) (tail (o .left .walk) (o .left .texts) j) (walk-back (o .left .walk) (o .left .texts) j) status reply clock out)
+    λ j. answerInUnits (packedWalk (o .left .walk) ++ o .left .texts) (referralCall (o .refs) (o .doms) (tail (o .left .walk) (o .left .texts) j) (walk-back (o .left .walk) (o .left .texts) j) status reply clock out)
 one-answer o (io status clock out) =
-    λ j. answerInUnits (packed (o .left .walk) ++ o .left .texts) (ioCall (o .refs) (o .doms) (tail (o .left .walk) (o .left .texts) j) (walk-back (o .left .walk) (o .left .texts) j) status clock out)
+    λ j. answerInUnits (packedWalk (o .left .walk) ++ o .left .texts) (ioCall (o .refs) (o .doms) (tail (o .left .walk) (o .left .texts) j) (walk-back (o .left .walk) (o .left .texts) j) status clock out)
 
 -- a start that is taken leaves nothing of the walk that it was given
 module _ (v w : Walk) (texts out : List ℕ) where
@@ -110,5 +110,5 @@ module _ (l : ℕ) (h : Held) (s : Start) (units : List ℕ) (e : textsIn units 
   exported (then cs a) =
       ap (λ (o : AnswerLeft). answeredUnits o a) (exported cs)
       ∙ (one-answer (run l h s cs) a
-      ∙ units-left (packed (run l h s cs .left .walk) ++ run l h s cs .left .texts) (answered (run l h s cs) a)
-      (λ n. head (run l h s cs .left .walk) (run l h s cs .left .texts) ∙ ap (λ (o : Answered). packed (o .left .walk)) (sym (answer-identity (run l h s cs) a n))))
+      ∙ units-left (packedWalk (run l h s cs .left .walk) ++ run l h s cs .left .texts) (answered (run l h s cs) a)
+      (λ n. head (run l h s cs .left .walk) (run l h s cs .left .texts) ∙ ap (λ (o : Answered). packedWalk (o .left .walk)) (sym (answer-identity (run l h s cs) a n))))

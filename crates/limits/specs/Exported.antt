@@ -2,15 +2,15 @@
 -- left.
 use Prim.Native.Nat.{ℕ}
 use mathlib.Core.List.{List, _++_}
-use Rattle.packing.specs.Packing.{packed}
+use Rattle.packing.specs.Packing.{packedWalk}
 use Rattle.resolve.specs.Calls.{Answered, refusalNumber}
-use Rattle.holding.specs.Units.{AnswerLeft, answerLeft, startUnits, referralUnits, ioUnits}
+use Rattle.holding.specs.Units.{AnswerLeft, answerLeft, startUnits, referralAnswerUnits, ioAnswerUnits}
 use Rattle.limits.specs.Calls.{Held, Start, Answer, referral, io, Calls, start, then}
 
 -- the right-hand sides of the contracts of `dfsc_answer_referral` and `dfsc_answer_io`
 unfoldable pub answeredUnits : AnswerLeft → Answer → AnswerLeft
-answeredUnits o (referral status reply clock out) = referralUnits (o .refs) (o .doms) (o .left .walk) status reply clock out
-answeredUnits o (io status clock out) = ioUnits (o .refs) (o .doms) (o .left .walk) status clock out
+answeredUnits o (referral status reply clock out) = referralAnswerUnits (o .refs) (o .doms) (o .left .walk) status reply clock out
+answeredUnits o (io status clock out) = ioAnswerUnits (o .refs) (o .doms) (o .left .walk) status clock out
 
 -- what the last call of a list gives back and leaves; the start is lent these units, and its right-hand side is that of `dfsc_start`
 unfoldable pub unitsRun : ℕ → Held → Start → List ℕ → Calls → AnswerLeft
@@ -23,4 +23,4 @@ unitsRun l h s units (then cs a) = answeredUnits (unitsRun l h s units cs) a
 
 -- what a call leaves, the walk as its packed form
 unfoldable pub unitsOf : Answered → AnswerLeft
-unitsOf o = answerLeft (refusalNumber (o .left .verdict)) (packed (o .left .walk) ++ o .left .texts) (o .left .out) (o .refs) (o .doms)
+unitsOf o = answerLeft (refusalNumber (o .left .verdict)) (packedWalk (o .left .walk) ++ o .left .texts) (o .left .out) (o .refs) (o .doms)

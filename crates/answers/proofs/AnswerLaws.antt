@@ -9,29 +9,30 @@ use Rattle.laws.specs.Choice.{choose}
 use Rattle.laws.proofs.Choices.{choose-yes, choose-no}
 use Rattle.laws.proofs.Orders.{told}
 use Rattle.unc.specs.Paths.{components}
-use Rattle.texts.specs.Texts.{Standing}
-use Rattle.spans.specs.Spans.{spanned}
+use Rattle.texts.specs.Code.{Standing}
+use Rattle.spans.specs.Code.{spanned}
 use Rattle.caches.specs.Memory.{domains, decode, encode, inOrder}
 use Rattle.caches.proofs.MemoryLaws.{encode-decode}
 use Rattle.lookup.specs.Lookup.{withKey}
 use Rattle.lookup.specs.declared.Found.the-variants.{At}
 use Rattle.referral.specs.Replies as replies
-use Rattle.referral.specs.Found.{replyOf}
+use Rattle.referral.specs.Code.{replyOf}
 use Rattle.referral.specs.declared.Answer.{Answer}
 use Rattle.referral.specs.declared.Answer.the-variants.{Malformed, Nothing, Says}
 use Rattle.namelists.specs.NameLists.{readDcs}
-use Rattle.namelists.specs.Found.{denotedDcs}
+use Rattle.namelists.specs.Code.{denotedDcs}
 use Rattle.namelists.specs.declared.DcsFound.{DcsFound}
 use Rattle.storing.specs.Stored.{dcsStored}
 use Rattle.steps.specs.Steps.{Caches, Core, stops, asks, ends, Turn, ended, rests, goes, turned, withHit, withDomains, pathNotFound, emptyEnd, dcsIn, dcAnswer, step5}
-use Rattle.steps.specs.Rested.{cachesOf, coreOf, endedAt}
+use Rattle.steps.specs.Held.{cachesOf, coreOf}
+use Rattle.steps.specs.Code.{endedAt}
 use Rattle.steps.specs.declared.End.{End}
 use Rattle.steps.specs.declared.End.the-variants as end
 use Rattle.steps.specs.declared.Rested.{Rested}
-use Rattle.moves.specs.Moves.{Packed, joined, packed}
+use Rattle.moves.specs.Code.{Packed, joined, packed}
 use Rattle.moves.proofs.MoveLaws.{packed-end, goes-asks}
 use Rattle.questions.specs.Questions.{restFits}
-use Rattle.answers.specs.Answers.{dcsRest, dcsLeft, domainsLeft}
+use Rattle.answers.specs.Code.{dcsRest, dcsLeft, domainsLeft}
 
 pub goes-stops : (n : ℕ) (c : Caches) (clock : ℕ) (w : Core) (e : End) (status : ℕ) (tried : List ℕ) → goes n c clock w (stops e status tried) ≡ rests w n (ended e status tried)
 unfolding goes

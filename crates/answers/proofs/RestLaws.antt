@@ -19,29 +19,32 @@ use Rattle.referral.proofs.RequestLaws.{length-request}
 use mathlib.Core.Option.{some}
 use Rattle.texts.specs.Texts.{textsOf}
 use Rattle.texts.proofs.TextLaws.{path-in}
-use Rattle.places.specs.Layout.{placeCount, placeAt, changed}
+use Rattle.places.specs.Layout.{placeCount, placeAt}
+use Rattle.places.specs.Code.{changed}
 use Rattle.caches.specs.Entries.{Place, Domain, free}
 use Rattle.caches.specs.Memory.{Kind, domains, decode, encode, inOrder, pieceOf, goodPlace}
 use Rattle.caches.proofs.MemoryLaws.{Lawful, cache-told, order-good, length-decode, encode-decode, place-encode, changed-encode}
 use Rattle.lookup.specs.declared.Found.the-variants.{Nothing}
 use Rattle.steps.specs.Steps.{Caches, Core, Question, Called, stops, asks, replaces, Rest, Resting, waits, ended, rests, asking, goes, hitAt, withHit, withPath, step2, step5, nameAsked}
-use Rattle.steps.specs.Rested.{cachesOf, coreOf, triedOf, restedOf}
+use Rattle.steps.specs.Held.{cachesOf, coreOf, triedOf}
+use Rattle.steps.specs.Code.{restedOf}
 use Rattle.steps.specs.declared.Kind.{Kind as Kinds}
 use Rattle.steps.specs.declared.Kind.the-variants.{Dc, Root, Link, Sysvol, Io}
 use Rattle.steps.specs.declared.End.{End}
 use Rattle.steps.specs.declared.End.the-variants.{TooLong}
 use Rattle.steps.specs.declared.Rested.{Rested}
-use Rattle.moves.specs.Moves.{Packed, joined, packed, stepsFrom, calledAt}
+use Rattle.moves.specs.Code.{Packed, joined, packed, stepsFrom, calledAt}
 use Rattle.moves.proofs.MoveLaws.{goes-asks}
-use Rattle.questions.specs.Questions.{requestName, nameFits, restFits, nextUnits, named}
+use Rattle.questions.specs.Questions.{requestName, nameFits, restFits}
+use Rattle.questions.specs.Code.{nextUnits, named}
 use Rattle.questions.proofs.NameLaws.{rest-fits}
-use Rattle.spans.specs.Spans.{spanned}
+use Rattle.spans.specs.Code.{spanned}
 use Rattle.namelists.specs.declared.DcsFound.{DcsFound}
 use Rattle.storing.specs.Stored.{withDcs, dcsStored}
 use Rattle.caches.proofs.KindLaws.{domains-lawful}
-use Rattle.domains.specs.Domains.{DomainAt, StorableDcs}
+use Rattle.domains.specs.Code.{DomainAt, StorableDcs}
 use Rattle.domains.proofs.DcLaws.{dcs-held, dcs-in-order}
-use Rattle.answers.specs.Answers.{dcsRest, dcsLeft}
+use Rattle.answers.specs.Code.{dcsRest, dcsLeft}
 
 -- what the steps keep: the size given, the moves that were left at most, a path that fits its room
 pub record Kept (n : ℕ) (w : Core) (x : Resting) : Type 0 where

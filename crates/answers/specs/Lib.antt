@@ -1,2 +1,2 @@
 -- Answers that store.
-pub mod Answers
+pub mod Code

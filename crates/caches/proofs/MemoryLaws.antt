@@ -15,11 +15,13 @@ use Rattle.laws.proofs.Every.{every-at}
 use mathlib.Core.Logic.{_⊎_, inl, inr}
 use lib.Seq.{getD-set-same, getD-set-other}
 use Rattle.laws.proofs.Listed.{length-listed, getD-listed, drop-listed, drop-listed-end, listed-same, listed-getD, set-listed, map-listed, getD-map, every-listed, listed-every, listed-parts, by-listed-parts, every-set, length-flatten, part-flatten, sameList-true, same-sameList}
-use Rattle.places.specs.Layout.{placeCount, placeAt, changed, unitAt, textAt, blank}
+use Rattle.places.specs.Layout.{placeCount, placeAt, unitAt, textAt, blank}
+use Rattle.places.specs.Code.{changed}
 use Rattle.places.proofs.LayoutLaws.{length-changed, place-changed, place-kept}
 use Rattle.caches.specs.Entries.{Place, free, used}
 use Rattle.caches.specs.Order.{distinct}
-use Rattle.caches.specs.Memory.{Kind, rightSize, placeOf, pieceOf, decode, encode, goodPlace, keys, goodCache, inOrder, ordered}
+use Rattle.caches.specs.Memory.{Kind, rightSize, placeOf, pieceOf, decode, encode, goodPlace, keys, goodCache, inOrder}
+use Rattle.caches.specs.Code.{ordered}
 
 -- what the laws ask of a kind of entry: a good entry fills a place, comes back when read, and does not look free
 pub record Lawful {E : Type 0} (k : Kind E) : Type 0 where

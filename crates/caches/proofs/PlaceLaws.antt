@@ -18,14 +18,15 @@ use Rattle.laws.proofs.Tests.{both-ways, refuted, not-both}
 use Rattle.laws.proofs.Parts.{roomed-blank}
 use Rattle.laws.proofs.Listed.{length-listed, getD-listed, listed-same, map-listed, every-listed, listed-every, sameList-true}
 use Rattle.unc.specs.Names.{goodName}
-use Rattle.places.specs.Layout.{unitAt, wideAt, flagAt, flagUnit, textAt, listCount, written, placeTexts, marksOf, settingsOf, tidy, zeros}
+use Rattle.places.specs.Layout.{unitAt, wideAt, flagAt, flagUnit, textAt, listCount, written}
+use Rattle.places.specs.Code.{placeTexts, marksOf, settingsOf, tidy, zeros}
 use Rattle.places.proofs.WrittenLaws.{same-written, written-mark, written-setting}
 use Rattle.places.proofs.TidyLaws.{tidy-told}
 use Rattle.places.proofs.ZeroLaws.{zero-at, zeros-all}
 use Rattle.caches.specs.Entries.{Target, Referral}
 use Rattle.caches.specs.Order.{goodPrefix, firstOpensNone, goodReferral, goodDomain, goodDCHint}
 use Rattle.caches.specs.Memory.{targetOf, referralOf, referralSettings, referralUnits, domainOf, domainUnits}
-use Rattle.caches.specs.Tests.{goodText, goodTexts, goodFlags}
+use Rattle.caches.specs.Code.{goodText, goodTexts, goodFlags}
 use Rattle.caches.proofs.KindLaws.{GoodReferral, referral-told, good-referral, referral-shape, GoodDomain, domain-told, good-domain, domain-shape, every-path, path-every}
 
 flag-small : (b : Bool) → flagUnit b ≤ 1

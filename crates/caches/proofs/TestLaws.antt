@@ -21,12 +21,13 @@ use Rattle.laws.proofs.Listed.{length-listed, getD-listed, drop-listed, drop-li
 use Rattle.unc.specs.Names.{sameName, goodName}
 use Rattle.unc.specs.Paths.{normalisedCount}
 use Rattle.unc.proofs.NameLaws.{sameName-unlike}
-use Rattle.places.specs.Layout.{placeCount, placeAt, unitAt, roomAt, textAt, listCount, placeTexts, zeros, blank}
+use Rattle.places.specs.Layout.{placeCount, placeAt, unitAt, roomAt, textAt, listCount, blank}
+use Rattle.places.specs.Code.{placeTexts, zeros}
 use Rattle.places.proofs.LayoutLaws.{length-place}
 use Rattle.caches.specs.Entries.{Place}
 use Rattle.caches.specs.Order.{goodPrefix, goodReferral, goodDomain, distinct}
-use Rattle.caches.specs.Memory.{Kind, referrals, domains, referralOf, referralUnits, domainOf, domainUnits, rightSize, placeOf, pieceOf, decode, goodPlace, keys, inOrder, ordered}
-use Rattle.caches.specs.Tests.{goodText, goodTexts, goodFlags, orderedAs, allOrdered, inOrderAs, otherKey, keyApart, apart, keysApart}
+use Rattle.caches.specs.Memory.{Kind, referrals, domains, referralOf, referralUnits, domainOf, domainUnits, rightSize, placeOf, pieceOf, decode, goodPlace, keys, inOrder}
+use Rattle.caches.specs.Code.{ordered, goodText, goodTexts, goodFlags, orderedAs, allOrdered, inOrderAs, otherKey, keyApart, apart, keysApart}
 use Rattle.caches.proofs.MemoryLaws.{Lawful, place-free, place-used, in-order-parts, size-told}
 use Rattle.caches.proofs.KindLaws.{referrals-lawful, domains-lawful}
 

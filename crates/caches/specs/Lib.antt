@@ -2,4 +2,4 @@
 pub mod Entries
 pub mod Order
 pub mod Memory
-pub mod Tests
+pub mod Code

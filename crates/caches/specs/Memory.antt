@@ -100,7 +100,3 @@ module _ {E : Type 0} (k : Kind E) where
   -- in order: what is held is good, and the memory is exactly what that writes: no part of a place is left over, and unused room is zero
   unfoldable pub inOrder : List ℕ → Bool
   inOrder raw = goodCache (decode raw) && sameList (encode (decode raw)) raw
-
-  -- the same for one place
-  unfoldable pub ordered : List ℕ → Bool
-  ordered piece = goodPlace (placeOf piece) && sameList (pieceOf (placeOf piece)) piece

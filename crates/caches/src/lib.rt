@@ -7,7 +7,7 @@ ghost use Rattle.laws.specs.Listed.{sameList};
 ghost use Rattle.places.specs.Layout.{placeCount, unitAt};
 ghost use Rattle.caches.specs.Order.{goodReferral, goodDomain};
 ghost use Rattle.caches.specs.Memory.{referrals, domains, referralOf, referralUnits, domainOf, domainUnits, rightSize, inOrder};
-ghost use Rattle.caches.specs.Tests.{goodText, goodTexts, goodFlags, orderedAs, allOrdered, inOrderAs, keyApart, keysApart};
+ghost use Rattle.caches.specs.Code.{goodText, goodTexts, goodFlags, orderedAs, allOrdered, inOrderAs, keyApart, keysApart};
 use places::PLACE;
 
 const PLACES: usize = 32;

@@ -14,9 +14,10 @@ use Rattle.laws.proofs.Pasting.{part-pasted}
 use Rattle.laws.proofs.Choices.{choose-yes, choose-no}
 use Rattle.hexes.proofs.HexLaws.{take-least}
 use Rattle.walks.specs.declared.Walk.{Walk}
-use Rattle.closing.specs.Closing.{left}
+use Rattle.closing.specs.Code.{left}
 use Rattle.closing.specs.declared.Outcome.{Outcome}
-use Rattle.resolve.specs.Calls.{Answered, answered, refusalNumber, startCall, ioCall, referralCall}
+use Rattle.resolve.specs.Calls.{Answered, refusalNumber, startCall, ioCall, referralCall}
+use Rattle.resolve.specs.Code.{answered}
 use Rattle.spelling.specs.Spelling.{Put}
 use Rattle.spelling.proofs.PutLaws.{length-put}
 use Rattle.listing.proofs.EntryLaws.{put-same}
@@ -32,7 +33,8 @@ use Rattle.script.specs.declared.Last.the-variants.{Stopped}
 use Rattle.script.specs.declared.Due.{Due}
 use Rattle.script.specs.declared.Due.the-variants as due
 use Rattle.calling.specs.declared.Done.{Done}
-use Rattle.calling.specs.Calling.{LentMemory, lentMemory, CallLeft, callLeft, callTold, requestRoom, startMade, ioMade, referralMade, made, CallMade, Refused}
+use Rattle.calling.specs.Calling.{LentMemory, lentMemory, CallLeft, callLeft, callTold, requestRoom, startMade, ioMade, referralMade, made, CallMade}
+use Rattle.calling.specs.Code.{Refused}
 
 -- what a call gave back
 module _ (s : Script) (o : Outcome) (refs doms texts d m : List ℕ) {k b : ℕ} (e : k ≡ refusalNumber (o .verdict)) (p : Put d 0 (outcomeLines k refs doms (o .walk) texts) m b) where

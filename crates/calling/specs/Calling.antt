@@ -14,7 +14,6 @@ use Rattle.script.specs.Script.{after}
 use Rattle.script.specs.declared.Script.{Script}
 use Rattle.script.specs.declared.Last.the-variants.{Stopped}
 use Rattle.script.specs.declared.Due.{Due}
-use Rattle.script.specs.declared.Due.the-variants as due
 use Rattle.calling.specs.declared.Done.{Done}
 
 -- the walk that the program holds, and all memory that it lends
@@ -82,9 +81,3 @@ made due.Refusal s h = uncalled (after Stopped s) (refusedLine 0) h
 pub record CallMade (x : CallLeft) (r : Done) (refs doms texts d o : List ℕ) : Type 0 where
   pub left : callLeft (r .script) (r .walk) refs doms texts (x .printed) ≡ x
   pub printed : Put d 0 (x .printed) o (r .bytes)
-
--- the input is refused: the same, of what does not touch the caches
-pub record Refused (s : Script) (w : Walk) (r : Done) (d o : List ℕ) : Type 0 where
-  pub script : r .script ≡ after Stopped s
-  pub walk : r .walk ≡ w
-  pub printed : Put d 0 (refusedLine 0) o (r .bytes)

@@ -1,2 +1,3 @@
 -- The calls of the program `walk`.
 pub mod Calling
+pub mod Code

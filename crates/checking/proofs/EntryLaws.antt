@@ -26,12 +26,13 @@ use Rattle.unspelling.specs.declared.Number.the-variants.{None, Value}
 use Rattle.unspelling.proofs.UnspelledLaws.{unspelled-spelled}
 use Rattle.unspelling.proofs.NumberLaws.{decimal-says}
 use Rattle.listing.specs.Form.{prefixKey, kindKey, interlinkKey, failbackKey, ttlKey, takenKey, hintKey, targetKey, kindWord, pathLine, numberLine, targetLines, settingLines, countLines, entryLines}
-use Rattle.lines.specs.Lines.{valueOf, isPathLine, numberSaid}
+use Rattle.lines.specs.Lines.{valueOf, numberSaid}
+use Rattle.lines.specs.Code.{isPathLine}
 use Rattle.reading.specs.Entries.{targetSaid, entrySaid}
 use Rattle.reading.proofs.SaidLaws.{Listable}
 use Rattle.checking.specs.declared.Step.{Step}
 use Rattle.checking.specs.declared.Step.the-variants.{Wrong, Least}
-use Rattle.checking.specs.Tests.{atMost, isNumberLine, isKindLine, laterLine, goodLine, leastFor, hintStep, stepOf, testedAfter, goodLines, goodEntryLines}
+use Rattle.checking.specs.Code.{atMost, isNumberLine, isKindLine, laterLine, goodLine, leastFor, hintStep, stepOf, testedAfter, goodLines, goodEntryLines}
 use Rattle.checking.proofs.StepLaws.{target-line}
 use Rattle.checking.proofs.SpelledLaws.{units-said}
 

@@ -25,8 +25,7 @@ use Rattle.reading.proofs.LineLaws.{later, allLines, all-text, all-later, entry
 use Rattle.reading.proofs.SaidLaws.{listable-told, told-listable, Said, listing-sound, listing-complete}
 use Rattle.checking.specs.declared.Checked.{Checked}
 use Rattle.checking.specs.declared.Checked.the-variants.{Bad, Entries}
-use Rattle.checking.specs.Checked.{checked}
-use Rattle.checking.specs.Tests.{goodEntryLines, counted, prefixLines, isEnded}
+use Rattle.checking.specs.Code.{checked, goodEntryLines, counted, prefixLines, isEnded}
 use Rattle.checking.proofs.TextLaws.{lines-here, lines-later, cut}
 use Rattle.checking.proofs.SpelledLaws.{spelled-same}
 use Rattle.checking.proofs.EntryLaws.{entry-told, entry-good}

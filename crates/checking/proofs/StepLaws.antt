@@ -12,10 +12,11 @@ use Rattle.laws.proofs.Choices.{choose-yes, choose-no, and-no-left, and-yes-lef
 use Rattle.unspelling.specs.declared.Number.{Number}
 use Rattle.unspelling.specs.declared.Number.the-variants.{None, Value}
 use Rattle.listing.specs.Form.{prefixKey, interlinkKey, failbackKey, ttlKey, takenKey, hintKey, targetKey, kindWord}
-use Rattle.lines.specs.Lines.{isPathLine, numberSaid}
+use Rattle.lines.specs.Code.{isPathLine}
+use Rattle.lines.specs.Lines.{numberSaid}
 use Rattle.checking.specs.declared.Step.{Step}
 use Rattle.checking.specs.declared.Step.the-variants.{Wrong, Least}
-use Rattle.checking.specs.Tests.{atMost, isNumberLine, isKindLine, laterLine, goodLine, leastFor, hintStep, stepOf}
+use Rattle.checking.specs.Code.{atMost, isNumberLine, isKindLine, laterLine, goodLine, leastFor, hintStep, stepOf}
 
 -- a number
 module _ (key : List ℕ) (most : ℕ) (line : List ℕ) {r : Number} (said : r ≡ numberSaid key line) where

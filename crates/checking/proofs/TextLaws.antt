@@ -23,7 +23,7 @@ use Rattle.checking.specs.declared.Checked.{Checked}
 use Rattle.checking.specs.declared.Checked.the-variants.{Bad, Entries}
 use Rattle.checking.specs.declared.Step.{Step}
 use Rattle.checking.specs.declared.Step.the-variants.{Wrong, Least}
-use Rattle.checking.specs.Tests.{stepOf, testedAfter, goodLines, goodEntryLines, counted, prefixLines, apartFrom, isEnded}
+use Rattle.checking.specs.Code.{stepOf, testedAfter, goodLines, goodEntryLines, counted, prefixLines, apartFrom, isEnded}
 
 -- the first line of a text
 length-here : (u : ℕ) (s : List ℕ) → u ≡ 10 → lineLength (u ∷ s) ≡ 0

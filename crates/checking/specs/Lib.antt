@@ -1,3 +1,2 @@
 -- Document 01, "The listing": whether a text is one.
-pub mod Checked
-pub mod Tests
+pub mod Code

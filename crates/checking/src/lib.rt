@@ -3,8 +3,8 @@ ghost use mathlib.Core.Path.{_≡_};
 ghost use lib.ListN.{drop};
 ghost use Rattle.reading.specs.Entries.{linesOf, opensEntry};
 ghost use Rattle.caches.specs.Order.{distinct};
-ghost use Rattle.checking.specs.Checked.{checked};
-ghost use Rattle.checking.specs.Tests.{isNumberLine, isKindLine, laterLine, goodLine, hintStep, stepOf, counted, isEnded, prefixLines, apartFrom};
+ghost use Rattle.checking.specs.Code.{checked};
+ghost use Rattle.checking.specs.Code.{isNumberLine, isKindLine, laterLine, goodLine, hintStep, stepOf, counted, isEnded, prefixLines, apartFrom};
 use unspelling::Number;
 
 const LINE_END: u16 = 10;

@@ -10,16 +10,18 @@ use Rattle.laws.specs.Lists.{pasted, roomed}
 use Rattle.laws.proofs.Choices.{choose-yes, choose-no}
 use Rattle.laws.proofs.Pasting.{pasted-join, pasted-whole, length-roomed}
 use Rattle.steps.specs.Steps.{Resting}
-use Rattle.steps.specs.Rested.{restedOf}
+use Rattle.steps.specs.Code.{restedOf}
 use Rattle.steps.specs.declared.Rested.{Rested}
-use Rattle.moves.specs.Moves.{joined, packed}
-use Rattle.questions.specs.Questions.{nameFits, withRequest, nextUnits, named}
+use Rattle.moves.specs.Code.{joined, packed}
+use Rattle.questions.specs.Questions.{nameFits, withRequest}
+use Rattle.questions.specs.Code.{nextUnits, named}
 use Rattle.questions.proofs.NameLaws.{rest-fits, rest-out}
 use Rattle.answers.proofs.RestLaws.{rested-is, rooms-are, path-is}
 use Rattle.walks.specs.Walks.{inForm, bootIn, lent, walkOf, textsAfter}
 use Rattle.walks.specs.declared.Walk.{Walk}
 use Rattle.walks.proofs.FormLaws.{form-told, last-room}
-use Rattle.closing.specs.Closing.{refused, closes, walkWith, closedRest}
+use Rattle.closing.specs.Closing.{refused, closes}
+use Rattle.closing.specs.Code.{walkWith, closedRest}
 use Rattle.closing.specs.declared.Verdict.the-variants.{Taken, ShortBuffer}
 
 -- the texts of a start

@@ -1,2 +1,3 @@
 -- How a call ends.
 pub mod Closing
+pub mod Code

@@ -4,9 +4,10 @@ ghost use mathlib.Core.Bool.{true};
 ghost use Prim.Native.Nat.{_≤_};
 ghost use lib.ListN.{length, take};
 ghost use Rattle.laws.specs.Lists.{pasted};
-ghost use Rattle.questions.specs.Questions.{withRequest, nextUnits, named};
+ghost use Rattle.questions.specs.Questions.{withRequest};
+ghost use Rattle.questions.specs.Code.{nextUnits, named};
 ghost use Rattle.walks.specs.Walks.{inForm, bootIn};
-ghost use Rattle.closing.specs.Closing.{left, walkWith, closedRest};
+ghost use Rattle.closing.specs.Code.{left, walkWith, closedRest};
 use steps::Rested;
 use walks::Walk;
 

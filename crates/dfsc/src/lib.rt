@@ -3,7 +3,7 @@
 ghost use mathlib.Core.Path.{_≡_};
 ghost use mathlib.Core.List.{[]};
 ghost use lib.ListN.{length};
-ghost use Rattle.referral.specs.Found.{bufferWith};
+ghost use Rattle.referral.specs.Request.{bufferWith};
 ghost use Rattle.domains.specs.Domains.{domainsNumber, domainsAfter, requestNumber};
 ghost use Rattle.listing.specs.Listed.{listAnswer, bufferAfter};
 ghost use Rattle.reading.specs.Read.{readNumber, readAfter};

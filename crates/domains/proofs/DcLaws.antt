@@ -13,10 +13,11 @@ use Rattle.laws.proofs.Choices.{and-left, and-right, and-both}
 use Rattle.laws.proofs.Every.{every-take}
 use Rattle.laws.proofs.Listed.{every-set}
 use Rattle.unc.specs.Names.{goodName}
-use Rattle.spans.specs.Spans.{spanned, Inside}
+use Rattle.spans.specs.Code.{spanned, Inside}
 use Rattle.spans.specs.declared.Span.{Span}
 use Rattle.spans.proofs.UnitLaws.{length-spanned}
-use Rattle.places.specs.Layout.{placeCount, changed, written, keyOnly}
+use Rattle.places.specs.Layout.{placeCount, written}
+use Rattle.places.specs.Code.{changed, keyOnly}
 use Rattle.places.proofs.LayoutLaws.{changed-step}
 use Rattle.places.proofs.WrittenLaws.{length-written}
 use Rattle.places.proofs.PutLaws.{key-only}
@@ -26,21 +27,22 @@ use Rattle.caches.specs.Memory.{domains, domainUnits, decode, encode, inOrder, 
 use Rattle.caches.proofs.MemoryLaws.{cache-told, order-good, length-decode, decode-encode, changed-encode}
 use Rattle.caches.proofs.KindLaws.{domain-told, good-domain, domain-shape, domains-lawful, name-short}
 use Rattle.caches.proofs.PlaceLaws.{hint-good}
-use Rattle.lookup.specs.Lookup.{entryAt, withKey}
+use Rattle.lookup.specs.Code.{entryAt}
+use Rattle.lookup.specs.Lookup.{withKey}
 use Rattle.lookup.specs.declared.Found.the-variants.{At}
 use Rattle.lookup.proofs.LookupLaws.{KeyAt, key-found, used-inside}
 use Rattle.lookup.proofs.StoreLaws.{entry-good, entry-is, entry-start, kept-in-order}
-use Rattle.referral.specs.Found.{isInside}
+use Rattle.referral.specs.Code.{isInside}
 use Rattle.referral.specs.declared.Answer.the-variants.{Says}
 use Rattle.namelists.specs.NameLists.{readDcs}
-use Rattle.namelists.specs.Found.{denotedDcs, DcsInside}
+use Rattle.namelists.specs.Code.{denotedDcs, DcsInside}
 use Rattle.namelists.specs.declared.DcsFound.{DcsFound}
 use Rattle.namelists.proofs.SaysLaws.{SoundDcs, says-dcs, dcs-says}
-use Rattle.entries.specs.Writing.{addAll, addDc, addText}
+use Rattle.entries.specs.Code.{addAll, addDc, addText}
 use Rattle.entries.proofs.WritingLaws.{shortName}
 use Rattle.entries.proofs.PieceLaws.{key-shape, dcs-written}
 use Rattle.storing.specs.Stored.{withDcs, dcsStored}
-use Rattle.domains.specs.Domains.{goodNameSpan, DomainAt, StorableDcs}
+use Rattle.domains.specs.Code.{goodNameSpan, DomainAt, StorableDcs}
 
 -- a name that fits lies inside the reply and is short
 module _ (r : List ℕ) (s : Span) (h : goodNameSpan r s ≡ true) where

@@ -9,16 +9,15 @@ use borrow.Author.Tests.{le-leb}
 use Rattle.laws.specs.Lists.{every}
 use Rattle.laws.proofs.Choices.{and-both}
 use Rattle.unc.specs.Names.{goodName}
-use Rattle.spans.specs.Spans.{spanned, Inside}
+use Rattle.spans.specs.Code.{spanned, Inside}
 use Rattle.spans.specs.declared.Span.{Span}
 use Rattle.referral.specs.Replies.{referralCount, sizeAt, starts, entries}
-use Rattle.referral.specs.Found.{isInside}
+use Rattle.referral.specs.Code.{isInside}
 use Rattle.referral.proofs.EntryLaws.{starts-cons, starts-none, entries-start}
 use Rattle.namelists.specs.NameLists.{goodDomain, domainAt}
 use Rattle.namelists.proofs.SaysLaws.{left-fits, left-name, left-next}
 use Rattle.storing.specs.Stored.{once}
-use Rattle.domains.specs.Domains.{goodNameSpan}
-use Rattle.domains.specs.Gathering.{withName, shown, Fit, Added, WellFormed, Gathered}
+use Rattle.domains.specs.Code.{goodNameSpan, withName, shown, Fit, Added, WellFormed, Gathered}
 use Rattle.domains.specs.declared.Names.{Names}
 use Rattle.domains.proofs.OnceLaws.{unlike, once-start, once-step, once-all, once-full, none-kept}
 

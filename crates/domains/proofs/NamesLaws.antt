@@ -14,14 +14,15 @@ use Rattle.laws.proofs.Every.{every-at, every-take, every-append}
 use Rattle.laws.proofs.Filling.{filled-next, every-copies}
 use Rattle.laws.proofs.Pasting.{pasted-whole}
 use Rattle.unc.specs.Names.{goodName}
-use Rattle.places.specs.Layout.{placeCount, placeAt, changed, blank}
+use Rattle.places.specs.Layout.{placeCount, placeAt, blank}
+use Rattle.places.specs.Code.{changed}
 use Rattle.caches.specs.Entries.{Domain, Place, free, used}
 use Rattle.caches.specs.Order.{goodDomain, distinct}
 use Rattle.caches.specs.Memory.{domains, domainUnits, encode, pieceOf, goodPlace, keys, inOrder, rightSize}
 use Rattle.caches.proofs.MemoryLaws.{RightSize, size-told, good-cache, encoded-in-order, place-encode, count-encode, encode-set}
 use Rattle.caches.proofs.KindLaws.{good-domain, domains-lawful, name-short}
 use Rattle.caches.proofs.PlaceLaws.{hint-good}
-use Rattle.entries.specs.Writing.{addText, begun}
+use Rattle.entries.specs.Code.{addText, begun}
 use Rattle.entries.proofs.WritingLaws.{changed-same}
 use Rattle.entries.proofs.PieceLaws.{begun-written}
 use Rattle.storing.specs.Stored.{domainPlaces}

@@ -19,10 +19,9 @@ use Rattle.unc.specs.Names.{sameName}
 use Rattle.unc.proofs.NameLaws.{sameName-trans}
 use Rattle.caches.specs.Order.{distinct}
 use Rattle.storing.specs.Stored.{keepUnless, others, once}
-use Rattle.spans.specs.Spans.{spanned}
+use Rattle.spans.specs.Code.{spanned}
 use Rattle.spans.specs.declared.Span.{Span}
-use Rattle.domains.specs.Domains.{goodNameSpan}
-use Rattle.domains.specs.Gathering.{isNew, withName, shown, Fit, Added}
+use Rattle.domains.specs.Code.{goodNameSpan, isNew, withName, shown, Fit, Added}
 use Rattle.domains.specs.declared.Names.{Names}
 
 -- the names that are equal to none of those in ns

@@ -24,11 +24,11 @@ use Rattle.referral.specs.declared.Answer.{Answer}
 use Rattle.referral.specs.declared.Answer.the-variants.{Says}
 use Rattle.referral.proofs.Answer.{the-type}
 use Rattle.namelists.specs.NameLists.{readDomains, domainAt, goodDomain}
-use Rattle.namelists.specs.Found.{answerOf}
+use Rattle.namelists.specs.Code.{answerOf}
 use Rattle.namelists.proofs.SaysLaws.{SoundDomains, says-domains, domain-name-good}
 use Rattle.storing.specs.Stored.{once, domainPlaces}
-use Rattle.domains.specs.Domains.{domainsRefusal, goodSize, namesNumber, domainsNumber, namesIn, cacheAfter, domainsAfter}
-use Rattle.domains.specs.Gathering.{shown, WellFormed, Gathered}
+use Rattle.domains.specs.Code.{domainsRefusal, shown, WellFormed, Gathered}
+use Rattle.domains.specs.Domains.{goodSize, namesNumber, domainsNumber, namesIn, cacheAfter, domainsAfter}
 use Rattle.domains.specs.declared.Names.{Names}
 use Rattle.domains.proofs.OnceLaws.{once-every, once-distinct}
 use Rattle.domains.proofs.NamesLaws.{names-in-order}

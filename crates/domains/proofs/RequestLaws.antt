@@ -7,10 +7,11 @@ use lib.ListN.{length}
 use lib.Dec.{leb}
 use Rattle.laws.specs.Choice.{choose}
 use Rattle.referral.specs.Request.{request}
-use Rattle.referral.specs.Found.{asked}
+use Rattle.referral.specs.Code.{asked}
 use Rattle.referral.specs.declared.Asked.{Asked}
 use Rattle.referral.specs.declared.Asked.the-variants.{Bytes, TooShort}
-use Rattle.domains.specs.Domains.{askedNumber, requestNumber}
+use Rattle.domains.specs.Code.{askedNumber}
+use Rattle.domains.specs.Domains.{requestNumber}
 
 -- the number of what is answered
 pub asked-number : (room : ℕ) {v : Asked} → v ≡ asked room [] → askedNumber v ≡ requestNumber room

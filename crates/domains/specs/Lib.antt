@@ -1,3 +1,3 @@
 -- Document 01: DC and domain replies into the domain cache.
 pub mod Domains
-pub mod Gathering
+pub mod Code

@@ -8,11 +8,12 @@ use lib.ListN.{length, length-append}
 use borrow.Author.Tests.{leb-true}
 use Rattle.laws.specs.Lists.{every}
 use Rattle.laws.proofs.Choices.{and-left, and-right}
-use Rattle.places.specs.Layout.{written, flagUnit, putUnit, putText}
+use Rattle.places.specs.Layout.{written, flagUnit}
+use Rattle.places.specs.Code.{putUnit, putText}
 use Rattle.places.proofs.WrittenLaws.{Shaped}
 use Rattle.places.proofs.PutLaws.{put-text, put-mark, shape-text, shape-mark, blank-written}
 use Rattle.caches.specs.Entries.{Target}
-use Rattle.entries.specs.Writing.{addText, addTarget, addDc, addAll, begun}
+use Rattle.entries.specs.Code.{addText, addTarget, addDc, addAll, begun}
 use Rattle.entries.proofs.WritingLaws.{short, shortName}
 
 -- the paths of targets, and their boundaries as units

@@ -14,15 +14,16 @@ use Rattle.laws.proofs.Choices.{choose-yes, choose-no, and-left, and-right, and
 use Rattle.laws.proofs.Every.{every-drop, every-at}
 use Rattle.laws.proofs.Listed.{getD-map}
 use Rattle.laws.proofs.Pasting.{length-pasted, length-roomed}
-use Rattle.spans.specs.Spans.{spanned, Inside}
+use Rattle.spans.specs.Code.{spanned, Inside}
 use Rattle.spans.proofs.UnitLaws.{length-spanned}
 use Rattle.caches.specs.Entries.{Target}
 use Rattle.caches.proofs.MemoryLaws.{length-blank}
 use Rattle.referral.specs.declared.Kept.{Kept}
-use Rattle.places.specs.Layout.{placeCount, placeAt, changed, putUnit, putText, putSettings, flagUnit, wideUnits, blank}
+use Rattle.places.specs.Layout.{placeCount, placeAt, flagUnit, wideUnits, blank}
+use Rattle.places.specs.Code.{changed, putUnit, putText, putSettings}
 use Rattle.places.proofs.LayoutLaws.{length-place, changed-again, changed-none}
 use Rattle.places.proofs.WriterLaws.{length-putUnit, text-put}
-use Rattle.entries.specs.Writing.{addText, addTarget, addDc, addAll, begun, heldTarget, keptFits, settings}
+use Rattle.entries.specs.Code.{addText, addTarget, addDc, addAll, begun, heldTarget, keptFits, settings}
 
 pub flag-one : (b : Bool) → b ≡ true → 1 ≡ flagUnit b
 unfolding flagUnit

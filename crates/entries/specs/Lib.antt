@@ -1,2 +1,2 @@
 -- Writing an entry into its place.
-pub mod Writing
+pub mod Code

@@ -19,15 +19,14 @@ use Rattle.laws.proofs.Pasting.{length-part}
 use Rattle.laws.proofs.Parts.{part-cons, part-none}
 use Rattle.unc.specs.Names.{sameName}
 use Rattle.unc.proofs.NameLaws.{sameName-sym}
-use Rattle.spans.specs.Spans.{spanned, Inside}
-use Rattle.referral.specs.Found.{isInside, keptInside}
+use Rattle.spans.specs.Code.{spanned, Inside}
+use Rattle.referral.specs.Code.{isInside, keptInside}
 use Rattle.referral.specs.declared.Kept.{Kept}
 use Rattle.places.specs.Layout.{placeAt, textAt, listCount}
 use Rattle.caches.specs.Memory.{referralOf, targetOf}
-use Rattle.lookup.specs.Lookup.{entryAt}
-use Rattle.equivalence.specs.Equivalence.{sameTargets, paths, matched, isIn, without}
-use Rattle.equivalence.specs.Marking.{unmarked, firstPlace}
-use Rattle.equivalence.specs.Compared.{heldTargets, givenPath}
+use Rattle.lookup.specs.Code.{entryAt}
+use Rattle.equivalence.specs.Equivalence.{sameTargets, paths}
+use Rattle.equivalence.specs.Code.{matched, isIn, without, unmarked, firstPlace, heldTargets, givenPath}
 use Rattle.equivalence.proofs.EquivalenceLaws.{matched-same, same-unlike}
 use Rattle.equivalence.proofs.MarkingLaws.{place-within, taken, missing}
 

@@ -14,7 +14,8 @@ use Rattle.laws.proofs.Choices.{choose-yes, choose-no, and-left, and-right, and
 use Rattle.laws.proofs.Orders.{told, lt-or-le}
 use Rattle.unc.specs.Names.{sameName}
 use Rattle.unc.proofs.NameLaws.{sameName-refl, sameName-sym, sameName-trans}
-use Rattle.equivalence.specs.Equivalence.{timesIn, sameTargets, isIn, without, matched}
+use Rattle.equivalence.specs.Equivalence.{timesIn, sameTargets}
+use Rattle.equivalence.specs.Code.{isIn, without, matched}
 
 -- one more or not
 one : List ℕ → List ℕ → ℕ

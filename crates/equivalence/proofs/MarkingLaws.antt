@@ -10,8 +10,7 @@ use Rattle.laws.specs.Choice.{choose}
 use Rattle.laws.proofs.Choices.{choose-yes, choose-no}
 use Rattle.laws.proofs.Orders.{told}
 use Rattle.unc.specs.Names.{sameName}
-use Rattle.equivalence.specs.Equivalence.{isIn, without}
-use Rattle.equivalence.specs.Marking.{unmarked, firstPlace}
+use Rattle.equivalence.specs.Code.{isIn, without, unmarked, firstPlace}
 
 -- the ways of `unmarked` and `firstPlace` over as many marks as names
 module _ (x y : List ℕ) (ms : List Bool) (ys : List (List ℕ)) where

@@ -19,14 +19,14 @@ use Rattle.laws.proofs.Maps.{map-drop, map-take, map-part}
 use Rattle.laws.proofs.Orders.{told, lt-or-le}
 use Rattle.laws.proofs.Parts.{part-cons, part-part, part-whole}
 use Rattle.laws.proofs.Listed.{getD-map, length-listed, getD-listed, map-listed}
-use Rattle.referral.specs.Found.{targetShown}
+use Rattle.referral.specs.Code.{targetShown}
 use Rattle.referral.specs.declared.Kept.{Kept}
 use Rattle.places.specs.Layout.{placeAt, unitAt, flagAt, listCount}
 use Rattle.caches.specs.Entries.{Target}
 use Rattle.caches.specs.Memory.{referralOf, targetOf}
-use Rattle.lookup.specs.Lookup.{entryAt}
+use Rattle.lookup.specs.Code.{entryAt}
 use Rattle.equivalence.specs.Equivalence.{sameTargets, paths, joinSet, nextOpens, sets, sameSets, equivalent}
-use Rattle.equivalence.specs.Compared.{heldTargets, givenPath, givenTargets, boundaries, givenBoundaries, beforeBoundary, setEnd}
+use Rattle.equivalence.specs.Code.{heldTargets, givenPath, givenTargets, boundaries, givenBoundaries, beforeBoundary, setEnd}
 
 first-part : {A : Type 0} (n : ℕ) (xs : List A) → take n xs ≡ part 0 n xs
 unfolding part

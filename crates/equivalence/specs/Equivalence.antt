@@ -1,6 +1,6 @@
 -- When two target lists are equivalent: source document 001, "The equivalence check operation".
 use Prim.Native.Nat.{ℕ, _+_}
-use mathlib.Core.Bool.{Bool, true, false, _&&_, _||_}
+use mathlib.Core.Bool.{Bool, true, false, _&&_}
 use mathlib.Core.List.{List, [], _∷_, _++_, map}
 use lib.Dec.{eqb}
 use Rattle.laws.specs.Choice.{choose}
@@ -44,17 +44,3 @@ sameSets (s ∷ ss) (t ∷ ts) = sameTargets s t && sameSets ss ts
 -- a reply of version 4: as many sets, and each holds the same targets; of another version: the same targets, without regard to sets
 unfoldable pub equivalent : ℕ → List Target → List Target → Bool
 equivalent version held given = choose (eqb version 4) (sameSets (sets held) (sets given)) (sameTargets (paths held) (paths given))
-
--- Matching one target at a time: each of the first list is equal to one of the second that was not taken before.
-unfoldable pub isIn : List ℕ → List (List ℕ) → Bool
-isIn x [] = false
-isIn x (y ∷ ys) = sameName x y || isIn x ys
-
--- the list without the first that is equal to x
-unfoldable pub without : List ℕ → List (List ℕ) → List (List ℕ)
-without x [] = []
-without x (y ∷ ys) = choose (sameName x y) ys (y ∷ without x ys)
-
-unfoldable pub matched : List (List ℕ) → List (List ℕ) → Bool
-matched [] ys = true
-matched (x ∷ xs) ys = isIn x ys && matched xs (without x ys)

@@ -6,12 +6,12 @@ ghost use Prim.Native.Nat.{_-_, _≤_, _<_};
 ghost use lib.ListN.{take};
 ghost use Rattle.laws.specs.Lists.{every, part};
 ghost use Rattle.unc.specs.Names.{sameName};
-ghost use Rattle.spans.specs.Spans.{Inside};
-ghost use Rattle.referral.specs.Found.{keptInside};
+ghost use Rattle.spans.specs.Code.{Inside};
+ghost use Rattle.referral.specs.Code.{keptInside};
 ghost use Rattle.places.specs.Layout.{placeCount, placeAt, listCount};
-ghost use Rattle.equivalence.specs.Equivalence.{sameTargets, paths, sets, sameSets, equivalent, matched};
-ghost use Rattle.equivalence.specs.Marking.{unmarked, firstPlace};
-ghost use Rattle.equivalence.specs.Compared.{heldTargets, givenPath, givenTargets, boundaries, givenBoundaries, setEnd};
+ghost use Rattle.equivalence.specs.Equivalence.{sameTargets, paths, sets, sameSets, equivalent};
+ghost use Rattle.equivalence.specs.Code.{matched, unmarked, firstPlace};
+ghost use Rattle.equivalence.specs.Code.{heldTargets, givenPath, givenTargets, boundaries, givenBoundaries, setEnd};
 use referral::Kept;
 
 // The most targets of an entry.

@@ -14,8 +14,9 @@ use Rattle.laws.proofs.Choices.{choose-yes, choose-no}
 use Rattle.laws.proofs.Orders.{told}
 use Rattle.unc.specs.Paths.{components, firstOf, matches}
 use Rattle.unc.proofs.PieceLaws.{spans}
-use Rattle.texts.specs.Texts.{Standing, textsOf}
-use Rattle.spans.specs.Spans.{spanned}
+use Rattle.texts.specs.Code.{Standing}
+use Rattle.texts.specs.Texts.{textsOf}
+use Rattle.spans.specs.Code.{spanned}
 use Rattle.spans.proofs.UnitLaws.{length-spanned}
 use Rattle.caches.specs.Entries.{Referral}
 use Rattle.caches.specs.Memory.{Kind, referrals, domains, decode, encode, inOrder}
@@ -25,30 +26,31 @@ use Rattle.lookup.specs.declared.Found.{Found}
 use Rattle.lookup.specs.declared.Found.the-variants.{At, Nothing}
 use Rattle.referral.specs.Replies as replies
 use Rattle.referral.specs.Replies.{readReferral}
-use Rattle.referral.specs.Found.{ReferralInside, referralShown, replyOf, denoted}
+use Rattle.referral.specs.Code.{ReferralInside, referralShown, replyOf, denoted}
 use Rattle.referral.specs.declared.ReferralFound.{ReferralFound}
 use Rattle.referral.specs.declared.Answer.{Answer}
 use Rattle.referral.specs.declared.Answer.the-variants as answer
 use Rattle.namelists.specs.NameLists.{readDcs}
 use Rattle.storing.specs.Stored.{isInterlink, stored, storedEntry, prefixed}
 use Rattle.steps.specs.Steps.{Caches, Core, Question, Called, ends, Turn, turned, withHit, withDomains, withReferrals, emptyEnd, coversNothing, step3, step4, step7, step8, step11, afterStore, storedTurn, hintSet, dcHintSet, targetHintSet, dcsIn, dcAnswer, referralAnswer, referralSucceeds, referralAnswered, referralFails, nameAsked, severity, inUse, pathNotFound, pathNotCovered}
-use Rattle.steps.specs.Rested.{cachesOf, coreOf, endedAt, restedOf}
+use Rattle.steps.specs.Held.{cachesOf, coreOf, questionOf}
+use Rattle.steps.specs.Code.{endedAt, restedOf}
 use Rattle.steps.specs.declared.Kind.{Kind as Kinds}
 use Rattle.steps.specs.declared.Kind.the-variants.{Dc, Root, Link, Sysvol, Io}
 use Rattle.steps.specs.declared.End.{End}
 use Rattle.steps.specs.declared.End.the-variants as end
 use Rattle.steps.specs.declared.Asking.{Asking}
 use Rattle.steps.specs.declared.Rested.{Rested}
-use Rattle.moves.specs.Moves.{Packed, joined, packed, Ready}
+use Rattle.moves.specs.Code.{Packed, joined, packed, Ready}
 use Rattle.moves.proofs.MoveLaws.{packed-end, standing-long, standing-path}
 use Rattle.questions.specs.Questions.{restFits}
-use Rattle.rounds.specs.Rounds.{questionOf, failureRests, domainThere}
+use Rattle.rounds.specs.Code.{failureRests, domainThere}
 use Rattle.rounds.proofs.RoundLaws.{place-named, there-gone, in-use-same, in-use-dc}
 use Rattle.rounds.proofs.QuietLaws.{quiet-goes, quiet-fails, untried-fails, rests-core}
-use Rattle.answers.specs.Answers.{domainsLeft}
+use Rattle.answers.specs.Code.{domainsLeft}
 use Rattle.answers.proofs.AnswerLaws.{goes-stops}
-use Rattle.hints.specs.Hints.{referralsLeft, Answering}
-use Rattle.events.specs.Events.{Using, NameInPath}
+use Rattle.hints.specs.Code.{referralsLeft, Answering}
+use Rattle.events.specs.Code.{Using, NameInPath}
 use Rattle.events.proofs.SaidLaws.{first-whole, said-storable, said-matches}
 
 -- an equal turn

@@ -15,21 +15,21 @@ use Rattle.unc.specs.Names.{sameName}
 use Rattle.unc.specs.Paths.{matches, firstOf}
 use Rattle.unc.proofs.PieceLaws.{parts, spans, first-hit, first-miss, first-over}
 use Rattle.unc.proofs.MatchLaws.{atEnd, matches-units, matches-within}
-use Rattle.spans.specs.Spans.{spanned}
+use Rattle.spans.specs.Code.{spanned}
 use Rattle.spans.proofs.UnitLaws.{length-spanned}
 use Rattle.caches.specs.Entries.{Target}
 use Rattle.caches.specs.Order.{goodPrefix, goodTarget, firstOpensNone, goodReferral}
 use Rattle.caches.proofs.KindLaws.{prefix-short, good-referral}
 use Rattle.referral.specs.Replies as replies
 use Rattle.referral.specs.Replies.{entries, prefixAt, targetAt, isRead, goodFields, goodEntry, laterTarget, keptTargets, referralIn, readReferral, says}
-use Rattle.referral.specs.Found.{ReferralInside, keptInside, isInside, targetShown, referralShown, denoted}
+use Rattle.referral.specs.Code.{ReferralInside, keptInside, isInside, targetShown, referralShown, denoted}
 use Rattle.referral.specs.declared.Kept.{Kept}
 use Rattle.referral.specs.declared.ReferralFound.{ReferralFound}
 use Rattle.referral.specs.declared.Answer.the-variants.{Says}
 use Rattle.referral.proofs.SaysLaws.{Read, read-says, path-normal, Sound, says-sound, denoted-says}
-use Rattle.entries.specs.Writing.{keptFits}
+use Rattle.entries.specs.Code.{keptFits}
 use Rattle.storing.specs.Stored.{targetsIn, fresh}
-use Rattle.storing.specs.Writing.{Storable}
+use Rattle.storing.specs.Code.{Storable}
 
 ended-nil : (n : ℕ) → atEnd (drop n []) ≡ true
 unfolding atEnd

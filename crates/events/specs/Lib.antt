@@ -1,2 +1,2 @@
 -- The answer to a referral request.
-pub mod Events
+pub mod Code

@@ -18,9 +18,9 @@ use Rattle.caches.specs.Order.{goodPrefix, goodTarget, goodReferral, firstOpens
 use Rattle.lookup.specs.Lookup.{longerMatch, prefixUnits, longestFrom, longestMatch, age, expired, targetPath}
 use Rattle.storing.specs.Stored.{heldAt, held}
 use Rattle.steps.specs.Steps.{Caches, Core, Called, replaces, Turn, started, fromStep2, withHit, withPath, step2, step2With, step4, step7, step11, longest, hitAt, isThere}
-use Rattle.steps.specs.Rested.{cachesOf, coreOf}
+use Rattle.steps.specs.Held.{cachesOf, coreOf}
 use Rattle.domains.specs.Domains.{goodSize}
-use Rattle.keeps.specs.Keeps.{GoodCaches}
+use Rattle.keeps.specs.Code.{GoodCaches}
 use Rattle.keeps.proofs.BackLaws.{caches-back, caches-order}
 use Rattle.limits.specs.Unlimited.{Move, replacement, Makes, here, goes-on, callsOne, CallsForMore, CallsFor, opens, madeIn}
 use Rattle.limits.specs.Calls.{start, startOpening, to-start, clockOf}

@@ -20,18 +20,17 @@ use Rattle.caches.specs.Memory.{targetOf, referralOf, referralSettings, referra
 use Rattle.lookup.specs.Lookup.{longerMatch, prefixUnits, longestFrom, longestMatch, hasKey, withKeyFrom, withKey, age, expired, targetPath}
 use Rattle.spans.specs.Bytes as bytes
 use Rattle.referral.specs.Request.{bytesOf, request}
-use Rattle.referral.specs.Found.{bufferWith}
+use Rattle.referral.specs.Request.{bufferWith}
 use Rattle.referral.specs.Replies as replies
 use Rattle.storing.specs.Stored.{heldAt, held, prefixed}
 use Rattle.steps.specs.Steps as steps
-use Rattle.steps.specs.Rested.{cachesOf, askingOf, nextOf, triedOf}
-use Rattle.rounds.specs.Rounds.{questionOf}
+use Rattle.steps.specs.Held.{cachesOf, askingOf, nextOf, triedOf, questionOf}
 use Rattle.questions.specs.Questions.{requestName, nameFits, restFits, withRequest, outAfter}
 use Rattle.texts.specs.Texts.{textsOf}
 use Rattle.domains.specs.Domains.{goodSize}
 use Rattle.walks.specs.Walks.{lent, pathIn, triedIn, bootIn, goodLimit, goodSettings, namesDomain, namesPrefix, noParty, oneParty, askedInForm, hasTried, endTried, goodTried, endStatus, nextInForm, inForm, walkOf, textsAfter}
 use Rattle.closing.specs.Closing.{closes}
-use Rattle.turns.specs.Turns.{coreIn}
+use Rattle.walks.specs.Walks.{coreIn}
 use Rattle.resolve.specs.Calls.{refusalNumber, startRest, startCall, restAt, restIn, referralEvent, answers, answerCall, referralCall}
 use Rattle.limits.specs.Unlimited.{madeIn}
 use Rattle.limits.specs.Calls.{start, answered, run}

@@ -15,7 +15,8 @@ use Rattle.laws.specs.Lists.{every}
 use Rattle.laws.proofs.Choices.{and-both, and-left, and-right}
 use Rattle.laws.proofs.Every.{every-at}
 use Rattle.laws.proofs.Orders.{lt-or-le}
-use Rattle.places.specs.Layout.{placeCount, changed, flagUnit, putUnit, putSettings, written, blank}
+use Rattle.places.specs.Layout.{placeCount, flagUnit, written, blank}
+use Rattle.places.specs.Code.{changed, putUnit, putSettings}
 use Rattle.places.proofs.LayoutLaws.{changed-step}
 use Rattle.places.proofs.WrittenLaws.{Shaped, length-written}
 use Rattle.places.proofs.PutLaws.{put-settings, put-hint}
@@ -25,7 +26,7 @@ use Rattle.caches.specs.Memory.{referralSettings, referralUnits}
 use Rattle.caches.proofs.KindLaws.{GoodReferral, referral-told, referral-shape, prefix-short}
 use Rattle.caches.proofs.MemoryLaws.{length-blank}
 use Rattle.spelling.specs.Spelling.{decimalIn, decimal}
-use Rattle.entries.specs.Writing.{addText, addTarget, addAll, begun, settings}
+use Rattle.entries.specs.Code.{addText, addTarget, addAll, begun, settings}
 use Rattle.entries.proofs.WritingLaws.{Keeps, short, keeps-pasted, keeps-unit, keeps-target, then-changed, all-more, all-done}
 use Rattle.entries.proofs.PieceLaws.{targets-written, key-shape, begun-written}
 use Rattle.listing.specs.Form.{prefixKey, kindKey, interlinkKey, failbackKey, ttlKey, takenKey, hintKey, targetKey, kindWord, pathLine, numberLine, ended, linesText, targetLines, settingLines, countLines, entryLines, entryText, listing}
@@ -34,7 +35,8 @@ use Rattle.reading.specs.Entries.{entrySaid, entriesSaid}
 use Rattle.reading.specs.Read.{listable, isListing}
 use Rattle.reading.proofs.SaidLaws.{Listable, listable-told, listing-sound}
 use Rattle.filling.specs.declared.Read.{Read}
-use Rattle.filling.specs.Filling.{saidAt, restAfter, LinesAt, valueAt, NumberAt, NumberRead, PathAt, PathRead, TargetRead, TargetsRead, settled, SettingsRead, EntryRead}
+use Rattle.filling.specs.Code.{saidAt, restAfter, valueAt, NumberAt, NumberRead, PathAt, PathRead, TargetRead, TargetsRead, settled, SettingsRead, EntryRead}
+use Rattle.filling.specs.Filling.{LinesAt}
 use Rattle.filling.proofs.LineLaws.{prefix-later, target-later, ttl-later, taken-later, hint-later, line-passed, first-line, number-there, number-says, path-says, path-there}
 
 -- an entry of a listing is one that a listing can say

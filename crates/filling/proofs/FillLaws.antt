@@ -14,7 +14,8 @@ use Rattle.laws.proofs.Choices.{and-left, and-right}
 use Rattle.laws.proofs.Every.{every-drop, every-at}
 use Rattle.laws.proofs.Orders.{lt-or-le}
 use Rattle.laws.proofs.Pasting.{pasted-join, pasted-whole}
-use Rattle.places.specs.Layout.{placeCount, changed, blank}
+use Rattle.places.specs.Layout.{placeCount, blank}
+use Rattle.places.specs.Code.{changed}
 use Rattle.caches.specs.Entries.{Referral, free, used}
 use Rattle.caches.specs.Memory.{referrals, referralUnits, rightSize, pieceOf, encode}
 use Rattle.caches.proofs.KindLaws.{referrals-lawful}
@@ -23,7 +24,8 @@ use Rattle.listing.specs.Form.{pathLine, ended, linesText, settingLines, entryL
 use Rattle.reading.specs.Entries.{entrySaid, entriesSaid}
 use Rattle.reading.specs.Read.{listable, isListing, placed}
 use Rattle.reading.proofs.SaidLaws.{listable-told, listing-sound}
-use Rattle.filling.specs.Filling.{saidAt, restAfter, LinesAt, EntryRead}
+use Rattle.filling.specs.Code.{saidAt, restAfter, EntryRead}
+use Rattle.filling.specs.Filling.{LinesAt}
 
 -- the units of the places: first an entry's, then the rest
 entry-first : (n : ℕ) (e : Referral) (es : List Referral) → encode referrals (placed n (e ∷ es)) ≡ referralUnits e ++ encode referrals (placed (n - 1) es)

@@ -19,15 +19,15 @@ use Rattle.caches.specs.Entries.{Referral}
 use Rattle.spelling.specs.Spelling.{spelled, decimal}
 use Rattle.listing.specs.Form.{prefixKey, ttlKey, takenKey, hintKey, targetKey, pathLine, numberLine, ended, linesText, targetLines, settingLines, countLines, entryLines}
 use Rattle.lines.specs.Lines.{lineLength}
-use Rattle.unspelling.specs.Reading.{unit, unspelled, isSpelled, decimalOf, isDecimal}
+use Rattle.unspelling.specs.Reading.{unit, unspelled, isSpelled, decimalOf}
+use Rattle.unspelling.specs.Code.{isDecimal, decimalForm}
 use Rattle.unspelling.proofs.UnspelledLaws.{unspelled-spelled}
 use Rattle.unspelling.proofs.NumberLaws.{decimal-says}
 use Rattle.reading.specs.Entries.{onFirst, linesOf}
 use Rattle.reading.proofs.LineLaws.{later, line-cut, entry-later}
-use Rattle.unspelling.specs.Reading.{decimalForm}
 use Rattle.unspelling.specs.declared.Number.{Number}
 use Rattle.unspelling.specs.declared.Number.the-variants.{None, Value}
-use Rattle.filling.specs.Filling.{valueAt, NumberAt, PathAt}
+use Rattle.filling.specs.Code.{valueAt, NumberAt, PathAt}
 
 -- the first line of a text
 first-length : (u : ℕ) (ls : List (List ℕ)) → length (getD (onFirst u ls) 0 []) ≡ suc (length (getD ls 0 []))

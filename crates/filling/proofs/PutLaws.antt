@@ -8,13 +8,13 @@ use Rattle.laws.specs.Choice.{choose}
 use Rattle.laws.specs.Lists.{pasted, roomed}
 use Rattle.laws.proofs.Orders.{Lies, low, within, high, lies}
 use Rattle.laws.proofs.Pasting.{length-pasted, getD-pasted-low, getD-pasted-in, getD-pasted-high, by-parts, pasted-room, length-roomed}
-use Rattle.places.specs.Layout.{placeCount, changed, putUnit, flagUnit}
+use Rattle.places.specs.Layout.{placeCount, flagUnit}
+use Rattle.places.specs.Code.{changed, putUnit}
 use Rattle.spelling.specs.Spelling.{Put}
-use Rattle.entries.specs.Writing.{addText}
-use Rattle.entries.specs.Writing.{addTarget}
+use Rattle.entries.specs.Code.{addText, addTarget}
 use Rattle.entries.proofs.WritingLaws.{text-added, then-changed, keeps-added, keeps-unit}
 use Rattle.unspelling.specs.Reading.{unspelled}
-use Rattle.filling.specs.Filling.{valueAt, PathAt, PathRead, TargetRead}
+use Rattle.filling.specs.Code.{valueAt, PathAt, PathRead, TargetRead}
 
 -- two pieces that do not touch, in either order
 pasted-swap : (d : List ℕ) (a : ℕ) (p : List ℕ) (b : ℕ) (q : List ℕ) → a + length p ≤ b → b + length q ≤ length d

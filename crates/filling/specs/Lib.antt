@@ -1,2 +1,2 @@
 -- Reading a listing into a cache.
-pub mod Filling
+pub mod Code

@@ -3,7 +3,8 @@ ghost use mathlib.Core.Path.{_≡_};
 ghost use Prim.Native.Nat.{_+_, _≤_};
 ghost use lib.ListN.{length, drop};
 ghost use Rattle.laws.specs.Lists.{roomed};
-ghost use Rattle.unc.specs.Paths.{goodCount, leads, withoutTrail, normalised, formWithin, roomAfter, normalisedCount};
+ghost use Rattle.unc.specs.Code.{goodCount, formWithin, roomAfter};
+ghost use Rattle.unc.specs.Paths.{leads, withoutTrail, normalised, normalisedCount};
 use unc::Form;
 
 const BACKSLASH: u16 = 92;

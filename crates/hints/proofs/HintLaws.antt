@@ -18,7 +18,8 @@ use Rattle.caches.specs.Memory.{Kind, referrals, domains, decode, encode, inOrd
 use Rattle.caches.proofs.MemoryLaws.{Lawful, cache-told, order-good, length-decode, encode-decode, decode-encode}
 use Rattle.caches.proofs.KindLaws.{referrals-lawful, domains-lawful, referral-told, GoodDomain, domain-told, good-domain}
 use Rattle.caches.proofs.PlaceLaws.{hint-good}
-use Rattle.lookup.specs.Lookup.{entryAt, onEntry, targetHintTo, dcHintTo, targetHinted, dcHinted}
+use Rattle.lookup.specs.Code.{entryAt}
+use Rattle.lookup.specs.Lookup.{onEntry, targetHintTo, dcHintTo, targetHinted, dcHinted}
 use Rattle.lookup.proofs.EntryLaws.{count-targets, count-dcs, entry-here, entry-well, target-hint-good, target-hint-order, dc-hint-order}
 use Rattle.steps.proofs.HeldLaws.{used-fits, used-is}
 

@@ -18,28 +18,30 @@ use Rattle.caches.specs.Entries.{Referral}
 use Rattle.caches.specs.Memory.{referrals, domains, decode, encode, inOrder}
 use Rattle.caches.proofs.MemoryLaws.{encode-decode}
 use Rattle.caches.proofs.KindLaws.{prefix-short}
-use Rattle.lookup.specs.Lookup.{withKey, entryAt, targetHinted, dcHinted}
+use Rattle.lookup.specs.Lookup.{withKey, targetHinted, dcHinted}
+use Rattle.lookup.specs.Code.{entryAt}
 use Rattle.lookup.specs.declared.Found.{Found}
 use Rattle.lookup.specs.declared.Found.the-variants.{At, Nothing}
 use Rattle.referral.specs.Replies as replies
-use Rattle.referral.specs.Found.{referralShown}
+use Rattle.referral.specs.Code.{referralShown}
 use Rattle.referral.specs.declared.ReferralFound.{ReferralFound}
 use Rattle.storing.specs.Stored.{isInterlink, stored, storedEntry, prefixed}
 use Rattle.steps.specs.Steps.{Caches, Core, Question, goes, turned, withHit, withReferrals, withDomains, afterStore, storedTurn, targetHintSet, dcHintSet, hintSet, inUse}
-use Rattle.steps.specs.Rested.{cachesOf, coreOf}
+use Rattle.steps.specs.Held.{cachesOf, coreOf, questionOf}
 use Rattle.steps.specs.declared.Kind.{Kind}
 use Rattle.steps.specs.declared.Kind.the-variants.{Dc, Root, Link, Sysvol, Io}
 use Rattle.steps.specs.declared.Asking.{Asking}
 use Rattle.steps.specs.declared.Rested.{Rested}
-use Rattle.moves.specs.Moves.{Packed, joined, packed}
+use Rattle.moves.specs.Code.{Packed, joined, packed}
 use Rattle.moves.proofs.MoveLaws.{standing-long}
-use Rattle.questions.specs.Questions.{restFits, nameFits, nextUnits, named}
-use Rattle.rounds.specs.Rounds.{questionOf, targetsUnder, dcsNamed, inRound}
+use Rattle.questions.specs.Questions.{restFits, nameFits}
+use Rattle.questions.specs.Code.{nextUnits, named}
+use Rattle.rounds.specs.Code.{targetsUnder, dcsNamed, inRound}
 use Rattle.rounds.proofs.RoundLaws.{place-named, dcs-fit, dcs-held, targets-fit, targets-held, in-use-root, in-use-link, in-use-sysvol, in-use-io}
-use Rattle.answers.specs.Answers.{domainsLeft}
+use Rattle.answers.specs.Code.{domainsLeft}
 use Rattle.answers.proofs.RestLaws.{kept-goes, rest-path, rest-tested}
-use Rattle.stores.specs.Stores.{calledAfter, storedRest, storedLeft}
-use Rattle.hints.specs.Hints.{referralsLeft, isForSysvol, Storing}
+use Rattle.stores.specs.Code.{calledAfter, storedRest, storedLeft}
+use Rattle.hints.specs.Code.{referralsLeft, isForSysvol, Storing}
 use Rattle.hints.proofs.HintLaws.{target-held, target-order, target-fits, target-below, target-back, dc-held, dc-order, dc-fits, dc-below, dc-back}
 
 -- the header alone tells an Interlink

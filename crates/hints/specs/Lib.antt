@@ -1,2 +1,2 @@
 -- The hint of the party that answered, and its reply stored.
-pub mod Hints
+pub mod Code

@@ -20,25 +20,28 @@ use Rattle.unc.specs.Paths.{goodPath, normalised, pathUnits}
 use Rattle.caches.specs.Memory.{referrals, domains, inOrder}
 use Rattle.referral.specs.declared.Asked.{Asked}
 use Rattle.referral.specs.declared.Asked.the-variants.{Bytes, TooShort}
-use Rattle.domains.specs.Domains as dom
+use Rattle.domains.specs.Code as dom
 use Rattle.walks.specs.Walks.{goodLimit, goodSettings, lent, inForm, pathIn, triedIn, bootIn}
 use Rattle.walks.specs.declared.Walk.{Walk}
 use Rattle.walks.proofs.FormLaws.{form-told}
 use Rattle.steps.specs.Steps.{Turn}
-use Rattle.steps.specs.Rested.{cachesOf}
-use Rattle.turns.specs.Turns.{coreIn}
+use Rattle.steps.specs.Held.{cachesOf}
+use Rattle.walks.specs.Walks.{coreIn}
 use Rattle.packing.specs.Packing.{packedWalk, unpacked}
 use Rattle.packing.specs.declared.Unpacked.{Unpacked}
 use Rattle.packing.specs.declared.Unpacked.the-variants.{Held, NotOfForm}
 use Rattle.packing.proofs.PackLaws.{length-packed}
-use Rattle.closing.specs.Closing.{Left, left, refused, closes}
-use Rattle.resolve.specs.Calls.{Answered, answered, refusedAnswer, refusalNumber, startCall, startRest, answerCall, answers, restIn, referralEvent, ioEvent, referralCall, ioCall}
+use Rattle.closing.specs.Closing.{Left, refused, closes}
+use Rattle.closing.specs.Code.{left}
+use Rattle.resolve.specs.Calls.{Answered, refusedAnswer, refusalNumber, startCall, startRest, answerCall, answers, restIn, referralEvent, ioEvent, referralCall, ioCall}
+use Rattle.resolve.specs.Code.{answered}
 use Rattle.closing.specs.declared.Outcome.{Outcome}
 use Rattle.closing.specs.declared.Verdict.{Verdict}
 use Rattle.closing.specs.declared.Verdict.the-variants.{Taken, BadPath, LongPath, BadSettings, NotInOrder, OutOfForm, ShortBuffer}
 use Rattle.shown.specs.Shown.{Given, given, partyCall, nameCall, pathCall, questionCall, endCall}
 use Rattle.shown.specs.declared.Shown.{Shown}
-use Rattle.holding.specs.Units.{noWalk, heldIn, walkIn, unitsLeft, headAfter, closedUnits, inUnits, startUnits, answerLeft, answerInUnits, referralAnswerUnits, ioAnswerUnits, shownResult, seen, asSeen, partySeen, nameSeen, questionSeen, pathSeen, endSeen}
+use Rattle.holding.specs.Units.{noWalk, heldIn, walkIn, unitsLeft, headAfter, inUnits, startUnits, answerLeft, answerInUnits, referralAnswerUnits, ioAnswerUnits, shownResult, seen, asSeen, partySeen, nameSeen, questionSeen, pathSeen, endSeen}
+use Rattle.holding.specs.Code.{closedUnits}
 
 -- the packed form and the texts, as parts of the units that are there
 module _ (units : List ℕ) {n : ℕ} (e : n ≡ min 32 (length units)) where

@@ -1,16 +1,11 @@
--- `dfsc_list` and `dfsc_read`: the answers of listing and of reading as numbers.
+-- `dfsc_list`: its answer as a number.
 use Prim.Native.Nat.{ℕ, _*_}
 use Rattle.listing.specs.Listed as lst
 use Rattle.listing.specs.declared.Answer.{Answer}
 use Rattle.listing.specs.declared.Answer.the-variants.{NotInOrder, TooShort, Units}
-use Rattle.loading.specs.Loaded as red
-use Rattle.loading.specs.declared.Loaded.{Loaded}
 
 -- the units of the text, or 2^32 times the number of the refusal
 unfoldable pub listResult : Answer → ℕ
 listResult (Units n) = n
 listResult NotInOrder = 4294967296 * lst.listRefusal NotInOrder
 listResult TooShort = 4294967296 * lst.listRefusal TooShort
-
-abbrev pub readRefusal : Loaded → ℕ
-readRefusal answer = red.loadRefusal answer

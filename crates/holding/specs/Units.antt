@@ -6,7 +6,6 @@ use mathlib.Core.List.{List, _++_}
 use lib.ListN.{take, drop}
 use lib.Dec.{eqb}
 use Rattle.laws.specs.Choice.{choose}
-use Rattle.laws.specs.Lists.{pasted}
 use Rattle.steps.specs.declared.End.the-variants.{Gone}
 use Rattle.steps.specs.declared.Next.the-variants.{Ends}
 use Rattle.walks.specs.declared.Walk.{Walk}
@@ -46,10 +45,6 @@ unitsLeft number walk out = record { number = number; walk = walk; out = out }
 -- the packed form is written where the call is taken, and stays where it is refused
 unfoldable pub headAfter : ℕ → Walk → List ℕ → List ℕ
 headAfter number w units = choose (eqb number 0) (packedWalk w) (take 32 units)
-
--- the same, as the units are written
-unfoldable pub closedUnits : ℕ → Walk → List ℕ → List ℕ
-closedUnits number w units = choose (eqb number 0) (pasted units 0 (packedWalk w)) units
 
 unfoldable pub inUnits : List ℕ → Left → UnitsLeft
 inUnits units l =

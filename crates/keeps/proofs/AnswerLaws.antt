@@ -29,7 +29,7 @@ use Rattle.namelists.proofs.SaysLaws.{says-dcs}
 use Rattle.storing.specs.Stored.{fresh, prefixed, isInterlink}
 use Rattle.steps.specs.Steps.{Caches, Core, Question, Called, ends, Turn, waits, withHit, withReferrals, nameAsked, inUse, referralInUse, nextPlace, onward, doubled, failedHost, failed, referralFails, hintSet, emptyEnd, dcsIn, dcAnswer, coversNothing, storedTurn, referralAnswer, referralSucceeds, referralAnswered, ioFails, ioWith, ioAnswered, severity, isOneOf, nextTargetStatuses, step6, step8, linkRequest}
 use Rattle.steps.specs.Steps.{bufferOverflow, pathNotFound, pathNotCovered, mostSize}
-use Rattle.steps.specs.Rested.{askingOf, nextOf, triedOf}
+use Rattle.steps.specs.Held.{askingOf, nextOf, triedOf}
 use Rattle.steps.specs.declared.Kind.{Kind}
 use Rattle.steps.specs.declared.Kind.the-variants.{Dc, Root, Link, Sysvol, Io}
 use Rattle.steps.specs.declared.End.the-variants.{NoDc, Failed, Gone}
@@ -37,7 +37,7 @@ use Rattle.steps.specs.declared.Asking.{Asking}
 use Rattle.moves.proofs.MoveLaws.{matches-same}
 use Rattle.walks.specs.Walks.{namesDomain, namesPrefix, noParty, oneParty, askedInForm, hasTried}
 use Rattle.walks.proofs.FormLaws.{Waiting, waiting-told, request-size, io-named, io-count}
-use Rattle.keeps.specs.Keeps.{GoodCaches, Proper}
+use Rattle.keeps.specs.Code.{GoodCaches, Proper}
 use Rattle.keeps.proofs.PrefixLaws.{first-matches, matches-trans}
 use Rattle.keeps.proofs.CacheLaws.{Equal, prefixed-or, reply-good, stored-well, stored-kept}
 use Rattle.keeps.proofs.CalledLaws.{Asked, Well, chosen, well-gone, well-malformed, well-failed, well-no-dc, well-not-dfs, well-done, well-asks, asked-root, asked-link, asked-io, asked-step5, well-stored}

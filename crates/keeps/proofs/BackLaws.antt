@@ -13,16 +13,15 @@ use Rattle.caches.proofs.MemoryLaws.{cache-told, order-good, decode-encode, enc
 use Rattle.caches.proofs.KindLaws.{referrals-lawful, domains-lawful}
 use Rattle.domains.specs.Domains.{goodSize}
 use Rattle.steps.specs.Steps.{Caches, Rest, waits, ended, Resting}
-use Rattle.steps.specs.Rested.{cachesOf, coreOf, askingOf, nextOf, triedOf}
+use Rattle.steps.specs.Held.{cachesOf, coreOf, askingOf, nextOf, triedOf, questionOf}
 use Rattle.steps.specs.declared.Next.{Next}
 use Rattle.steps.specs.declared.Next.the-variants.{Asks, Ends}
-use Rattle.rounds.specs.Rounds.{questionOf}
 use Rattle.walks.specs.Walks.{goodLimit, goodSettings, pathIn, triedIn, bootIn, nextInForm, inForm, walkOf, textsAfter}
 use Rattle.walks.specs.declared.Walk.{Walk}
 use Rattle.walks.proofs.FormLaws.{Formed, form-told, texts-short, lent-path-in, lent-tried-in, lent-boot-in, form-of-rest}
-use Rattle.turns.specs.Turns.{coreIn}
+use Rattle.walks.specs.Walks.{coreIn}
 use Rattle.resolve.specs.Calls.{restAt, restIn}
-use Rattle.keeps.specs.Keeps.{GoodCaches, Proper}
+use Rattle.keeps.specs.Code.{GoodCaches, Proper}
 
 -- memory in order holds good caches
 pub caches-good : (refs doms : List ℕ) → (inOrder referrals refs && inOrder domains doms) ≡ true → GoodCaches (cachesOf refs doms)

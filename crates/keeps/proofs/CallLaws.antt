@@ -13,16 +13,17 @@ use Rattle.unc.specs.Names.{goodName}
 use Rattle.unc.specs.Paths.{goodPath, normalised, pathUnits}
 use Rattle.caches.specs.Memory.{referrals, domains, inOrder}
 use Rattle.steps.specs.Steps.{Caches, Core, Rest, Turn, Resting, turned, started}
-use Rattle.steps.specs.Rested.{cachesOf, coreOf}
+use Rattle.steps.specs.Held.{cachesOf, coreOf}
 use Rattle.questions.specs.Questions.{restFits}
 use Rattle.walks.specs.Walks.{goodLimit, goodSettings, bootIn, inForm}
 use Rattle.walks.specs.declared.Walk.{Walk}
-use Rattle.turns.specs.Turns.{coreIn}
+use Rattle.walks.specs.Walks.{coreIn}
 use Rattle.closing.specs.Closing.{Left, refused, closes}
 use Rattle.resolve.specs.Calls.{refusalNumber, startRest, startCall, refusedAnswer, restIn, referralEvent, ioEvent, answers, answerCall, referralCall, ioCall}
 use Rattle.closing.specs.declared.Verdict.{Verdict}
 use Rattle.closing.specs.declared.Verdict.the-variants.{Taken, BadPath, LongPath, BadSettings, NotInOrder, OutOfForm, ShortBuffer}
-use Rattle.keeps.specs.Keeps.{Proper, StartKeeps, AnswerKeeps, CallsKeep}
+use Rattle.keeps.specs.Code.{Proper}
+use Rattle.keeps.specs.Keeps.{StartKeeps, AnswerKeeps, CallsKeep}
 use Rattle.keeps.specs.Named.{referralNames, ioNames, domainNames, Elsewhere}
 use Rattle.keeps.proofs.NamedLaws.{same-elsewhere}
 use Rattle.keeps.proofs.RestLaws.{GoodTurn, turned-proper}

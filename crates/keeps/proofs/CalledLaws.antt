@@ -22,7 +22,7 @@ use Rattle.lookup.specs.declared.Found.the-variants.{Nothing}
 use Rattle.lookup.proofs.EntryLaws.{target-hint-good}
 use Rattle.storing.specs.Stored.{prefixed}
 use Rattle.steps.specs.Steps.{Caches, Core, Question, Called, stops, asks, replaces, ends, longest, domainNamed, step2, step2With, step3, step4, step5, step5With, step5Domain, step6, step6Host, step7, step8, step9, step9With, step10, step11, dcRequest, linkRequest, afterStore}
-use Rattle.steps.specs.Rested.{askingOf}
+use Rattle.steps.specs.Held.{askingOf}
 use Rattle.steps.specs.declared.Kind.{Kind}
 use Rattle.steps.specs.declared.Kind.the-variants.{Dc, Root, Link, Sysvol, Io}
 use Rattle.steps.specs.declared.End.the-variants.{Done, NotDfs, NoDc, Failed, Malformed, Gone}

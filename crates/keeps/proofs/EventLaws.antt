@@ -22,7 +22,7 @@ use Rattle.steps.specs.declared.End.the-variants.{NotDfs}
 use Rattle.walks.specs.Walks.{hasTried, goodTried, endTried, endStatus}
 use Rattle.answers.proofs.AnswerLaws.{goes-stops}
 use Rattle.resolve.specs.Calls.{referralEvent, ioEvent}
-use Rattle.keeps.specs.Keeps.{GoodCaches, Proper}
+use Rattle.keeps.specs.Code.{GoodCaches, Proper}
 use Rattle.keeps.specs.Named.{referralNames, ioNames, domainNames, Elsewhere}
 use Rattle.keeps.proofs.PrefixLaws.{Normal, normal-told, good-made}
 use Rattle.keeps.proofs.CalledLaws.{picked, chosen, well-step2}

@@ -16,11 +16,11 @@ use Rattle.caches.specs.Memory.{referrals, domains, encode, inOrder}
 use Rattle.caches.proofs.MemoryLaws.{encode-decode}
 use Rattle.caches.specs.Entries.{Referral}
 use Rattle.steps.specs.Steps.{Caches, Core, Question, Rest, waits, ended, Turn, turned, severity, inUse, referralInUse, referralAnswered, ioWith, ioAnswered}
-use Rattle.steps.specs.Rested.{cachesOf}
+use Rattle.steps.specs.Held.{cachesOf}
 use Rattle.questions.specs.Questions.{restFits}
 use Rattle.walks.specs.Walks.{hasTried, inForm}
 use Rattle.walks.specs.declared.Walk.{Walk}
-use Rattle.turns.specs.Turns.{coreIn}
+use Rattle.walks.specs.Walks.{coreIn}
 use Rattle.resolve.specs.Calls.{Answered, refusedAnswer, restIn, referralEvent, ioEvent, answers, answerCall, referralCall, ioCall}
 use Rattle.closing.specs.declared.Verdict.{Verdict}
 use Rattle.closing.specs.declared.Verdict.the-variants.{NotInOrder, OutOfForm, ShortBuffer}

@@ -23,7 +23,7 @@ use Rattle.storing.specs.Stored.{prefixed, dcsStored}
 use Rattle.steps.specs.Steps.{Caches, Core, Question, domainNamed, domainInUse, referralInUse, dcCount, targetCount, partyCount, inUse, withReferrals, withDomains, dcHintSet, targetHintSet, hintSet, dcsIn}
 use Rattle.steps.specs.declared.Kind.{Kind}
 use Rattle.steps.specs.declared.Kind.the-variants.{Dc, Root, Link, Sysvol, Io}
-use Rattle.keeps.specs.Keeps.{GoodCaches}
+use Rattle.keeps.specs.Code.{GoodCaches}
 use Rattle.keeps.proofs.CacheLaws.{held-is, hint-kept, dc-hint-kept, dcs-kept}
 
 -- a question of another kind

@@ -23,7 +23,7 @@ use Rattle.namelists.proofs.SaysLaws.{says-dcs}
 use Rattle.storing.specs.Stored.{prefixed, stored, isInterlink}
 use Rattle.steps.specs.Steps.{Caches, Core, Question, Called, ends, Turn, Rest, waits, ended, started, fromStep2, turned, hitAt, withHit, withReferrals, nameAsked, inUse, referralInUse, domainInUse, dcCount, targetCount, partyCount, nextPlace, onward, doubled, failedHost, failed, referralFails, hintSet}
 use Rattle.steps.specs.Steps.{dcsIn, dcAnswer, coversNothing, storedTurn, referralAnswer, referralSucceeds, referralAnswered, ioFails, ioWith, ioAnswered, severity, isOneOf, nextTargetStatuses, step6, step8, linkRequest, bufferOverflow, pathNotFound, pathNotCovered, mostSize}
-use Rattle.steps.specs.Rested.{askingOf}
+use Rattle.steps.specs.Held.{askingOf}
 use Rattle.steps.specs.declared.Kind.{Kind}
 use Rattle.steps.specs.declared.Kind.the-variants.{Dc, Root, Link, Sysvol, Io}
 use Rattle.steps.specs.declared.End.the-variants.{NotDfs, NoDc, Failed}
@@ -31,7 +31,7 @@ use Rattle.moves.proofs.MoveLaws.{matches-same}
 use Rattle.walks.specs.Walks.{hasTried}
 use Rattle.walks.proofs.FormLaws.{io-named}
 use Rattle.resolve.specs.Calls.{referralEvent, ioEvent}
-use Rattle.keeps.specs.Keeps.{GoodCaches, Proper}
+use Rattle.keeps.specs.Code.{GoodCaches, Proper}
 use Rattle.keeps.proofs.PrefixLaws.{matches-trans}
 use Rattle.keeps.proofs.CacheLaws.{Equal, prefixed-or, reply-good}
 use Rattle.keeps.proofs.FoundLaws.{under-path, stored-under}

@@ -17,12 +17,12 @@ use Rattle.caches.proofs.KindLaws.{prefix-short}
 use Rattle.caches.specs.Memory.{referrals, goodCache}
 use Rattle.domains.specs.Domains.{goodSize}
 use Rattle.steps.specs.Steps.{Caches, Core, Question, Called, stops, asks, replaces, Turn, Resting, waits, ended, rests, asking, goes, turned, hitAt, withHit, withPath, step2}
-use Rattle.steps.specs.Rested.{askingOf, nextOf, triedOf}
+use Rattle.steps.specs.Held.{askingOf, nextOf, triedOf}
 use Rattle.steps.specs.declared.End.{End}
 use Rattle.steps.specs.declared.End.the-variants.{LimitReached, TooLong}
 use Rattle.answers.proofs.RestLaws.{Kept, kept-goes}
 use Rattle.walks.specs.Walks.{endTried, goodTried, endStatus, nextInForm}
-use Rattle.keeps.specs.Keeps.{GoodCaches, Proper}
+use Rattle.keeps.specs.Code.{GoodCaches, Proper}
 use Rattle.keeps.proofs.CalledLaws.{Asked, Well, well-step2}
 
 -- an event leaves good caches, and calls for what is in form

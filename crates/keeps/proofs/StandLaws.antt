@@ -12,16 +12,16 @@ use Rattle.unc.specs.Names.{goodName}
 use Rattle.unc.specs.Paths.{goodPath, normalised, pathUnits}
 use Rattle.caches.specs.Memory.{referrals, domains, encode, inOrder}
 use Rattle.steps.specs.Steps.{Caches, Core, Turn, Resting, turned, started, inUse}
-use Rattle.steps.specs.Rested.{cachesOf, coreOf}
+use Rattle.steps.specs.Held.{cachesOf, coreOf}
 use Rattle.questions.specs.Questions.{restFits}
 use Rattle.walks.specs.Walks.{goodLimit, goodSettings, bootIn, inForm, walkOf, textsAfter}
 use Rattle.walks.specs.declared.Walk.{Walk}
-use Rattle.turns.specs.Turns.{coreIn}
+use Rattle.walks.specs.Walks.{coreIn}
 use Rattle.closing.specs.Closing.{Left, refused, closes}
 use Rattle.resolve.specs.Calls.{refusalNumber, startRest, startCall, refusedAnswer, restIn, referralEvent, ioEvent, answers, answerCall, referralCall, ioCall}
 use Rattle.closing.specs.declared.Verdict.{Verdict}
 use Rattle.closing.specs.declared.Verdict.the-variants.{BadPath, LongPath, BadSettings, NotInOrder, OutOfForm, ShortBuffer}
-use Rattle.keeps.specs.Keeps.{Proper}
+use Rattle.keeps.specs.Code.{Proper}
 use Rattle.keeps.specs.Stands.{Stands, StartStands, AnswerStands, CallsStand}
 use Rattle.keeps.proofs.CalledLaws.{picked}
 use Rattle.keeps.proofs.RestLaws.{GoodTurn, turned-proper}

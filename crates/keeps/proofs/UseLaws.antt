@@ -28,7 +28,7 @@ use Rattle.steps.specs.declared.End.{End}
 use Rattle.steps.specs.declared.End.the-variants.{LimitReached, TooLong}
 use Rattle.steps.proofs.HeldLaws.{none-held}
 use Rattle.moves.proofs.MoveLaws.{matches-same}
-use Rattle.keeps.specs.Keeps.{GoodCaches}
+use Rattle.keeps.specs.Code.{GoodCaches}
 use Rattle.keeps.proofs.PrefixLaws.{first-matches}
 use Rattle.keeps.proofs.CacheLaws.{held-is, place-good, Equal, prefixed-or}
 use Rattle.keeps.proofs.FoundLaws.{Under, under-path}

@@ -3,27 +3,14 @@ use Prim.Native.Nat.{ℕ}
 use mathlib.Core.Path.{_≡_}
 use mathlib.Core.Bool.{Bool, true, _&&_}
 use mathlib.Core.List.{List}
-use Rattle.caches.specs.Memory.{referrals, domains, goodCache, inOrder}
-use Rattle.domains.specs.Domains.{goodSize}
-use Rattle.steps.specs.Steps.{Caches, Core, Rest}
-use Rattle.steps.specs.Rested.{cachesOf, nextOf, triedOf}
-use Rattle.walks.specs.Walks.{nextInForm, inForm}
+use Rattle.caches.specs.Memory.{referrals, domains, inOrder}
+use Rattle.steps.specs.Held.{cachesOf}
+use Rattle.walks.specs.Walks.{inForm, coreIn}
 use Rattle.walks.specs.declared.Walk.{Walk}
-use Rattle.turns.specs.Turns.{coreIn}
 use Rattle.closing.specs.Closing.{Left, refused}
 use Rattle.resolve.specs.Calls.{startCall, Answered, refusedAnswer, restIn, referralCall, ioCall}
 use Rattle.closing.specs.declared.Verdict.the-variants.{Taken}
 use Rattle.keeps.specs.Named.{referralNames, ioNames, domainNames, Elsewhere}
-
--- both caches are in order, as what they hold
-pub record GoodCaches (c : Caches) : Type 0 where
-  pub refs : goodCache referrals (c .referrals) ≡ true
-  pub doms : goodCache domains (c .domains) ≡ true
-
--- a rest is proper where its walk is in form, whatever the limit and the bootstrap DC
-pub record Proper (w : Core) (r : Rest) : Type 0 where
-  pub size : goodSize (w .size) ≡ true
-  pub next : nextInForm (w .path) (triedOf r) (nextOf r) ≡ true
 
 -- What a start keeps: the walk that comes back is in form, and a refused call is the identity.
 pub record StartKeeps (walk : Walk) (texts out : List ℕ) (x : Left) : Type 0 where

@@ -3,3 +3,4 @@ pub mod Named
 pub mod Keeps
 pub mod Stands
 pub mod Failures
+pub mod Code

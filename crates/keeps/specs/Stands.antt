@@ -5,10 +5,10 @@ use mathlib.Core.Bool.{true, _&&_}
 use mathlib.Core.List.{List}
 use Rattle.caches.specs.Memory.{referrals, domains, inOrder}
 use Rattle.steps.specs.Steps.{Question, waits, inUse}
-use Rattle.steps.specs.Rested.{cachesOf}
+use Rattle.steps.specs.Held.{cachesOf}
 use Rattle.walks.specs.Walks.{inForm}
 use Rattle.walks.specs.declared.Walk.{Walk}
-use Rattle.turns.specs.Turns.{coreIn}
+use Rattle.walks.specs.Walks.{coreIn}
 use Rattle.closing.specs.Closing.{Left}
 use Rattle.resolve.specs.Calls.{refusalNumber, startCall, Answered, restIn, referralCall, ioCall}
 

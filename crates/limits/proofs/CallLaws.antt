@@ -18,12 +18,12 @@ use Rattle.caches.specs.Memory.{referrals, domains, encode, inOrder}
 use Rattle.caches.proofs.MemoryLaws.{encode-decode}
 use Rattle.domains.specs.Domains.{goodSize}
 use Rattle.steps.specs.Steps.{Caches, Core, Turn, Resting, ends, started, fromStep2, turned}
-use Rattle.steps.specs.Rested.{cachesOf, coreOf}
+use Rattle.steps.specs.Held.{cachesOf, coreOf}
 use Rattle.steps.specs.declared.End.the-variants.{NotDfs}
 use Rattle.questions.specs.Questions.{restFits, outAfter}
 use Rattle.walks.specs.Walks.{goodLimit, goodSettings, inForm, bootIn, walkOf, textsAfter}
 use Rattle.walks.specs.declared.Walk.{Walk}
-use Rattle.turns.specs.Turns.{coreIn}
+use Rattle.walks.specs.Walks.{coreIn}
 use Rattle.closing.specs.Closing.{Left, refused, closes}
 use Rattle.resolve.specs.Calls.{Answered, startRest, startCall, answers, answerCall, referralCall, ioCall, restIn}
 use Rattle.closing.specs.declared.Verdict.{Verdict}

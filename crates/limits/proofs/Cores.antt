@@ -9,7 +9,7 @@ use Rattle.referral.specs.Replies as replies
 use Rattle.referral.specs.Replies.{malformed, nothing, says, readReferral}
 use Rattle.namelists.specs.NameLists.{readDcs}
 use Rattle.steps.specs.Steps.{Caches, Core, Question, Called, Turn, Rest, waits, ended, started, fromStep2, withHit, withPath, referralInUse, nameAsked, dcAnswer, storedTurn, referralAnswer, referralSucceeds, referralAnswered, ioWith, ioAnswered}
-use Rattle.steps.specs.Rested.{cachesOf}
+use Rattle.steps.specs.Held.{cachesOf}
 use Rattle.steps.specs.declared.Kind.{Kind}
 use Rattle.steps.specs.declared.Kind.the-variants.{Dc, Root, Link, Sysvol, Io}
 use Rattle.resolve.specs.Calls.{referralEvent, ioEvent}

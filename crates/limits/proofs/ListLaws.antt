@@ -17,16 +17,16 @@ use Rattle.unc.specs.Paths.{normalised}
 use Rattle.caches.specs.Memory.{referrals, domains, inOrder}
 use Rattle.domains.specs.Domains.{goodSize}
 use Rattle.steps.specs.Steps.{started, Turn, Core, Rest, ended, Resting}
-use Rattle.steps.specs.Rested.{cachesOf, coreOf}
+use Rattle.steps.specs.Held.{cachesOf, coreOf}
 use Rattle.steps.specs.declared.End.{End}
 use Rattle.questions.specs.Questions.{requestName, nameFits}
 use Rattle.walks.specs.Walks.{goodLimit, inForm, bootIn}
-use Rattle.turns.specs.Turns.{coreIn}
+use Rattle.walks.specs.Walks.{coreIn}
 use Rattle.closing.specs.Closing.{Left, refused}
 use Rattle.resolve.specs.Calls.{Answered, refusedAnswer, restIn, referralEvent, ioEvent}
 use Rattle.closing.specs.declared.Verdict.{Verdict}
 use Rattle.closing.specs.declared.Verdict.the-variants.{Taken, ShortBuffer}
-use Rattle.keeps.specs.Keeps.{Proper}
+use Rattle.keeps.specs.Code.{Proper}
 use Rattle.keeps.proofs.RestLaws.{GoodTurn, turned-proper}
 use Rattle.keeps.proofs.EventLaws.{path-counted, started-proper, referral-good, io-good}
 use Rattle.keeps.proofs.BackLaws.{caches-good, form-proper, core-back, rest-back, boot-back, proper-form, form-settings}

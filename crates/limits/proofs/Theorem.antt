@@ -13,8 +13,8 @@ use Rattle.laws.proofs.Orders.{lt-or-le, told}
 use Rattle.laws.proofs.Tests.{not-both}
 use Rattle.unc.specs.Paths.{pathUnits, normalised}
 use Rattle.caches.specs.Memory.{referrals, domains, encode, inOrder}
-use Rattle.steps.specs.Rested.{cachesOf, coreOf}
-use Rattle.turns.specs.Turns.{coreIn}
+use Rattle.steps.specs.Held.{cachesOf, coreOf}
+use Rattle.walks.specs.Walks.{coreIn}
 use Rattle.shown.specs.Shown.{questionShown, partyOf, partyText}
 use Rattle.keeps.specs.Stands.{Stands, StartStands, AnswerStands}
 use Rattle.keeps.proofs.StandLaws.{start-stands, referral-stands, io-stands}

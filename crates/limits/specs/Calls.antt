@@ -13,13 +13,13 @@ use Rattle.unc.specs.Paths.{goodPath, normalised, pathUnits}
 use Rattle.caches.specs.Memory.{referrals, domains, inOrder}
 use Rattle.domains.specs.Domains.{goodSize}
 use Rattle.steps.specs.Steps.{Core, Question, Turn, Rest, ended, started}
-use Rattle.steps.specs.Rested.{cachesOf, coreOf}
+use Rattle.steps.specs.Held.{cachesOf, coreOf}
 use Rattle.steps.specs.declared.End.the-variants.{LimitReached}
 use Rattle.walks.specs.declared.Walk.{Walk}
 use Rattle.questions.specs.Questions.{requestName, withRequest}
 use Rattle.walks.specs.Walks.{bootIn}
 use Rattle.shown.specs.Shown.{QuestionShown, questionShown}
-use Rattle.turns.specs.Turns.{coreIn}
+use Rattle.walks.specs.Walks.{coreIn}
 use Rattle.resolve.specs.Calls.{Answered, startCall, referralCall, ioCall, restIn, referralEvent, ioEvent}
 use Rattle.closing.specs.declared.Verdict.{Verdict}
 use Rattle.closing.specs.declared.Verdict.the-variants.{Taken, BadPath, LongPath, BadSettings, NotInOrder, OutOfForm}

@@ -9,7 +9,7 @@ use lib.ListN.{length}
 use Rattle.referral.specs.Request.{request}
 use Rattle.unc.specs.Paths.{normalised, pathUnits}
 use Rattle.steps.specs.Steps.{Caches, Core, Question, asks, replaces, Rest, waits, ended, Turn, started, withPath, withHit, hitAt, step2}
-use Rattle.steps.specs.Rested.{cachesOf, coreOf}
+use Rattle.steps.specs.Held.{cachesOf, coreOf}
 use Rattle.steps.specs.declared.End.{End}
 use Rattle.steps.specs.declared.End.the-variants.{LimitReached, TooLong}
 use Rattle.questions.specs.Questions.{requestName}

@@ -22,12 +22,14 @@ use Rattle.caches.specs.Order.{goodPrefix}
 use Rattle.caches.proofs.KindLaws.{prefix-short}
 use Rattle.spelling.specs.Spelling.{spelled, decimal, Put}
 use Rattle.listing.specs.Form.{pathLine, numberLine}
-use Rattle.unspelling.specs.Reading.{unspelled, isSpelled, spelledForm, decimalOf, isDecimal, decimalForm}
+use Rattle.unspelling.specs.Reading.{unspelled, isSpelled, decimalOf}
+use Rattle.unspelling.specs.Code.{spelledForm, isDecimal, decimalForm}
 use Rattle.unspelling.specs.declared.Spelled.{Spelled}
 use Rattle.unspelling.specs.declared.Spelled.the-variants.{Bad, Units}
 use Rattle.unspelling.specs.declared.Number.{Number}
 use Rattle.unspelling.specs.declared.Number.the-variants.{None, Value}
-use Rattle.lines.specs.Lines.{lineLength, valueOf, lineHasKey, isPathLine, numberSaid}
+use Rattle.lines.specs.Lines.{lineLength, valueOf, lineHasKey, numberSaid}
+use Rattle.lines.specs.Code.{isPathLine}
 
 -- the end of a line
 pub end-here : (s : List ℕ) (i : ℕ) → i < length s → getD s i 0 ≡ 10 → lineLength (drop i s) ≡ 0

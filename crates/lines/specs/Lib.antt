@@ -1,2 +1,3 @@
 -- Document 01, "The listing": what one line says.
 pub mod Lines
+pub mod Code

@@ -6,9 +6,8 @@ use lib.ListN.{length, drop, take}
 use lib.Dec.{eqb, ltb}
 use Rattle.laws.specs.Choice.{choose}
 use Rattle.laws.specs.Listed.{sameList}
-use Rattle.caches.specs.Order.{goodPrefix}
-use Rattle.listing.specs.Form.{pathLine, numberLine}
-use Rattle.unspelling.specs.Reading.{unspelled, decimalOf}
+use Rattle.listing.specs.Form.{numberLine}
+use Rattle.unspelling.specs.Reading.{decimalOf}
 use Rattle.unspelling.specs.declared.Number.{Number}
 use Rattle.unspelling.specs.declared.Number.the-variants.{None, Value}
 
@@ -24,10 +23,6 @@ valueOf key line = drop (length key) line
 -- a line begins with a key
 unfoldable pub lineHasKey : List ℕ → List ℕ → Bool
 lineHasKey key line = sameList key (take (length key) line)
-
--- a line of a prefix or a target
-unfoldable pub isPathLine : List ℕ → List ℕ → Bool
-isPathLine key line = sameList (pathLine key (unspelled (valueOf key line))) line && goodPrefix (unspelled (valueOf key line))
 
 -- a line of a number, and which
 unfoldable pub numberSaid : List ℕ → List ℕ → Number

@@ -6,7 +6,8 @@ ghost use lib.ListN.{length, take, drop};
 ghost use Rattle.laws.specs.Listed.{sameList};
 ghost use Rattle.caches.specs.Order.{goodPrefix};
 ghost use Rattle.unspelling.specs.Reading.{unspelled, isSpelled};
-ghost use Rattle.lines.specs.Lines.{lineLength, lineHasKey, isPathLine, numberSaid};
+ghost use Rattle.lines.specs.Lines.{lineLength, lineHasKey, numberSaid};
+ghost use Rattle.lines.specs.Code.{isPathLine};
 use unspelling::Number;
 use unspelling::Spelled;
 

@@ -14,7 +14,8 @@ use Rattle.places.specs.Layout.{placeCount}
 use Rattle.caches.specs.Memory.{referrals, decode, inOrder}
 use Rattle.caches.proofs.MemoryLaws.{cache-told, order-good, length-decode}
 use Rattle.spelling.specs.Spelling.{Put}
-use Rattle.listing.specs.Listed.{textOf, listRefusal, listNumber, listAnswer, bufferAfter}
+use Rattle.listing.specs.Listed.{textOf, listRefusal, listAnswer, bufferAfter}
+use Rattle.listing.specs.Code.{listNumber}
 use Rattle.listing.specs.declared.Answer.{Answer}
 use Rattle.listing.specs.declared.Answer.the-variants.{NotInOrder, TooShort, Units}
 

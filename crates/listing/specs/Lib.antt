@@ -2,3 +2,4 @@
 pub mod Form
 pub mod Listed
 pub mod Keys
+pub mod Code

@@ -20,11 +20,7 @@ listRefusal (Units n) = 0
 listRefusal NotInOrder = 4
 listRefusal TooShort = 10
 
--- 4 before 10
-unfoldable pub listNumber : List ℕ → ℕ → ℕ
-listNumber raw room = choose (inOrder referrals raw) (choose (leb (length (textOf raw)) room) 0 10) 4
-
--- and the answer: how many units the text has
+-- the answer, 4 before 10: how many units the text has
 unfoldable pub listAnswer : List ℕ → ℕ → Answer
 listAnswer raw room = choose (inOrder referrals raw) (choose (leb (length (textOf raw)) room) (Units (length (textOf raw))) TooShort) NotInOrder
 

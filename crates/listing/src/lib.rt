@@ -7,7 +7,8 @@ ghost use Rattle.places.specs.Layout.{placeCount, placeAt, flagAt, flagUnit};
 ghost use Rattle.caches.specs.Memory.{referralOf};
 ghost use Rattle.spelling.specs.Spelling.{spelled, decimal, Put};
 ghost use Rattle.listing.specs.Form.{kindKey, kindWord, pathLine, numberLine, ended, linesText, targetLines, settingLines, countLines, entryText};
-ghost use Rattle.listing.specs.Listed.{textOf, listRefusal, listNumber, listAnswer, bufferAfter};
+ghost use Rattle.listing.specs.Listed.{textOf, listRefusal, listAnswer, bufferAfter};
+ghost use Rattle.listing.specs.Code.{listNumber};
 use places::PLACE;
 
 const LINE_END: u16 = 10;

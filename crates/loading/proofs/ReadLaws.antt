@@ -13,10 +13,10 @@ use Rattle.places.specs.Layout.{placeCount}
 use Rattle.caches.specs.Memory.{referrals, rightSize, encode}
 use Rattle.reading.specs.Entries.{entriesSaid}
 use Rattle.reading.specs.Read.{isListing, placed, readNumber, readAfter}
-use Rattle.checking.specs.Checked.{checked}
+use Rattle.checking.specs.Code.{checked}
 use Rattle.checking.specs.declared.Checked as tested
 use Rattle.checking.specs.declared.Checked.the-variants.{Bad, Entries}
-use Rattle.loading.specs.Loaded.{loadRefusal}
+use Rattle.loading.specs.Code.{loadRefusal}
 use Rattle.loading.specs.declared.Loaded.the-variants.{Done, NotInOrder, NotListing, TooMany}
 
 -- what the test of a text tells

@@ -1,2 +1,2 @@
 -- What reading a listing answers.
-pub mod Loaded
+pub mod Code

@@ -1,7 +1,7 @@
 // A text read into a referral cache: document 01, "The listing" and "Numbers given back".
 ghost use mathlib.Core.Path.{_≡_};
 ghost use Rattle.reading.specs.Read.{readNumber, readAfter};
-ghost use Rattle.loading.specs.Loaded.{loadRefusal};
+ghost use Rattle.loading.specs.Code.{loadRefusal};
 use checking::Checked;
 use places::PLACE;
 

@@ -14,7 +14,8 @@ use Rattle.lookup.specs.declared.Found.{Found}
 use Rattle.lookup.specs.declared.Found.the-variants.{At, Nothing}
 use Rattle.caches.specs.Entries.{Referral, Place}
 use Rattle.caches.specs.Memory.{referrals, referralOf, placeOf, decode}
-use Rattle.lookup.specs.Lookup.{entryAt, age, expired, firstFreeFrom, placeAge, oldestFrom, oldest, foundOr, newPlace}
+use Rattle.lookup.specs.Code.{entryAt}
+use Rattle.lookup.specs.Lookup.{age, expired, firstFreeFrom, placeAge, oldestFrom, oldest, foundOr, newPlace}
 use Rattle.caches.proofs.MemoryLaws.{place-free, place-used, drop-decode, drop-decode-end}
 
 -- a difference that wraps is an age

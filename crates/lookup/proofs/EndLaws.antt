@@ -16,7 +16,7 @@ use Rattle.caches.specs.Memory.{referrals, placeOf, decode}
 use Rattle.lookup.specs.declared.Found.{Found}
 use Rattle.lookup.specs.Lookup.{longerMatch, longestFrom, longestMatch}
 use Rattle.lookup.specs.declared.Found.the-variants.{At, Nothing}
-use Rattle.lookup.specs.Ends.{LowBits, Passed, bestFound}
+use Rattle.lookup.specs.Code.{LowBits, Passed, bestFound}
 use Rattle.lookup.proofs.FindLaws.{longer-units, no-longer, place-unlike, units-unlike, find-start, find-hit, find-miss, find-end}
 
 -- where the low bits are the same, nothing differs in them

@@ -8,12 +8,14 @@ use native.Mathlib.Omega.{arith}
 use lib.ListN.{length, getD, set}
 use lib.Dec.{eqb}
 use Rattle.laws.proofs.Listed.{length-listed, getD-listed}
-use Rattle.places.specs.Layout.{placeCount, placeAt, changed, unitAt, flagAt, textAt, listCount, putUnit}
+use Rattle.places.specs.Layout.{placeCount, placeAt, unitAt, flagAt, textAt, listCount}
+use Rattle.places.specs.Code.{changed, putUnit}
 use Rattle.places.proofs.PutLaws.{put-hint}
 use Rattle.caches.specs.Entries.{Target, Referral, Domain, Place, free, used}
 use Rattle.caches.specs.Order.{goodReferral, goodDomain}
 use Rattle.caches.specs.Memory.{Kind, referrals, domains, targetOf, referralOf, referralSettings, referralUnits, domainOf, domainUnits, decode, encode, inOrder}
-use Rattle.lookup.specs.Lookup.{entryAt, targetPath, targetOpens, dcName, onEntry, targetHintTo, dcHintTo, targetHinted, dcHinted}
+use Rattle.lookup.specs.Code.{entryAt, targetOpens}
+use Rattle.lookup.specs.Lookup.{targetPath, dcName, onEntry, targetHintTo, dcHintTo, targetHinted, dcHinted}
 use Rattle.caches.proofs.KindLaws.{referrals-lawful, domains-lawful, GoodReferral, referral-told, good-referral, referral-shape, GoodDomain, domain-told, good-domain, domain-shape}
 use Rattle.caches.proofs.PlaceLaws.{hint-good}
 use Rattle.caches.proofs.MemoryLaws.{Lawful}

@@ -15,7 +15,8 @@ use Rattle.laws.specs.Listed.{listed}
 use Rattle.laws.proofs.Choices.{choose-yes, choose-no, and-left, and-no-right}
 use Rattle.laws.proofs.Orders.{told, lt-or-le}
 use Rattle.laws.proofs.Listed.{drop-listed, drop-listed-end, map-listed}
-use Rattle.unc.specs.Names.{sameUnit, sameName, SameWithin}
+use Rattle.unc.specs.Names.{sameUnit, sameName}
+use Rattle.unc.specs.Code.{SameWithin}
 use Rattle.unc.specs.Paths.{matches}
 use Rattle.unc.proofs.WithinLaws.{sameName-at}
 use Rattle.unc.proofs.MatchLaws.{matches-longer, matches-same, matches-within}
@@ -25,7 +26,7 @@ use Rattle.lookup.specs.declared.Found.{Found}
 use Rattle.lookup.specs.declared.Found.the-variants.{At, Nothing}
 use Rattle.caches.specs.Memory.{Kind, referrals, domains, referralOf, placeOf, decode}
 use Rattle.lookup.specs.Lookup.{longerMatch, prefixUnits, longestFrom, longestMatch, hasKey, withKeyFrom, withKey}
-use Rattle.lookup.specs.Keys.{keyIs, keyPlaceFrom, keyPlace}
+use Rattle.lookup.specs.Code.{keyIs, keyPlaceFrom, keyPlace}
 use Rattle.caches.proofs.MemoryLaws.{Lawful, place-free, place-used, drop-decode, drop-decode-end}
 use Rattle.caches.proofs.KindLaws.{referrals-lawful, domains-lawful}
 use Rattle.caches.proofs.TestLaws.{text-none}

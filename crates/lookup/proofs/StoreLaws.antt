@@ -15,13 +15,15 @@ use Rattle.laws.proofs.Tests.{refuted, not-both}
 use Rattle.laws.proofs.Every.{every-at}
 use Rattle.unc.specs.Names.{sameName}
 use Rattle.unc.proofs.NameLaws.{sameName-sym}
-use Rattle.places.specs.Layout.{placeCount, placeAt, changed, unitAt, blank, listCount}
+use Rattle.places.specs.Layout.{placeCount, placeAt, unitAt, blank, listCount}
+use Rattle.places.specs.Code.{changed}
 use Rattle.lookup.specs.declared.Found.the-variants.{At, Nothing}
 use Rattle.places.proofs.LayoutLaws.{changed-start}
 use Rattle.caches.specs.Entries.{Place, free, used}
 use Rattle.caches.specs.Order.{distinct}
 use Rattle.caches.specs.Memory.{Kind, placeOf, pieceOf, decode, encode, goodPlace, keys, inOrder}
-use Rattle.lookup.specs.Lookup.{hasKey, withKeyFrom, withKey, entryAt}
+use Rattle.lookup.specs.Lookup.{hasKey, withKeyFrom, withKey}
+use Rattle.lookup.specs.Code.{entryAt}
 use Rattle.caches.proofs.MemoryLaws.{Lawful, GoodCache, cache-told, order-good, place-free, place-used, decode-at, length-decode, encode-decode, place-encode, changed-encode, changed-in-order}
 
 module _ {E : Type 0} (k : Kind E) where

@@ -7,7 +7,6 @@ use lib.Dec.{leb, ltb}
 use Rattle.laws.specs.Choice.{choose}
 use Rattle.unc.specs.Names.{sameName}
 use Rattle.unc.specs.Paths.{matches}
-use Rattle.places.specs.Layout.{placeAt}
 use Rattle.caches.specs.Entries.{Referral, Domain, Place, free, used}
 use Rattle.caches.specs.Memory.{Kind}
 use Rattle.lookup.specs.declared.Found.{Found}
@@ -48,10 +47,6 @@ module _ {E : Type 0} (k : Kind E) where
   -- the first of all
   unfoldable pub withKey : List ℕ → List (Place E) → Found
   withKey name ps = withKeyFrom name 0 ps
-
-  -- the entry at place i of the memory
-  unfoldable pub entryAt : ℕ → List ℕ → E
-  entryAt i raw = k .reads (placeAt i raw)
 
 -- "An entry's age is now minus taken, modulo 2^32; it is expired when its age is TTL or more"
 unfoldable pub age : ℕ → ℕ → ℕ
@@ -94,10 +89,6 @@ newPlace clock ps = foundOr (oldest clock ps) (firstFreeFrom 0 ps)
 -- target number j of an entry
 unfoldable pub targetPath : ℕ → Referral → List ℕ
 targetPath j e = getD (e .targets) j (record { path = []; opens = false }) .path
-
--- whether a set opens before it
-unfoldable pub targetOpens : ℕ → Referral → Bool
-targetOpens j e = getD (e .targets) j (record { path = []; opens = false }) .opens
 
 -- DC number j of an entry
 unfoldable pub dcName : ℕ → Domain → List ℕ

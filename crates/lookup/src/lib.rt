@@ -5,9 +5,8 @@ ghost use Prim.Native.Nat.{_+_, _/_, _≤_, _<_};
 ghost use lib.ListN.{length};
 ghost use Rattle.places.specs.Layout.{placeCount, placeAt};
 ghost use Rattle.caches.specs.Memory.{referrals, domains, placeOf, decode, encode, inOrder};
-ghost use Rattle.lookup.specs.Lookup.{longerMatch, longestMatch, withKey, entryAt, age, expired, firstFreeFrom, placeAge, oldest, newPlace, targetPath, targetOpens, dcName, targetHinted, dcHinted};
-ghost use Rattle.lookup.specs.Keys.{keyIs, keyPlace};
-ghost use Rattle.lookup.specs.Ends.{LowBits, Passed, bestFound};
+ghost use Rattle.lookup.specs.Lookup.{longerMatch, longestMatch, withKey, age, expired, firstFreeFrom, placeAge, oldest, newPlace, targetPath, dcName, targetHinted, dcHinted};
+ghost use Rattle.lookup.specs.Code.{entryAt, targetOpens, keyIs, keyPlace, LowBits, Passed, bestFound};
 use places::PLACE;
 use places::ROOM;
 

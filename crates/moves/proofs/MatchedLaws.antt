@@ -13,16 +13,18 @@ use Rattle.unc.specs.Paths.{firstOf}
 use Rattle.places.specs.Layout.{placeCount}
 use Rattle.caches.specs.Entries.{Referral}
 use Rattle.caches.specs.Memory.{referrals, domains, decode, inOrder}
-use Rattle.lookup.specs.Lookup.{longestMatch, withKey, entryAt, expired}
+use Rattle.lookup.specs.Lookup.{longestMatch, withKey, expired}
+use Rattle.lookup.specs.Code.{entryAt}
 use Rattle.lookup.specs.declared.Found.{Found}
 use Rattle.lookup.specs.declared.Found.the-variants.{At, Nothing}
 use Rattle.storing.specs.Stored.{prefixed}
 use Rattle.steps.specs.Steps.{Core, Called, asks, isThere, hitAt, longest, step2, step2With, step5, step7, step9, step9With, linkRequest}
-use Rattle.steps.specs.Rested.{cachesOf, step9At, step9In, step2At, step2In}
+use Rattle.steps.specs.Held.{cachesOf}
+use Rattle.steps.specs.Code.{step9At, step9In, step2At, step2In}
 use Rattle.steps.specs.declared.Matched.{Matched}
 use Rattle.steps.specs.declared.Matched.the-variants.{Fresh, Refresh, Stale, Missed}
 use Rattle.steps.proofs.HeldLaws.{none-held, key-held, key-fits, longest-held, longest-fits, longest-matches, longest-good}
-use Rattle.moves.specs.Moves.{Usable}
+use Rattle.moves.specs.Code.{Usable}
 
 or-true : (b : Bool) → (b || true) ≡ true
 or-true true = refl

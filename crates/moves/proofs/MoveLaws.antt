@@ -13,7 +13,8 @@ use Rattle.laws.specs.Choice.{choose}
 use Rattle.laws.specs.Lists.{part, pasted}
 use Rattle.laws.proofs.Choices.{choose-yes, choose-no, and-left, and-right, and-both}
 use Rattle.laws.proofs.Orders.{told}
-use Rattle.unc.specs.Paths.{components, componentCount, isNormalised, normalisedCount, matches, isSysvol, replaced, writtenWithin, pathUnits}
+use Rattle.unc.specs.Paths.{components, componentCount, isNormalised, normalisedCount, matches, isSysvol, replaced, pathUnits}
+use Rattle.unc.specs.Code.{writtenWithin}
 use Rattle.unc.specs.Names.{sameName}
 use Rattle.unc.proofs.MatchLaws.{atEnd, matches-units}
 use Rattle.unc.proofs.NameLaws.{sameName-trans, sameName-length}
@@ -24,17 +25,20 @@ use Rattle.laws.proofs.Every.{every-at}
 use Rattle.laws.proofs.Tests.{not-both}
 use Rattle.unc.specs.declared.Written.{Written}
 use Rattle.unc.specs.declared.Written.the-variants.{Units, TooLong}
-use Rattle.texts.specs.Texts.{textsOf, withTried, Standing}
+use Rattle.texts.specs.Texts.{textsOf}
+use Rattle.texts.specs.Code.{withTried, Standing}
 use Rattle.texts.proofs.TextLaws.{length-texts, put-fits, put-long, tried-taken, written-units, written-long}
 use Rattle.caches.specs.Entries.{Referral, Domain}
 use mathlib.Core.Option.{Option, none, some}
 use Rattle.caches.specs.Order.{goodReferral, goodPrefix, goodTarget}
 use Rattle.caches.specs.Memory.{referrals, domains, decode, inOrder}
-use Rattle.lookup.specs.Lookup.{entryAt, targetPath}
+use Rattle.lookup.specs.Code.{entryAt}
+use Rattle.lookup.specs.Lookup.{targetPath}
 use Rattle.lookup.specs.declared.Found.{Found}
 use Rattle.lookup.specs.declared.Found.the-variants.{At, Nothing}
 use Rattle.steps.specs.Steps.{Caches, Core, Question, stops, asks, replaces, Rest, Resting, waits, ended, rests, asking, goes, hitAt, withHit, withPath, step2, step3, step4, step5, step5With, step5Domain, step6, step6Host, step10, dcRequest, domainNamed, step7, step8, step11, linkRequest}
-use Rattle.steps.specs.Rested.{cachesOf, coreOf, askingOf, nextOf, triedOf, restedOf, endedAt, turning, step2In}
+use Rattle.steps.specs.Held.{cachesOf, coreOf, askingOf, nextOf, triedOf}
+use Rattle.steps.specs.Code.{restedOf, endedAt, turning, step2In}
 use Rattle.steps.specs.declared.Kind.the-variants.{Io}
 use Rattle.steps.specs.declared.End.{End}
 use Rattle.steps.specs.declared.End.the-variants.{LimitReached}
@@ -44,7 +48,7 @@ use Rattle.steps.specs.declared.Rested.{Rested}
 use Rattle.steps.specs.declared.Matched.{Matched}
 use Rattle.steps.specs.declared.Matched.the-variants.{Fresh, Refresh, Stale, Missed}
 use Rattle.steps.proofs.StepLaws.{domain-untried}
-use Rattle.moves.specs.Moves.{Packed, joined, packed, stepsFrom, calledAt, movedTo, Usable}
+use Rattle.moves.specs.Code.{Packed, joined, packed, stepsFrom, calledAt, movedTo, Usable}
 use Rattle.moves.proofs.MatchedLaws.{requestAt, calledBy, hitBy, step2-called, step2-hit}
 
 -- a question put: no move is left, its path tried is too long, or it waits

@@ -11,26 +11,27 @@ use borrow.Author.Tests.{le-leb, lt-leb}
 use Rattle.laws.specs.Choice.{choose}
 use Rattle.laws.proofs.Choices.{choose-yes, choose-no}
 use Rattle.laws.proofs.Orders.{told, lt-or-le}
-use Rattle.unc.specs.Paths.{writtenWithin}
+use Rattle.unc.specs.Code.{writtenWithin}
 use Rattle.unc.specs.declared.Written.{Written}
 use Rattle.unc.specs.declared.Written.the-variants.{Units, TooLong}
-use Rattle.texts.specs.Texts.{textsOf, Standing}
+use Rattle.texts.specs.Texts.{textsOf}
+use Rattle.texts.specs.Code.{Standing}
 use Rattle.texts.proofs.TextLaws.{path-in, taken-stands, told-fits, written-units, written-long}
 use Rattle.places.specs.Layout.{placeCount}
 use Rattle.caches.specs.Order.{goodPrefix}
 use Rattle.caches.specs.Memory.{referrals, domains, decode, inOrder}
 use Rattle.caches.proofs.MemoryLaws.{cache-told, order-good, length-decode}
-use Rattle.lookup.specs.Lookup.{entryAt}
+use Rattle.lookup.specs.Code.{entryAt}
 use Rattle.lookup.specs.declared.Found.the-variants.{Nothing}
 use Rattle.steps.specs.Steps.{Core, asks, asking, hitAt, withHit, withPath, step2, step5, step7, step8, step11, linkRequest}
-use Rattle.steps.specs.Rested.{cachesOf, coreOf, restedOf, endedAt, turning, step2In}
+use Rattle.steps.specs.Held.{cachesOf, coreOf}
+use Rattle.steps.specs.Code.{restedOf, endedAt, turning, step2In}
 use Rattle.steps.specs.declared.End.the-variants.{LimitReached}
 use Rattle.steps.specs.declared.End.the-variants as ends
 use Rattle.steps.specs.declared.Rested.{Rested}
 use Rattle.steps.specs.declared.Matched.{Matched}
 use Rattle.steps.specs.declared.Matched.the-variants.{Fresh, Refresh, Stale, Missed}
-use Rattle.moves.specs.Moves.{Packed, joined, packed, stepsFrom, calledAt, movedTo, Ready, Usable}
-use Rattle.moves.specs.Points.{whatOf, placeIn, unitsOf, leftOf, calledFor, stepsAt, Point, Halted, SameRest, pointFresh, pointFound, goneTo, pointReached}
+use Rattle.moves.specs.Code.{Packed, joined, packed, stepsFrom, calledAt, movedTo, Ready, Usable, whatOf, placeIn, unitsOf, leftOf, calledFor, stepsAt, Point, Halted, SameRest, pointFresh, pointFound, goneTo, pointReached}
 use Rattle.moves.proofs.MatchedLaws.{fresh-usable, refresh-fits}
 use Rattle.moves.proofs.MoveLaws.{standing-path, new-good, turns-to, tries-at, lookup-fresh, lookup-refresh, lookup-stale, lookup-missed, replaces-long, replaces-made, goes-stops, domain-asked, tried-steps, link-steps, end-steps, inter-limit}
 

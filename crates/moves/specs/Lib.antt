@@ -1,3 +1,2 @@
 -- The cycle of steps.
-pub mod Moves
-pub mod Points
+pub mod Code

@@ -1,19 +1,20 @@
 // The steps that call each other: lookup, domain, link and interlink. Moves left and step rank fall. They hand on a point of the steps as
-// one number (specs/Points.antt); what takes more room, the look-up, the new path and the rest, is made in functions that have returned
+// one number (specs/Code.antt); what takes more room, the look-up, the new path and the rest, is made in functions that have returned
 // before the next is called.
 ghost use mathlib.Core.Path.{_≡_};
 ghost use mathlib.Core.Bool.{true};
 ghost use Prim.Native.Nat.{ℕ, suc, _+_, _*_, _/_, _%_, _≤_, _<_};
 ghost use lib.ListN.{length, take};
-ghost use Rattle.unc.specs.Paths.{writtenWithin};
-ghost use Rattle.texts.specs.Texts.{Standing};
+ghost use Rattle.unc.specs.Code.{writtenWithin};
+ghost use Rattle.texts.specs.Code.{Standing};
 ghost use Rattle.caches.specs.Memory.{referrals};
-ghost use Rattle.lookup.specs.Lookup.{entryAt};
+ghost use Rattle.lookup.specs.Code.{entryAt};
 ghost use Rattle.lookup.specs.declared.Found.the-variants.{At};
 ghost use Rattle.steps.specs.Steps.{asking, hitAt, withHit, step2, step8, step11};
-ghost use Rattle.steps.specs.Rested.{cachesOf, coreOf, step2In};
-ghost use Rattle.moves.specs.Moves.{joined, packed, stepsFrom, calledAt, movedTo, Ready, Usable};
-ghost use Rattle.moves.specs.Points.{whatOf, placeIn, unitsOf, stepsAt, Point, Halted, SameRest, pointFresh, pointFound, goneTo, pointReached};
+ghost use Rattle.steps.specs.Held.{cachesOf, coreOf};
+ghost use Rattle.steps.specs.Code.{step2In};
+ghost use Rattle.moves.specs.Code.{joined, packed, stepsFrom, calledAt, movedTo, Ready, Usable};
+ghost use Rattle.moves.specs.Code.{whatOf, placeIn, unitsOf, stepsAt, Point, Halted, SameRest, pointFresh, pointFound, goneTo, pointReached};
 use lookup::Found;
 use steps::Asking;
 use steps::End;

@@ -15,14 +15,14 @@ use Rattle.laws.proofs.Orders.{lt-or-le}
 use Rattle.laws.proofs.Filling.{filled-next, filled-whole, every-set}
 use Rattle.unc.specs.Names.{goodName}
 use Rattle.spans.specs.Bytes.{Text, terminated, unterminated, textAt, u16At, flag}
-use Rattle.spans.specs.Spans.{spanned, Inside, partOf}
+use Rattle.spans.specs.Code.{spanned, Inside, partOf}
 use Rattle.spans.specs.declared.Span.{Span}
 use Rattle.spans.proofs.UnitLaws.{length-spanned, part-spanned}
 use Rattle.referral.specs.Replies.{isRead, readable, versionAt, fits, entryFlag, sizeAt}
 use Rattle.namelists.specs.NameLists.{bare, dcOf, domainOf, bytesPast, textsAt, dcNames, goodDcs, domainAt, goodDomain}
 use Rattle.referral.specs.Replies.{Reply, malformed, nothing}
-use Rattle.referral.specs.Found.{isInside, replyOf}
-use Rattle.namelists.specs.Found.{answerOf, denotedDcs, noDcs, DcsInside}
+use Rattle.referral.specs.Code.{isInside, replyOf}
+use Rattle.namelists.specs.Code.{answerOf, denotedDcs, noDcs, DcsInside}
 use Rattle.namelists.specs.declared.DcsFound.{DcsFound}
 use Rattle.referral.specs.declared.Answer.{Answer}
 use Rattle.referral.specs.declared.Answer.the-variants.{Malformed, Nothing}

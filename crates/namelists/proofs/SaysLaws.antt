@@ -13,15 +13,15 @@ use Rattle.laws.proofs.Choices.{and-left, and-right, and-both}
 use Rattle.laws.proofs.Every.{every-take}
 use Rattle.unc.specs.Names.{goodName}
 use Rattle.spans.specs.Bytes.{u16At, Text, terminated, unterminated}
-use Rattle.spans.specs.Spans.{spanned}
+use Rattle.spans.specs.Code.{spanned}
 use Rattle.referral.specs.Replies.{referralCount, starts, entries, sizeAt, versionAt, fits, entryFlag, readable, isRead, Reply, malformed, nothing, says}
-use Rattle.referral.specs.Found.{replyOf}
+use Rattle.referral.specs.Code.{replyOf}
 use Rattle.referral.specs.declared.Answer.{Answer}
 use Rattle.referral.specs.declared.Answer.the-variants.{Says}
 use Rattle.referral.proofs.EntryLaws.{starts-cons}
 use Rattle.referral.proofs.SaysLaws.{Read, read-says}
 use Rattle.namelists.specs.NameLists.{bare, dcOf, domainOf, textsAt, dcNames, goodDcs, readDcs, domainAt, goodDomain, readDomains}
-use Rattle.namelists.specs.Found.{denotedDcs, answerOf}
+use Rattle.namelists.specs.Code.{denotedDcs, answerOf}
 use Rattle.namelists.specs.declared.DcsFound.{DcsFound}
 use Rattle.namelists.proofs.ListLaws.{domain-fit}
 

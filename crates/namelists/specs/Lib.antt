@@ -1,3 +1,3 @@
 -- Document 01, "Layouts": DC and domain replies.
 pub mod NameLists
-pub mod Found
+pub mod Code

@@ -10,7 +10,8 @@ use Rattle.laws.specs.Lists.{pasted, part}
 use Rattle.laws.proofs.Orders.{lt-or-le}
 use Rattle.laws.proofs.Pasting.{getD-part, length-part, length-pasted, part-pasted, part-pasted-low, part-pasted-high, pasted-in-part, pasted-again, pasted-part}
 use Rattle.laws.proofs.Parts.{part-part, take-part, part-slice}
-use Rattle.places.specs.Layout.{placeCount, placeAt, changed, unitAt, wideAt, roomAt, textAt}
+use Rattle.places.specs.Layout.{placeCount, placeAt, unitAt, wideAt, roomAt, textAt}
+use Rattle.places.specs.Code.{changed}
 
 -- a place of the memory
 module _ (raw : List ℕ) (i : ℕ) (fits : i < placeCount raw) where

@@ -12,7 +12,8 @@ use Rattle.laws.proofs.Orders.{lt-or-le}
 use Rattle.laws.proofs.Tests.{eq-or-ne}
 use Rattle.laws.proofs.Pasting.{getD-pasted-low, getD-pasted-in, getD-pasted-high, length-pasted, part-pasted-low, part-pasted-high, part-pasted, getD-part, length-part, length-roomed}
 use Rattle.laws.proofs.Parts.{getD-roomed}
-use Rattle.places.specs.Layout.{unitAt, roomAt, blank, headOf, roomsOf, written, putUnit, putText, putSettings, keyOnly}
+use Rattle.places.specs.Layout.{unitAt, roomAt, blank, headOf, roomsOf, written}
+use Rattle.places.specs.Code.{putUnit, putText, putSettings, keyOnly}
 use Rattle.places.proofs.WriterLaws.{length-putUnit}
 use Rattle.places.proofs.WrittenLaws.{HeadUnit, a-length, the-count, the-hint, a-mark, a-setting, same-place, Shaped, length-written, written-length, written-count, written-hint, written-mark, written-setting, written-room}
 

@@ -8,7 +8,8 @@ use lib.ListN.{length, take, drop, replicate, drop-of-length-le, length-replicat
 use Rattle.laws.specs.Lists.{pasted, roomed}
 use Rattle.laws.proofs.Pasting.{length-pasted, pasted-join, length-roomed}
 use Rattle.laws.proofs.Parts.{part-slice}
-use Rattle.places.specs.Layout.{placeCount, placeAt, changed, wideUnits, blank, putUnit, putWide, putText, putSettings, keyOnly}
+use Rattle.places.specs.Layout.{placeCount, placeAt, wideUnits, blank}
+use Rattle.places.specs.Code.{changed, putUnit, putWide, putText, putSettings, keyOnly}
 use Rattle.places.proofs.LayoutLaws.{length-place, changed-pasted, changed-then}
 
 pub length-putUnit : (j v : ℕ) (piece : List ℕ) → length piece ≡ 2336 → j < 2336 → length (putUnit j v piece) ≡ 2336

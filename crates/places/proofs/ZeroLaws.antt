@@ -15,7 +15,7 @@ use Rattle.laws.proofs.Parts.{part-cons, part-none}
 use Rattle.laws.proofs.Pasting.{length-part, getD-part}
 use Rattle.laws.proofs.Tests.{both-ways}
 use Rattle.laws.proofs.Choices.{and-left, and-right, and-both}
-use Rattle.places.specs.Layout.{zeros}
+use Rattle.places.specs.Code.{zeros}
 
 or-zero : (a b : ℕ) → eqb (bitOr a b) 0 ≡ (eqb a 0 && eqb b 0)
 or-zero a b = both-ways _ _ down up

@@ -1,2 +1,3 @@
 -- Lent memory as places of one layout.
 pub mod Layout
+pub mod Code

@@ -4,7 +4,8 @@ ghost use mathlib.Core.List.{_∷_, _++_};
 ghost use Prim.Native.Nat.{_+_, _-_, _/_, _≤_, _<_};
 ghost use lib.ListN.{length};
 ghost use Rattle.laws.specs.Lists.{part};
-ghost use Rattle.places.specs.Layout.{placeCount, placeAt, changed, unitAt, wideAt, roomAt, textAt, listCount, blank, zeros, tidyRooms, tidy, putUnit, putWide, putSettings, keyOnly, wideUnits};
+ghost use Rattle.places.specs.Layout.{placeCount, placeAt, unitAt, wideAt, roomAt, textAt, listCount, blank, wideUnits};
+ghost use Rattle.places.specs.Code.{changed, zeros, tidyRooms, tidy, putUnit, putWide, putSettings, keyOnly};
 
 pub const PLACE: usize = 2336;
 

@@ -11,16 +11,17 @@ use lib.Dec.{leb}
 use Rattle.unc.specs.Paths.{firstOf}
 use Rattle.unc.proofs.PieceLaws.{spans}
 use Rattle.referral.specs.Request.{request}
-use Rattle.referral.specs.Found.{bufferWith}
+use Rattle.referral.specs.Request.{bufferWith}
 use Rattle.steps.specs.Steps.{Core, Question, Rest, waits, ended, Resting, nameAsked}
-use Rattle.steps.specs.Rested.{nextOf, askingOf}
+use Rattle.steps.specs.Held.{nextOf, askingOf}
 use Rattle.steps.specs.declared.Kind.{Kind}
 use Rattle.steps.specs.declared.Kind.the-variants.{Dc, Root, Link, Sysvol, Io}
 use Rattle.steps.specs.declared.End.{End}
 use Rattle.steps.specs.declared.Asking.{Asking}
 use Rattle.steps.specs.declared.Next.{Next}
 use Rattle.steps.specs.declared.Next.the-variants.{Asks, Ends}
-use Rattle.questions.specs.Questions.{requestName, nameFits, restFits, withRequest, outAfter, nameUnits, nextUnits, named}
+use Rattle.questions.specs.Questions.{requestName, nameFits, restFits, withRequest, outAfter}
+use Rattle.questions.specs.Code.{nameUnits, nextUnits, named}
 use Rattle.questions.specs.declared.Name.{Name}
 use Rattle.questions.specs.declared.Name.the-variants.{First, Absent}
 

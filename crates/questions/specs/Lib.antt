@@ -1,2 +1,3 @@
 -- The request of a question.
 pub mod Questions
+pub mod Code

@@ -3,18 +3,12 @@ use Prim.Native.Nat.{ℕ}
 use mathlib.Core.Bool.{Bool, true}
 use mathlib.Core.List.{List}
 use mathlib.Core.Option.{Option, none, some}
-use lib.ListN.{length, take}
+use lib.ListN.{length}
 use lib.Dec.{leb}
-use Rattle.unc.specs.Paths.{firstOf}
-use Rattle.referral.specs.Request.{request}
-use Rattle.referral.specs.Found.{bufferWith}
+use Rattle.referral.specs.Request.{request, bufferWith}
 use Rattle.steps.specs.Steps.{Core, Rest, waits, ended, Resting, nameAsked}
 use Rattle.steps.specs.declared.Kind.{Kind}
 use Rattle.steps.specs.declared.Kind.the-variants.{Dc, Root, Link, Sysvol, Io}
-use Rattle.steps.specs.declared.Next.{Next}
-use Rattle.steps.specs.declared.Next.the-variants.{Asks, Ends}
-use Rattle.questions.specs.declared.Name.{Name}
-use Rattle.questions.specs.declared.Name.the-variants.{First, Absent}
 
 -- the name of the request that a walk at rest puts; I/O and ends have none
 unfoldable pub requestName : Core → Rest → Option (List ℕ)
@@ -43,20 +37,3 @@ withRequest (some name) out = bufferWith name out
 
 unfoldable pub outAfter : Resting → List ℕ → List ℕ
 outAfter x out = withRequest (requestName (x .core) (x .rest)) out
-
--- how many units of the path are the name asked, by the kind and the next move
-unfoldable pub nameUnits : Kind → List ℕ → Name
-nameUnits Dc path = First (length (firstOf 1 path))
-nameUnits Root path = First (length (firstOf 2 path))
-nameUnits Link path = First (length path)
-nameUnits Sysvol path = First (length (firstOf 2 path))
-nameUnits Io path = Absent
-
-unfoldable pub nextUnits : Next → List ℕ → Name
-nextUnits (Asks q) path = nameUnits (q .kind) path
-nextUnits (Ends e status) path = Absent
-
--- the name as a part of the path
-unfoldable pub named : Name → List ℕ → Option (List ℕ)
-named (First n) path = some (take n path)
-named Absent path = none

@@ -1,7 +1,8 @@
 // The request of the question that waits, into a lent buffer.
 ghost use mathlib.Core.Path.{_≡_};
 ghost use mathlib.Core.Bool.{true};
-ghost use Rattle.questions.specs.Questions.{nameFits, withRequest, nameUnits, nextUnits, named};
+ghost use Rattle.questions.specs.Questions.{nameFits, withRequest};
+ghost use Rattle.questions.specs.Code.{nameUnits, nextUnits, named};
 use steps::Kind;
 use steps::Next;
 

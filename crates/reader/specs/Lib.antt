@@ -1,2 +1,2 @@
 -- What a thin reader gives of a reply: the header and the fixed part of an entry.
-pub mod Fields
+pub mod Code

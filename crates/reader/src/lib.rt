@@ -4,8 +4,8 @@ ghost use mathlib.Core.Path.{_≡_};
 ghost use Prim.Native.Nat.{_+_, _<_, _^_};
 ghost use lib.ListN.{length};
 ghost use Rattle.spans.specs.Bytes.{u16At, u32At, textAt};
-ghost use Rattle.spans.specs.Spans.{textEnd};
-ghost use Rattle.reader.specs.Fields.{headerOf, startOf, entryMarks, offsetsOf};
+ghost use Rattle.spans.specs.Code.{textEnd};
+ghost use Rattle.reader.specs.Code.{headerOf, startOf, entryMarks, offsetsOf};
 use spans::Read;
 
 pub struct Reader<'a> {

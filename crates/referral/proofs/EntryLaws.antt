@@ -13,7 +13,7 @@ use Rattle.laws.proofs.Orders.{told, lt-or-le}
 use Rattle.laws.specs.Lists.{every}
 use Rattle.unc.specs.Names.{sameName}
 use Rattle.spans.specs.Bytes.{u16At, flag}
-use Rattle.spans.specs.Spans.{spanned}
+use Rattle.spans.specs.Code.{spanned}
 use Rattle.spans.specs.declared.Span.{Span}
 use Rattle.spans.proofs.UnitLaws.{length-spanned}
 use Rattle.referral.specs.Replies.{versionAt, sizeAt, serverTypeAt, entryFlag, fits, readable, fixedLength, goodFields, goodEntry, isRead, prefixAt, targetAt, starts, entries, referralCount}

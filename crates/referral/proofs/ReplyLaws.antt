@@ -13,7 +13,7 @@ use Rattle.laws.specs.Lists.{every}
 use Rattle.laws.proofs.Choices.{choose-yes, choose-no, and-both, and-no-left, and-no-right}
 use Rattle.spans.specs.Bytes.{u16At, flag}
 use Rattle.referral.specs.Replies.{goodEntry, malformed, nothing, says, readAs, referralCount, entries}
-use Rattle.referral.specs.Found.{replyOf, denoted, noReferral, ReferralInside}
+use Rattle.referral.specs.Code.{replyOf, denoted, noReferral, ReferralInside}
 use Rattle.referral.specs.declared.ReferralFound.{ReferralFound}
 use Rattle.referral.specs.declared.Answer.{Answer}
 use Rattle.referral.specs.declared.Answer.the-variants.{Malformed, Nothing}

@@ -13,7 +13,8 @@ use Rattle.laws.specs.Lists.{pasted}
 use Rattle.laws.proofs.Choices.{choose-yes, choose-no}
 use Rattle.laws.proofs.Pasting.{set-pasted, length-pasted, pasted-join, pasted-nil}
 use Rattle.referral.specs.Request.{bytesOf, request}
-use Rattle.referral.specs.Found.{asked, bufferWith}
+use Rattle.referral.specs.Code.{asked}
+use Rattle.referral.specs.Request.{bufferWith}
 use Rattle.referral.specs.declared.Asked.the-variants.{Bytes, TooShort}
 
 pub length-bytes : (s : List ℕ) → length (bytesOf s) ≡ 2 * length s

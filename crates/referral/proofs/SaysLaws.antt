@@ -17,7 +17,7 @@ use Rattle.unc.specs.Names.{goodComponent, sameName}
 use Rattle.unc.specs.Paths.{leads, pieces, body, goodPath, normalised, isNormalised, normalisedCount, componentCount, matches}
 use Rattle.spans.specs.Bytes.{Text, terminated, unterminated}
 use Rattle.referral.specs.Replies.{referralCount, starts, entries, pathOf, isRead, prefixAt, targetAt, goodFields, goodEntry, Target, laterTarget, keptTargets, Referral, referralIn, malformed, nothing, says, readAs, readReferral}
-use Rattle.referral.specs.Found.{replyOf, denoted, referralShown}
+use Rattle.referral.specs.Code.{replyOf, denoted, referralShown}
 use Rattle.referral.specs.declared.ReferralFound.{ReferralFound}
 use Rattle.referral.specs.declared.Answer.{Answer}
 use Rattle.referral.specs.declared.Answer.the-variants.{Says}

@@ -13,10 +13,10 @@ use Rattle.laws.proofs.Choices.{and-left, and-right, and-no-left}
 use Rattle.laws.proofs.Orders.{lt-or-le}
 use Rattle.laws.proofs.Filling.{filled-next, filled-whole, every-set, every-copies}
 use Rattle.spans.specs.Bytes.{u16At, flag}
-use Rattle.spans.specs.Spans.{spanned, Inside}
+use Rattle.spans.specs.Code.{spanned, Inside}
 use Rattle.spans.specs.declared.Span.{Span}
 use Rattle.referral.specs.Replies.{versionAt, sizeAt, entryFlag, starts, entries, referralCount, goodEntry, Target, targetAt, laterTarget, keptTargets}
-use Rattle.referral.specs.Found.{isInside, keptInside, opensAt, targetShown}
+use Rattle.referral.specs.Code.{isInside, keptInside, opensAt, targetShown}
 use Rattle.referral.specs.declared.Kept.{Kept}
 use Rattle.referral.proofs.EntryLaws.{starts-cons, starts-none, entry-fit}
 

@@ -11,11 +11,12 @@ use lib.Seq.{drop-cons}
 use borrow.Author.Tests.{le-leb, lt-leb}
 use Rattle.laws.proofs.Choices.{choose-yes, choose-no, and-both, and-no-left, and-no-right}
 use Rattle.laws.proofs.Orders.{lt-or-le}
-use Rattle.unc.specs.Paths.{leads, withoutTrail, body, goodPath, normalised, goodCount, componentCount}
+use Rattle.unc.specs.Paths.{leads, withoutTrail, body, goodPath, normalised, componentCount}
+use Rattle.unc.specs.Code.{goodCount}
 use Rattle.unc.proofs.PieceLaws.{parts}
 use Rattle.unc.proofs.FormLaws.{leads-none, leads-one, leads-two, leads-within, body-found, body-length, body-within, count-found, found-good, path-unled, path-bad, count-none, count-some, count-normalised}
-use Rattle.spans.specs.Bytes.{unitsAt, Text, terminated, unterminated}
-use Rattle.spans.specs.Spans.{spanned}
+use Rattle.spans.specs.Code.{unitsAt, spanned}
+use Rattle.spans.specs.Bytes.{Text, terminated, unterminated}
 use Rattle.referral.specs.Replies.{pathOf}
 
 -- a span of no units

@@ -1,4 +1,4 @@
 -- Document 01, "Layouts": requests and replies as bytes.
 pub mod Request
 pub mod Replies
-pub mod Found
+pub mod Code

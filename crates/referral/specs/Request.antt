@@ -1,6 +1,10 @@
 -- The request: MaxReferralLevel 4, the name, a unit 0.
 use Prim.Native.Nat.{ℕ, _/_, _%_}
 use mathlib.Core.List.{List, [], _∷_, _++_}
+use lib.ListN.{length}
+use lib.Dec.{leb}
+use Rattle.laws.specs.Choice.{choose}
+use Rattle.laws.specs.Lists.{pasted}
 
 -- a unit as two bytes, the low one first
 unfoldable pub bytesOf : List ℕ → List ℕ
@@ -9,3 +13,7 @@ bytesOf (u ∷ s) = u % 256 ∷ (u / 256 ∷ bytesOf s)
 
 unfoldable pub request : List ℕ → List ℕ
 request name = bytesOf (4 ∷ (name ++ (0 ∷ [])))
+
+-- the buffer after a request was written at its start; one that is too short stays as it was
+unfoldable pub bufferWith : List ℕ → List ℕ → List ℕ
+bufferWith name out = choose (leb (length (request name)) (length out)) (pasted out 0 (request name)) out

@@ -7,12 +7,12 @@ ghost use Prim.Native.Nat.{_+_, _≤_, _<_, min};
 ghost use lib.ListN.{length, take};
 ghost use Rattle.laws.specs.Lists.{every};
 ghost use Rattle.spans.specs.Bytes.{flag, terminated, textAt};
-ghost use Rattle.spans.specs.Spans.{spanned, Inside};
+ghost use Rattle.spans.specs.Code.{spanned, Inside};
 ghost use Rattle.referral.specs.Replies.{pathOf};
 ghost use Rattle.referral.specs.Replies.{referralCount, versionAt, sizeAt, serverTypeAt, entries, fits, readable};
 ghost use Rattle.referral.specs.Replies.{goodFields, goodEntry, keptTargets, prefixAt, targetAt, referralIn, readReferral};
 ghost use Rattle.referral.specs.Replies.{says};
-ghost use Rattle.referral.specs.Found.{FirstEntry, GoodReply, ReferralInside, noReferral, opensAt, keptInside, targetShown, denoted, asked};
+ghost use Rattle.referral.specs.Code.{FirstEntry, GoodReply, ReferralInside, noReferral, opensAt, keptInside, targetShown, denoted, asked};
 use spans::Read;
 use spans::Span;
 

@@ -5,7 +5,8 @@ ghost use Prim.Native.Nat.{_+_, _*_, _≤_, _<_};
 ghost use lib.ListN.{length};
 ghost use Rattle.laws.specs.Lists.{pasted};
 ghost use Rattle.referral.specs.Request.{bytesOf, request};
-ghost use Rattle.referral.specs.Found.{asked, bufferWith};
+ghost use Rattle.referral.specs.Code.{asked};
+ghost use Rattle.referral.specs.Request.{bufferWith};
 use referral::Asked;
 
 // The number of bytes of a request for a name.

@@ -13,20 +13,20 @@ use Rattle.laws.proofs.Tests.{not-both}
 use Rattle.caches.specs.Memory.{referrals, domains, encode, inOrder}
 use Rattle.caches.proofs.MemoryLaws.{encode-decode}
 use Rattle.steps.specs.Steps.{Caches, Turn, Resting, turned, referralAnswered, ioAnswered}
-use Rattle.steps.specs.Rested.{cachesOf}
+use Rattle.steps.specs.Held.{cachesOf, questionOf}
 use Rattle.steps.specs.declared.End.{End}
 use Rattle.steps.specs.declared.Asking.{Asking}
 use Rattle.steps.specs.declared.Next.{Next}
 use Rattle.steps.specs.declared.Next.the-variants.{Asks, Ends}
-use Rattle.rounds.specs.Rounds.{questionOf}
 use Rattle.questions.specs.Questions.{restFits}
-use Rattle.answers.specs.Answers.{domainsLeft}
-use Rattle.hints.specs.Hints.{referralsLeft}
-use Rattle.tries.specs.Tries.{restOf, withDoms}
+use Rattle.answers.specs.Code.{domainsLeft}
+use Rattle.hints.specs.Code.{referralsLeft}
+use Rattle.tries.specs.Code.{restOf, withDoms}
 use Rattle.tries.proofs.TryLaws.{io-domains}
 use Rattle.walks.specs.Walks.{pathIn, triedIn, bootIn, hasTried, inForm}
 use Rattle.walks.specs.declared.Walk.{Walk}
-use Rattle.turns.specs.Turns.{coreIn, AnswerDue, ioTurn, referralTurn}
+use Rattle.walks.specs.Walks.{coreIn}
+use Rattle.turns.specs.Code.{AnswerDue, ioTurn, referralTurn}
 use Rattle.turns.proofs.TurnLaws.{io-turned, still-io}
 use Rattle.turns.proofs.DueLaws.{tried-io, none-tried}
 use Rattle.closing.specs.Closing.{Left, closes}

@@ -12,19 +12,21 @@ use borrow.Author.Tests.{le-leb, leb-true}
 use Rattle.laws.specs.Lists.{roomed}
 use Rattle.laws.proofs.Choices.{choose-yes, choose-no, and-yes-left, and-no-left}
 use Rattle.laws.proofs.Orders.{told}
-use Rattle.unc.specs.Paths.{goodPath, normalised, isNormalised, componentCount, formWithin, roomAfter, pathUnits, body}
+use Rattle.unc.specs.Paths.{goodPath, normalised, isNormalised, componentCount, pathUnits, body}
+use Rattle.unc.specs.Code.{formWithin, roomAfter}
 use Rattle.unc.specs.declared.Form.{Form}
 use Rattle.unc.specs.declared.Form.the-variants.{Bad, Long, Good}
 use Rattle.unc.proofs.FormLaws.{count-normalised}
 use Rattle.unc.proofs.PieceLaws.{pieces-some}
 use Rattle.unc.proofs.WholeLaws.{normalised-is}
-use Rattle.texts.specs.Texts.{textsOf, Standing}
+use Rattle.texts.specs.Texts.{textsOf}
+use Rattle.texts.specs.Code.{Standing}
 use Rattle.texts.proofs.TextLaws.{path-in, taken-stands}
 use Rattle.caches.specs.Memory.{referrals, domains, inOrder}
 use Rattle.walks.specs.declared.Walk.{Walk}
 use Rattle.closing.specs.Closing.{Left, refused}
 use Rattle.closing.specs.declared.Verdict.the-variants.{BadPath, LongPath, NotInOrder}
-use Rattle.starts.specs.Starts.{pathRooms, startAt, Begun}
+use Rattle.starts.specs.Code.{pathRooms, startAt, Begun}
 use Rattle.resolve.specs.Calls.{startRest, startCall}
 
 -- both caches

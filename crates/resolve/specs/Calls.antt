@@ -9,16 +9,13 @@ use Rattle.laws.specs.Choice.{choose}
 use Rattle.unc.specs.Paths.{goodPath, normalised, pathUnits}
 use Rattle.caches.specs.Memory.{referrals, domains, encode, inOrder}
 use Rattle.steps.specs.Steps.{Caches, Core, Rest, waits, ended, Turn, Resting, started, referralAnswered, ioAnswered, turned}
-use Rattle.steps.specs.Rested.{cachesOf, coreOf}
+use Rattle.steps.specs.Held.{cachesOf, coreOf, questionOf}
 use Rattle.steps.specs.declared.Next.{Next}
 use Rattle.steps.specs.declared.Next.the-variants.{Asks, Ends}
-use Rattle.rounds.specs.Rounds.{questionOf}
 use Rattle.questions.specs.Questions.{restFits}
-use Rattle.walks.specs.Walks.{goodSettings, hasTried, inForm, triedIn, bootIn}
+use Rattle.walks.specs.Walks.{goodSettings, hasTried, inForm, triedIn, bootIn, coreIn}
 use Rattle.walks.specs.declared.Walk.{Walk}
-use Rattle.turns.specs.Turns.{coreIn}
-use Rattle.closing.specs.Closing.{Left, left, refused, closes}
-use Rattle.closing.specs.declared.Outcome.{Outcome}
+use Rattle.closing.specs.Closing.{Left, refused, closes}
 use Rattle.closing.specs.declared.Verdict.{Verdict}
 use Rattle.closing.specs.declared.Verdict.the-variants.{Taken, BadPath, LongPath, BadSettings, NotInOrder, OutOfForm, ShortBuffer}
 
@@ -59,9 +56,7 @@ pub record Answered : Type 0 where
   pub refs : List ℕ
   pub doms : List ℕ
 
-abbrev pub answered : Outcome → List ℕ → List ℕ → List ℕ → List ℕ → Answered
-answered o texts out refs doms = record { left = left o texts out; refs = refs; doms = doms }
-
+-- a refused answer changes nothing
 abbrev pub refusedAnswer : Verdict → Walk → List ℕ → List ℕ → List ℕ → List ℕ → Answered
 refusedAnswer v walk texts out refs doms = record { left = refused v walk texts out; refs = refs; doms = doms }
 

@@ -1,2 +1,3 @@
 -- The calls of a host.
 pub mod Calls
+pub mod Code

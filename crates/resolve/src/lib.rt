@@ -2,8 +2,9 @@
 ghost use mathlib.Core.Path.{_≡_};
 ghost use mathlib.Core.Bool.{_&&_};
 ghost use Rattle.caches.specs.Memory.{referrals, domains, inOrder};
-ghost use Rattle.closing.specs.Closing.{left};
-ghost use Rattle.resolve.specs.Calls.{answered, startCall, ioCall, referralCall};
+ghost use Rattle.closing.specs.Code.{left};
+ghost use Rattle.resolve.specs.Code.{answered};
+ghost use Rattle.resolve.specs.Calls.{startCall, ioCall, referralCall};
 use closing::Outcome;
 use closing::Verdict;
 use steps::Next;

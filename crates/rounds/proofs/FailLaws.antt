@@ -9,7 +9,8 @@ use borrow.Author.Tests.{eq-eqb, ne-eqb, ltb-true}
 use Rattle.laws.proofs.Choices.{choose-yes, choose-no, and-right}
 use Rattle.unc.specs.Paths.{firstOf}
 use Rattle.steps.specs.Steps.{Caches, Core, Question, Called, ends, asks, rests, ended, nextPlace, onward, partyCount, domainInUse, referralInUse, step6, linkRequest, doubled, failedHost, failed, referralFails, bufferOverflow, pathNotFound, mostSize}
-use Rattle.steps.specs.Rested.{cachesOf, askingOf, nextOf, triedOf, restedOf, endedAt, askedAt}
+use Rattle.steps.specs.Held.{cachesOf, askingOf, nextOf, triedOf, questionOf}
+use Rattle.steps.specs.Code.{restedOf, endedAt, askedAt}
 use Rattle.steps.specs.declared.Kind.{Kind}
 use Rattle.steps.specs.declared.Kind.the-variants.{Dc, Root, Link, Sysvol, Io}
 use Rattle.steps.specs.declared.End.{End}
@@ -17,7 +18,7 @@ use Rattle.steps.specs.declared.End.the-variants.{NotDfs, NoDc, Failed}
 use Rattle.steps.specs.declared.Asking.{Asking}
 use Rattle.steps.specs.declared.Rested.{Rested}
 use Rattle.steps.proofs.StepLaws.{asked-as}
-use Rattle.rounds.specs.Rounds.{questionOf, failureRests, dcsNamed, targetsUnder, again, failedDc, failedRoot, failedLink}
+use Rattle.rounds.specs.Code.{failureRests, dcsNamed, targetsUnder, again, failedDc, failedRoot, failedLink}
 
 -- an end, as the steps rest there
 pub ended-rests : (e : End) (status left : ℕ) (w : Core) → endedAt e status (length (w .path)) left (w .hit) ≡ restedOf (rests w left (ended e status []))

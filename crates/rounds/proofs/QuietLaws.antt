@@ -9,12 +9,12 @@ use Rattle.laws.specs.Choice.{choose}
 use Rattle.unc.specs.Paths.{pathUnits}
 use Rattle.caches.specs.Entries.{Referral}
 use Rattle.steps.specs.Steps.{Caches, Core, Question, Called, stops, ends, asks, replaces, waits, ended, rests, asking, goes, nextPlace, onward, step6, linkRequest, doubled, failedHost, failed, referralFails, ioFails, pathNotFound}
-use Rattle.steps.specs.Rested.{triedOf}
+use Rattle.steps.specs.Held.{triedOf}
 use Rattle.steps.specs.declared.Kind.{Kind}
 use Rattle.steps.specs.declared.Kind.the-variants.{Dc, Root, Link, Sysvol, Io}
 use Rattle.steps.specs.declared.End.{End}
 use Rattle.steps.specs.declared.End.the-variants.{NotDfs, NoDc, Failed, TooLong}
-use Rattle.rounds.specs.Rounds.{failureRests}
+use Rattle.rounds.specs.Code.{failureRests}
 
 pub data Quiet : Called → Type 0 where
   still : (e : End) (status : ℕ) (tried : List ℕ) → Quiet (stops e status tried)

@@ -11,18 +11,19 @@ use Rattle.laws.proofs.Choices.{choose-yes, choose-no}
 use Rattle.unc.specs.Paths.{components}
 use Rattle.places.specs.Layout.{placeCount}
 use Rattle.caches.specs.Memory.{referrals, domains, decode}
-use Rattle.lookup.specs.Lookup.{withKey, entryAt}
+use Rattle.lookup.specs.Lookup.{withKey}
+use Rattle.lookup.specs.Code.{entryAt}
 use Rattle.lookup.specs.declared.Found.{Found}
 use Rattle.lookup.specs.declared.Found.the-variants.{At, Nothing}
 use Rattle.lookup.proofs.EntryLaws.{count-targets, count-dcs}
 use Rattle.storing.specs.Stored.{held, prefixed}
 use Rattle.steps.specs.Steps.{Caches, domainNamed, isThere, dcCount, targetCount, domainInUse, referralInUse, partyCount, inUse, nextPlace}
-use Rattle.steps.specs.Rested.{cachesOf, coreOf}
+use Rattle.steps.specs.Held.{cachesOf, coreOf, questionOf}
 use Rattle.steps.specs.declared.Kind.{Kind}
 use Rattle.steps.specs.declared.Kind.the-variants.{Dc, Root, Link, Sysvol, Io}
 use Rattle.steps.specs.declared.Asking.{Asking}
 use Rattle.steps.proofs.HeldLaws.{none-held, key-held, key-fits}
-use Rattle.rounds.specs.Rounds.{questionOf, domainThere, dcsNamed, targetsUnder, inRound}
+use Rattle.rounds.specs.Code.{domainThere, dcsNamed, targetsUnder, inRound}
 
 -- the domain of the first component
 pub place-named : (path raw : List ℕ) {name : List ℕ} {f : Found} → name ≡ getD (components path) 0 [] → f ≡ withKey domains name (decode domains raw)

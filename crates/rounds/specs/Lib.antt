@@ -1,2 +1,2 @@
 -- Rounds over parties.
-pub mod Rounds
+pub mod Code

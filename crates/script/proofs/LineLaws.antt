@@ -10,7 +10,8 @@ use borrow.Author.Tests.{eq-eqb, ne-eqb, le-leb, lt-leb}
 use Rattle.laws.specs.Lists.{every, pasted}
 use Rattle.laws.proofs.Choices.{choose-yes, choose-no, and-both, and-right, and-no-left, and-no-right, and-yes-left}
 use Rattle.laws.proofs.Tests.{refuted}
-use Rattle.unspelling.specs.Reading.{unspelled, isSpelled, spelledForm}
+use Rattle.unspelling.specs.Reading.{unspelled, isSpelled}
+use Rattle.unspelling.specs.Code.{spelledForm}
 use Rattle.unspelling.specs.declared.Spelled.{Spelled}
 use Rattle.unspelling.specs.declared.Spelled.the-variants.{Bad, Units}
 use Rattle.unspelling.specs.declared.Number.{Number}

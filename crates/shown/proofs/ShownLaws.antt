@@ -20,13 +20,14 @@ use Rattle.caches.specs.Entries.{Referral, Domain}
 use Rattle.caches.specs.Order.{goodPrefix}
 use Rattle.caches.specs.Memory.{referrals, domains, decode, inOrder}
 use Rattle.caches.proofs.KindLaws.{prefix-short}
-use Rattle.lookup.specs.Lookup.{withKey, entryAt, targetPath, dcName}
+use Rattle.lookup.specs.Lookup.{withKey, targetPath, dcName}
+use Rattle.lookup.specs.Code.{entryAt}
 use Rattle.lookup.specs.declared.Found.{Found}
 use Rattle.lookup.specs.declared.Found.the-variants.{At, Nothing}
 use Rattle.lookup.proofs.EntryLaws.{read-target, read-dc}
 use Rattle.storing.specs.Stored.{prefixed}
 use Rattle.steps.specs.Steps.{Caches, Core, Question, Rest, waits, ended, domainNamed, domainInUse, referralInUse, inUse, nameAsked, endNumber}
-use Rattle.steps.specs.Rested.{cachesOf, coreOf}
+use Rattle.steps.specs.Held.{cachesOf, coreOf, questionOf}
 use Rattle.steps.specs.declared.Kind.{Kind}
 use Rattle.steps.specs.declared.Kind.the-variants.{Dc, Root, Link, Sysvol, Io}
 use Rattle.steps.specs.declared.End.{End}
@@ -35,18 +36,19 @@ use Rattle.steps.specs.declared.Next.{Next}
 use Rattle.steps.specs.declared.Next.the-variants.{Asks, Ends}
 use Rattle.steps.proofs.HeldLaws.{none-held, key-held}
 use Rattle.steps.proofs.StepLaws.{host-is}
-use Rattle.questions.specs.Questions.{nameUnits, nextUnits}
+use Rattle.questions.specs.Code.{nameUnits, nextUnits}
 use Rattle.questions.specs.declared.Name.{Name}
 use Rattle.questions.specs.declared.Name.the-variants.{First, Absent}
-use Rattle.rounds.specs.Rounds.{questionOf, dcsNamed, targetsUnder, inRound}
+use Rattle.rounds.specs.Code.{dcsNamed, targetsUnder, inRound}
 use Rattle.rounds.proofs.RoundLaws.{place-named, dcs-fit, dcs-held, targets-fit, targets-held, in-use-same, in-use-root, in-use-sysvol, in-use-link, in-use-io}
 use Rattle.walks.specs.Walks.{inForm, nextInForm, pathIn, triedIn, bootIn}
 use Rattle.walks.specs.declared.Walk.{Walk}
 use Rattle.walks.proofs.FormLaws.{Formed, form-told, Waiting, waiting-told, link-named, io-named, dc-named, sysvol-named, root-named}
 use Rattle.packing.specs.Packing.{kindNumber}
-use Rattle.turns.specs.Turns.{coreIn}
+use Rattle.walks.specs.Walks.{coreIn}
 use Rattle.resolve.specs.Calls.{restIn, restAt}
-use Rattle.shown.specs.Shown.{Given, given, shows, showsSome, dcAtPlace, targetAtPlace, rootParty, partyOf, partyText, Showable, questionShown, endPath, endShown}
+use Rattle.shown.specs.Shown.{Given, given, shows, showsSome, dcAtPlace, targetAtPlace, partyOf, partyText, questionShown, endPath, endShown}
+use Rattle.shown.specs.Code.{rootParty, Showable}
 use Rattle.shown.specs.Shown.{partyAt, partyCall, nameAt, nameCall, pathAt, pathCall, questionAt, questionCall, endAt, endCall}
 use Rattle.shown.specs.declared.Shown.the-variants.{Units, NotInOrder, OutOfForm, ShortBuffer, NoEntry}
 

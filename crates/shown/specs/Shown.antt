@@ -1,7 +1,6 @@
 -- What a host is shown of a walk: the question that waits (kind, party, name, size), or the end (number, status, path, moves).
-use Prim.Native.Nat.{ℕ, _≤_}
-use mathlib.Core.Path.{_≡_}
-use mathlib.Core.Bool.{true, _&&_}
+use Prim.Native.Nat.{ℕ}
+use mathlib.Core.Bool.{_&&_}
 use mathlib.Core.List.{List, [], _∷_}
 use mathlib.Core.Option.{Option, none, some}
 use lib.ListN.{length, getD}
@@ -10,21 +9,17 @@ use Rattle.laws.specs.Choice.{choose}
 use Rattle.laws.specs.Lists.{pasted}
 use Rattle.unc.specs.Paths.{components}
 use Rattle.caches.specs.Entries.{Referral, Domain}
-use Rattle.caches.specs.Order.{goodPrefix}
-use Rattle.caches.specs.Memory.{referrals, domains, decode, inOrder}
+use Rattle.caches.specs.Memory.{referrals, domains, inOrder}
 use Rattle.lookup.specs.Lookup.{targetPath, dcName}
-use Rattle.steps.specs.Steps.{Caches, Core, Question, Rest, waits, ended, domainNamed, domainInUse, referralInUse, inUse, nameAsked, endNumber}
-use Rattle.steps.specs.Rested.{cachesOf, coreOf}
-use Rattle.steps.specs.declared.Asking.{Asking}
-use Rattle.rounds.specs.Rounds.{questionOf}
+use Rattle.steps.specs.Steps.{Caches, Core, Question, Rest, waits, ended, domainInUse, referralInUse, inUse, nameAsked, endNumber}
+use Rattle.steps.specs.Held.{cachesOf}
 use Rattle.steps.specs.declared.Kind.{Kind}
 use Rattle.steps.specs.declared.Kind.the-variants.{Dc, Root, Link, Sysvol, Io}
 use Rattle.steps.specs.declared.End.{End}
 use Rattle.steps.specs.declared.End.the-variants.{Done, NotDfs, NoDc, Failed, LimitReached, Malformed, TooLong, Gone}
-use Rattle.walks.specs.Walks.{inForm, bootIn}
+use Rattle.walks.specs.Walks.{inForm, bootIn, coreIn}
 use Rattle.walks.specs.declared.Walk.{Walk}
 use Rattle.packing.specs.Packing.{kindNumber}
-use Rattle.turns.specs.Turns.{coreIn}
 use Rattle.resolve.specs.Calls.{restIn}
 use Rattle.shown.specs.declared.Shown.{Shown}
 use Rattle.shown.specs.declared.Shown.the-variants.{Units, NotInOrder, OutOfForm, ShortBuffer, NoEntry}
@@ -47,11 +42,6 @@ unfoldable pub targetAtPlace : ℕ → Option Referral → Option (List ℕ)
 targetAtPlace place none = none
 targetAtPlace place (some e) = some (targetPath place e)
 
--- the party of a root request: the host, or a DC of the path's domain
-unfoldable pub rootParty : ℕ → ℕ → List ℕ → List ℕ → Option (List ℕ)
-rootParty entry place path doms =
-    choose (eqb entry 0) (some (getD (components path) 0 [])) (dcAtPlace place (domainNamed (getD (components path) 0 []) (decode domains doms)))
-
 -- The party: of a DC request the bootstrap DC; of a root request to a host the path's first component; of root requests through a domain and of
 -- SYSVOL requests the DC's name; of link requests and I/O tries the whole path of the target.
 unfoldable pub partyOf : Caches → Core → List ℕ → Question → Option (List ℕ)
@@ -67,13 +57,6 @@ partyOf c w boot q = by (q .kind)
 -- and none by the test of end 27: the entry in use is gone, or has not both parties of the round
 unfoldable pub partyText : Caches → Core → List ℕ → Question → Option (List ℕ)
 partyText c w boot q = choose (inUse c w q) (partyOf c w boot q) none
-
--- a question whose entry in use is there, and the bootstrap DC
-pub record Showable (refs doms path boot : List ℕ) (q : Asking) : Type 0 where
-  pub good : goodPrefix path ≡ true
-  pub within : q .entry ≤ length path
-  pub few : length boot ≤ 256
-  pub there : inUse (cachesOf refs doms) (coreOf path 0 true) (questionOf q []) ≡ true
 
 -- a question as it is shown
 pub record QuestionShown : Type 0 where

@@ -17,8 +17,8 @@ use Rattle.laws.specs.Lists.{pasted, roomed}
 use Rattle.laws.proofs.Orders.{told}
 use Rattle.laws.proofs.Pasting.{pasted-room}
 use Rattle.unc.specs.Names.{sameUnit}
-use Rattle.spans.specs.Bytes.{u16At, unitsAt, Text, terminated, unterminated, longer, text, textAt}
-use Rattle.spans.specs.Spans.{spanned, Inside, partOf, textEnd}
+use Rattle.spans.specs.Bytes.{u16At, Text, terminated, unterminated, longer, text, textAt}
+use Rattle.spans.specs.Code.{unitsAt, spanned, Inside, partOf, textEnd}
 use Rattle.spans.specs.declared.Span.{Span}
 use Rattle.spans.specs.declared.Read.the-variants.{Ended, Unended}
 

@@ -1,5 +1,5 @@
 -- Numbers, flags and texts in a list of bytes, little-endian, at any offset.
-use Prim.Native.Nat.{ℕ, zero, suc, _+_, _*_, _/_, _%_}
+use Prim.Native.Nat.{ℕ, _+_, _*_, _/_, _%_}
 use mathlib.Core.Bool.{Bool}
 use mathlib.Core.List.{List, [], _∷_}
 use lib.ListN.{getD, drop}
@@ -15,11 +15,6 @@ u32At r i = u16At r i + 65536 * u16At r (i + 2)
 -- the flag m, a power of two, is set in f
 unfoldable pub flag : ℕ → ℕ → Bool
 flag m f = eqb (f / m % 2) 1
-
--- n units from place i on
-unfoldable pub unitsAt : ℕ → ℕ → List ℕ → List ℕ
-unitsAt zero i r = []
-unitsAt (suc n) i r = u16At r i ∷ unitsAt n (i + 2) r
 
 -- "A string ends with a unit 0 inside the reply": the text before that unit, or none.
 pub data Text : Type 0 where

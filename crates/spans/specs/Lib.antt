@@ -1,3 +1,3 @@
 -- Bytes: numbers, texts and spans of units in them.
 pub mod Bytes
-pub mod Spans
+pub mod Code

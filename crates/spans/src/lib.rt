@@ -4,9 +4,10 @@ ghost use Prim.Native.Nat.{_+_, _-_, _*_, _≤_, _<_};
 ghost use lib.ListN.{length, getD, drop};
 ghost use Rattle.laws.specs.Lists.{pasted, roomed};
 ghost use Rattle.unc.specs.Names.{sameName, nothingOrDots, goodName};
-ghost use Rattle.unc.specs.Paths.{plainLength, goodCount, leads, withoutTrail, matches};
+ghost use Rattle.unc.specs.Code.{plainLength, goodCount};
+ghost use Rattle.unc.specs.Paths.{leads, withoutTrail, matches};
 ghost use Rattle.spans.specs.Bytes.{u16At, u32At, textAt};
-ghost use Rattle.spans.specs.Spans.{spanned, Inside, partOf, textEnd};
+ghost use Rattle.spans.specs.Code.{spanned, Inside, partOf, textEnd};
 
 const BACKSLASH: u16 = 92;
 

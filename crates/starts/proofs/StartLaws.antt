@@ -13,23 +13,26 @@ use Rattle.laws.specs.Lists.{pasted}
 use Rattle.laws.specs.Choice.{choose}
 use Rattle.laws.proofs.Choices.{choose-yes, choose-no, and-both}
 use Rattle.laws.proofs.Orders.{told}
-use Rattle.unc.specs.Paths.{isNormalised, componentCount, normalisedCount, formWithin, roomAfter, pathUnits}
+use Rattle.unc.specs.Paths.{isNormalised, componentCount, normalisedCount, pathUnits}
+use Rattle.unc.specs.Code.{formWithin, roomAfter}
 use Rattle.unc.specs.declared.Form.{Form}
 use Rattle.caches.specs.Order.{goodPrefix}
 use Rattle.steps.specs.Steps.{Caches, Core, stops, ends, Turn, ended, rests, started, fromStep2, goes, hitAt, withHit, step2, turned}
-use Rattle.steps.specs.Rested.{cachesOf, coreOf, endedAt}
+use Rattle.steps.specs.Held.{cachesOf, coreOf}
+use Rattle.steps.specs.Code.{endedAt}
 use Rattle.steps.specs.declared.End.{End}
 use Rattle.steps.specs.declared.End.the-variants.{NotDfs}
 use Rattle.steps.specs.declared.Rested.{Rested}
-use Rattle.moves.specs.Moves.{Packed, joined, packed, stepsFrom, Ready}
+use Rattle.moves.specs.Code.{Packed, joined, packed, stepsFrom, Ready}
 use Rattle.moves.proofs.MoveLaws.{standing-path, packed-end}
 use Rattle.answers.proofs.RestLaws.{Kept, kept-goes, rest-left, rest-path}
 use Rattle.walks.specs.Walks.{goodSettings}
 use Rattle.walks.specs.declared.Walk.{Walk}
-use Rattle.closing.specs.Closing.{Left, refused, closes, closedRest}
+use Rattle.closing.specs.Closing.{Left, refused, closes}
+use Rattle.closing.specs.Code.{closedRest}
 use Rattle.closing.specs.declared.Verdict.the-variants.{BadSettings, OutOfForm}
 use Rattle.closing.proofs.RestLaws.{closed-rest}
-use Rattle.starts.specs.Starts.{pathRooms, startAt, startRooms, Begun}
+use Rattle.starts.specs.Code.{pathRooms, startAt, startRooms, Begun}
 
 -- a normalised path of two components or more is good
 good-counted : (s : List ℕ) → length s ≤ 256 → isNormalised s ≡ true → 2 ≤ componentCount s → goodPrefix s ≡ true

@@ -1,2 +1,2 @@
 -- A start whose path has been tested for its form.
-pub mod Starts
+pub mod Code

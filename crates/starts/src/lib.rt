@@ -2,12 +2,13 @@
 ghost use mathlib.Core.Path.{_≡_};
 ghost use mathlib.Core.Bool.{false};
 ghost use lib.ListN.{length, take};
-ghost use Rattle.unc.specs.Paths.{formWithin, pathUnits};
+ghost use Rattle.unc.specs.Code.{formWithin};
+ghost use Rattle.unc.specs.Paths.{pathUnits};
 ghost use Rattle.steps.specs.Steps.{started, turned};
-ghost use Rattle.steps.specs.Rested.{cachesOf, coreOf};
-ghost use Rattle.moves.specs.Moves.{joined, packed};
-ghost use Rattle.closing.specs.Closing.{left};
-ghost use Rattle.starts.specs.Starts.{pathRooms, startAt, startRooms, Begun};
+ghost use Rattle.steps.specs.Held.{cachesOf, coreOf};
+ghost use Rattle.moves.specs.Code.{joined, packed};
+ghost use Rattle.closing.specs.Code.{left};
+ghost use Rattle.starts.specs.Code.{pathRooms, startAt, startRooms, Begun};
 use closing::Outcome;
 use closing::Verdict;
 use steps::End;

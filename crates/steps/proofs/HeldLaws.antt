@@ -17,7 +17,8 @@ use Rattle.caches.specs.Order.{goodReferral}
 use Rattle.caches.specs.Memory.{Kind, referrals, decode, inOrder, placeOf}
 use Rattle.caches.proofs.MemoryLaws.{length-decode, decode-at, place-free, place-used}
 use Rattle.caches.proofs.KindLaws.{referrals-lawful}
-use Rattle.lookup.specs.Lookup.{longestMatch, withKey, entryAt}
+use Rattle.lookup.specs.Lookup.{longestMatch, withKey}
+use Rattle.lookup.specs.Code.{entryAt}
 use Rattle.lookup.specs.declared.Found.{Found}
 use Rattle.lookup.specs.declared.Found.the-variants.{At, Nothing}
 use Rattle.lookup.proofs.LookupLaws.{used-inside, longest-found, LongestAt, KeyAt, key-found}

@@ -21,11 +21,13 @@ use Rattle.unc.proofs.SpanLaws.{span-start, span-some}
 use Rattle.laws.specs.Lists.{part}
 use Rattle.places.specs.Layout.{placeCount, textAt, roomAt}
 use Rattle.caches.specs.Memory.{referrals, domains, decode, referralOf}
-use Rattle.lookup.specs.Lookup.{longestMatch, withKey, entryAt, expired}
+use Rattle.lookup.specs.Lookup.{longestMatch, withKey, expired}
+use Rattle.lookup.specs.Code.{entryAt}
 use Rattle.lookup.specs.declared.Found.{Found}
 use Rattle.lookup.specs.declared.Found.the-variants.{At, Nothing}
 use Rattle.steps.specs.Steps.{Core, Question, waits, ended, rests, asking, domainNamed, dcRequest, step5, step5With, step5Domain, step6, step6Host, step10, linkRequest}
-use Rattle.steps.specs.Rested.{askingOf, nextOf, triedOf, restedOf, endedAt, askedAt, domainAsking, turning, step9At, step9In, step2At, step2In}
+use Rattle.steps.specs.Held.{askingOf, nextOf, triedOf}
+use Rattle.steps.specs.Code.{restedOf, endedAt, askedAt, domainAsking, turning, step9At, step9In, step2At, step2In}
 use Rattle.steps.specs.declared.Kind.{Kind}
 use Rattle.steps.specs.declared.Kind.the-variants.{Dc, Root, Link, Sysvol}
 use Rattle.steps.specs.declared.End.the-variants.{LimitReached, TooLong}

@@ -1,3 +1,4 @@
 -- The steps of the walk: source document 000.
 pub mod Steps
-pub mod Rested
+pub mod Held
+pub mod Code

@@ -8,9 +8,10 @@ ghost use Rattle.unc.specs.Paths.{components};
 ghost use Rattle.places.specs.Layout.{placeCount};
 ghost use Rattle.caches.specs.Order.{goodPrefix};
 ghost use Rattle.caches.specs.Memory.{referrals, domains, decode};
-ghost use Rattle.lookup.specs.Lookup.{entryAt};
+ghost use Rattle.lookup.specs.Code.{entryAt};
 ghost use Rattle.steps.specs.Steps.{step5Domain, step5, linkRequest, asking};
-ghost use Rattle.steps.specs.Rested.{coreOf, restedOf, endedAt, askedAt, domainAsking, turning, step9In, step2In};
+ghost use Rattle.steps.specs.Held.{coreOf};
+ghost use Rattle.steps.specs.Code.{restedOf, endedAt, askedAt, domainAsking, turning, step9In, step2In};
 use lookup::Found;
 
 // The kinds of question.

@@ -11,32 +11,35 @@ use Rattle.laws.proofs.Choices.{choose-yes, choose-no}
 use Rattle.laws.proofs.Listed.{every-set}
 use Rattle.unc.specs.Names.{sameName}
 use Rattle.unc.specs.Paths.{matches}
-use Rattle.spans.specs.Spans.{spanned}
-use Rattle.places.specs.Layout.{placeCount, placeAt, changed}
+use Rattle.spans.specs.Code.{spanned}
+use Rattle.places.specs.Layout.{placeCount, placeAt}
+use Rattle.places.specs.Code.{changed}
 use Rattle.caches.specs.Entries.{Referral, Place, free, used}
 use Rattle.caches.specs.Order.{goodReferral}
 use Rattle.caches.specs.Memory.{referrals, domains, decode, encode, inOrder, goodPlace}
 use Rattle.caches.proofs.KindLaws.{referrals-lawful}
 use Rattle.caches.proofs.MemoryLaws.{cache-told, order-good, length-decode, decode-encode}
-use Rattle.lookup.specs.Lookup.{withKey, entryAt}
+use Rattle.lookup.specs.Lookup.{withKey}
+use Rattle.lookup.specs.Code.{entryAt}
 use Rattle.lookup.specs.declared.Found.{Found}
 use Rattle.lookup.specs.declared.Found.the-variants.{At, Nothing}
 use Rattle.lookup.proofs.LookupLaws.{key-found}
-use Rattle.referral.specs.Found.{referralShown}
+use Rattle.referral.specs.Code.{referralShown}
 use Rattle.referral.specs.declared.ReferralFound.{ReferralFound}
 use Rattle.storing.specs.Stored.{fresh, refreshed, held, prefixed, storePlace, stored, storedEntry}
-use Rattle.storing.specs.Writing.{Storable}
+use Rattle.storing.specs.Code.{Storable}
 use Rattle.storing.proofs.StoreLaws.{fresh-good}
 use Rattle.storing.proofs.StoredLaws.{refreshed-good, place-found, place-new, new-fits, held-there, store-in-order}
 use Rattle.steps.specs.Steps.{asking, goes, step3, step8}
-use Rattle.steps.specs.Rested.{cachesOf, coreOf}
+use Rattle.steps.specs.Held.{cachesOf, coreOf}
 use Rattle.steps.specs.declared.Rested.{Rested}
 use Rattle.steps.proofs.HeldLaws.{none-held, key-held, key-fits, used-fits, used-is}
-use Rattle.moves.specs.Moves.{Packed, joined, packed, stepsFrom, calledAt, Ready, Usable}
+use Rattle.moves.specs.Code.{Packed, joined, packed, stepsFrom, calledAt, Ready, Usable}
 use Rattle.moves.proofs.MoveLaws.{goes-asks, tried-size, matches-same}
-use Rattle.questions.specs.Questions.{nameFits, nextUnits, named}
+use Rattle.questions.specs.Questions.{nameFits}
+use Rattle.questions.specs.Code.{nextUnits, named}
 use Rattle.answers.proofs.RestLaws.{Kept, kept-goes, rest-path, rest-tested, put-again, always-fits}
-use Rattle.stores.specs.Stores.{calledAfter, storedRest, storedLeft}
+use Rattle.stores.specs.Code.{calledAfter, storedRest, storedLeft}
 
 -- on from a stored entry
 module _ (refs doms rooms : List ℕ) (len left size clock place : ℕ) {b : Bool} where

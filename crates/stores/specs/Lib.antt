@@ -1,2 +1,2 @@
 -- A reply stored, and on.
-pub mod Stores
+pub mod Code

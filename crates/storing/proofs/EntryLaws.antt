@@ -8,13 +8,14 @@ use lib.ListN.{length}
 use borrow.Author.Tests.{le-leb}
 use Rattle.laws.specs.Lists.{every}
 use Rattle.laws.proofs.Choices.{and-left, and-right, and-both}
-use Rattle.places.specs.Layout.{written, putSettings, keyOnly}
+use Rattle.places.specs.Layout.{written}
+use Rattle.places.specs.Code.{putSettings, keyOnly}
 use Rattle.places.proofs.PutLaws.{put-settings, key-only}
 use Rattle.caches.specs.Entries.{Target, Referral}
 use Rattle.caches.specs.Order.{goodPrefix, goodTarget, goodReferral}
 use Rattle.caches.specs.Memory.{referralSettings, referralUnits}
 use Rattle.caches.proofs.KindLaws.{GoodReferral, referral-told, referral-shape, prefix-short}
-use Rattle.entries.specs.Writing.{addAll, addTarget, begun, settings}
+use Rattle.entries.specs.Code.{addAll, addTarget, begun, settings}
 use Rattle.entries.proofs.WritingLaws.{short}
 use Rattle.entries.proofs.PieceLaws.{pathsOf, marksOf, targets-written, key-shape, begun-written}
 

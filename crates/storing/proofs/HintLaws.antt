@@ -15,8 +15,9 @@ use Rattle.laws.proofs.Listed.{getD-map}
 use Rattle.unc.specs.Names.{sameName}
 use Rattle.unc.proofs.NameLaws.{sameName-sym}
 use Rattle.caches.specs.Entries.{Target, Referral}
-use Rattle.lookup.specs.Lookup.{targetPath, targetOpens}
-use Rattle.places.specs.Layout.{changed, putUnit}
+use Rattle.lookup.specs.Lookup.{targetPath}
+use Rattle.lookup.specs.Code.{targetOpens}
+use Rattle.places.specs.Code.{changed, putUnit}
 use Rattle.storing.specs.Stored.{firstEqual, hinted, inFirstSet, failedBack}
 
 -- equal names either way round

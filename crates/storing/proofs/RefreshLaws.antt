@@ -11,21 +11,23 @@ use Rattle.laws.specs.Lists.{pasted}
 use Rattle.laws.proofs.Choices.{choose-yes, choose-no}
 use Rattle.laws.proofs.Orders.{told}
 use Rattle.unc.specs.Names.{sameName}
-use Rattle.places.specs.Layout.{placeCount, placeAt, changed, putUnit, putSettings, keyOnly}
+use Rattle.places.specs.Layout.{placeCount, placeAt}
+use Rattle.places.specs.Code.{changed, putUnit, putSettings, keyOnly}
 use Rattle.places.proofs.LayoutLaws.{place-changed, length-changed}
 use Rattle.caches.specs.Entries.{Target, Referral}
 use Rattle.caches.specs.Order.{goodReferral}
 use Rattle.caches.specs.Memory.{referrals, referralUnits, referralOf}
 use Rattle.caches.proofs.KindLaws.{referral-told, good-referral, referrals-lawful}
-use Rattle.lookup.specs.Lookup.{entryAt, targetHintTo}
+use Rattle.lookup.specs.Code.{entryAt}
+use Rattle.lookup.specs.Lookup.{targetHintTo}
 use Rattle.lookup.proofs.EntryLaws.{target-hint-units}
 use Rattle.referral.specs.Replies as replies
 use Rattle.equivalence.specs.Equivalence.{equivalent}
 use Rattle.storing.specs.Stored.{targetsIn, targetsAfter, firstEqual, hinted, failedBack, refreshed, fresh}
-use Rattle.referral.specs.Found.{referralShown}
+use Rattle.referral.specs.Code.{referralShown}
 use Rattle.referral.specs.declared.ReferralFound.{ReferralFound}
-use Rattle.entries.specs.Writing.{addAll, addTarget, settings, heldTarget}
-use Rattle.storing.specs.Writing.{Storable, HeldEntry}
+use Rattle.entries.specs.Code.{addAll, addTarget, settings, heldTarget}
+use Rattle.storing.specs.Code.{Storable, HeldEntry}
 use Rattle.entries.proofs.WritingLaws.{Keeps, keeps-unit, keeps-pasted, keeps-both, then-changed, changed-same}
 use Rattle.storing.proofs.EntryLaws.{entry-settled, entry-replaced}
 use Rattle.storing.proofs.StoreLaws.{targets-in, keeps-settled, keeps-kept}

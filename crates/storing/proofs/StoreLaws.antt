@@ -5,20 +5,21 @@ use mathlib.Core.List.{List, [], _∷_, map}
 use Prim.Native.Nat.{ℕ, _+_, _≤_, _<_}
 use native.Mathlib.Omega.{arith}
 use lib.ListN.{length, take, length-map, length-take}
-use Rattle.places.specs.Layout.{placeCount, placeAt, changed, putSettings}
-use Rattle.spans.specs.Spans.{spanned}
+use Rattle.places.specs.Layout.{placeCount, placeAt}
+use Rattle.places.specs.Code.{changed, putSettings}
+use Rattle.spans.specs.Code.{spanned}
 use Rattle.spans.proofs.UnitLaws.{length-spanned}
 use Rattle.caches.specs.Entries.{Target}
 use Rattle.caches.specs.Order.{goodReferral}
 use Rattle.caches.specs.Memory.{referralUnits}
 use Rattle.caches.proofs.KindLaws.{GoodReferral, referral-told, prefix-short}
 use Rattle.referral.specs.Replies as replies
-use Rattle.referral.specs.Found.{referralShown, targetShown}
+use Rattle.referral.specs.Code.{referralShown, targetShown}
 use Rattle.referral.specs.declared.Kept.{Kept}
 use Rattle.referral.specs.declared.ReferralFound.{ReferralFound}
 use Rattle.storing.specs.Stored.{targetsIn, fresh}
-use Rattle.entries.specs.Writing.{addText, addAll, addTarget, begun, settings, heldTarget}
-use Rattle.storing.specs.Writing.{Storable}
+use Rattle.entries.specs.Code.{addText, addAll, addTarget, begun, settings, heldTarget}
+use Rattle.storing.specs.Code.{Storable}
 use Rattle.entries.proofs.WritingLaws.{Keeps, keeps-added, keeps-blank, keeps-both, keeps-target, keeps-all, keeps-pasted, short, all-short, then-changed, changed-same}
 use Rattle.storing.proofs.EntryLaws.{entry-inserted}
 

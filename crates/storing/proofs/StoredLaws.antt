@@ -10,29 +10,31 @@ use lib.Dec.{leb}
 use Rattle.laws.specs.Lists.{every}
 use Rattle.laws.proofs.Choices.{and-left, and-right, and-both}
 use Rattle.laws.proofs.Orders.{told}
-use Rattle.places.specs.Layout.{placeCount, changed}
-use Rattle.spans.specs.Spans.{spanned}
+use Rattle.places.specs.Layout.{placeCount}
+use Rattle.places.specs.Code.{changed}
+use Rattle.spans.specs.Code.{spanned}
 use Rattle.caches.specs.Entries.{Referral, Place, free, used}
 use Rattle.caches.specs.Order.{goodReferral}
 use Rattle.caches.specs.Memory.{referrals, referralUnits, decode, encode, inOrder, pieceOf, goodPlace}
 use Rattle.caches.proofs.MemoryLaws.{cache-told, order-good, length-decode, changed-encode}
 use Rattle.caches.proofs.KindLaws.{referral-told, referrals-lawful}
-use Rattle.lookup.specs.Lookup.{entryAt, withKey, newPlace, foundOr}
+use Rattle.lookup.specs.Code.{entryAt}
+use Rattle.lookup.specs.Lookup.{withKey, newPlace, foundOr}
 use Rattle.lookup.specs.declared.Found.{Found}
 use Rattle.lookup.specs.declared.Found.the-variants.{At, Nothing}
 use Rattle.lookup.proofs.LookupLaws.{KeyAt, key-found, used-inside, new-inside}
 use Rattle.lookup.proofs.EntryLaws.{target-hint-good}
 use Rattle.lookup.proofs.StoreLaws.{entry-good, entry-units, entry-is, kept-in-order, new-in-order}
 use Rattle.equivalence.specs.Equivalence.{equivalent}
-use Rattle.equivalence.specs.Compared.{heldTargets, givenTargets}
+use Rattle.equivalence.specs.Code.{heldTargets, givenTargets}
 use Rattle.equivalence.proofs.SetLaws.{given-shown}
 use Rattle.referral.specs.Replies as replies
-use Rattle.referral.specs.Found.{referralShown, keptInside, isInside}
+use Rattle.referral.specs.Code.{referralShown, keptInside, isInside}
 use Rattle.referral.specs.declared.Kept.{Kept}
 use Rattle.referral.specs.declared.ReferralFound.{ReferralFound}
 use Rattle.storing.specs.Stored.{targetsIn, hinted, refreshed, fresh, stored, storedEntry, storePlace, prefixed, held, heldAt}
-use Rattle.entries.specs.Writing.{keptFits}
-use Rattle.storing.specs.Writing.{Storable, HeldEntry}
+use Rattle.entries.specs.Code.{keptFits}
+use Rattle.storing.specs.Code.{Storable, HeldEntry}
 use Rattle.storing.proofs.StoreLaws.{fresh-good}
 use Rattle.storing.proofs.RefreshLaws.{based, back-within, first-within, held-good, given-good, refreshed-held, refreshed-given}
 

@@ -1,3 +1,3 @@
 -- Document 01, "Storing", source document 001, and the domain reply.
 pub mod Stored
-pub mod Writing
+pub mod Code

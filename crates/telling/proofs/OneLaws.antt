@@ -17,19 +17,18 @@ use Rattle.caches.specs.Order.{goodPrefix}
 use Rattle.caches.specs.Memory.{referrals, domains, inOrder}
 use Rattle.caches.proofs.MemoryLaws.{order-good}
 use Rattle.steps.specs.Steps.{Core, Question, Rest, waits, ended, inUse, nameAsked, endNumber}
-use Rattle.steps.specs.Rested.{cachesOf, triedOf}
+use Rattle.steps.specs.Held.{cachesOf, triedOf, questionOf}
 use Rattle.steps.specs.declared.Kind.{Kind}
 use Rattle.steps.specs.declared.Kind.the-variants.{Dc, Root, Link, Sysvol, Io}
 use Rattle.steps.specs.declared.End.{End}
 use Rattle.steps.specs.declared.End.the-variants.{Done, NotDfs, NoDc, Failed, LimitReached, Malformed, TooLong, Gone}
 use Rattle.steps.specs.declared.Next.{Next}
 use Rattle.steps.specs.declared.Next.the-variants.{Asks, Ends}
-use Rattle.rounds.specs.Rounds.{questionOf}
 use Rattle.walks.specs.declared.Walk.{Walk}
 use Rattle.walks.specs.Walks.{inForm, nextInForm, pathIn, triedIn, bootIn}
 use Rattle.walks.proofs.FormLaws.{Formed, form-told, waiting-told}
 use Rattle.packing.specs.Packing.{kindNumber, kindAt}
-use Rattle.turns.specs.Turns.{coreIn}
+use Rattle.walks.specs.Walks.{coreIn}
 use Rattle.resolve.specs.Calls.{restAt, restIn}
 use Rattle.shown.specs.Shown.{Given, given, shows, showsSome, partyText, questionShown, partyAt, endPath, endShown, nameAt, nameCall, pathAt, pathCall, partyCall, questionAt, questionCall, endAt, endCall}
 use Rattle.shown.specs.declared.Shown.{Shown}

@@ -4,11 +4,11 @@ use mathlib.Core.Path.{_≡_}
 use mathlib.Core.List.{List}
 use mathlib.Core.Option.{some}
 use Rattle.steps.specs.Steps.{Question, Rest, waits, ended, nameAsked, endNumber}
-use Rattle.steps.specs.Rested.{cachesOf}
+use Rattle.steps.specs.Held.{cachesOf}
 use Rattle.steps.specs.declared.End.{End}
 use Rattle.walks.specs.Walks.{bootIn}
 use Rattle.walks.specs.declared.Walk.{Walk}
-use Rattle.turns.specs.Turns.{coreIn}
+use Rattle.walks.specs.Walks.{coreIn}
 use Rattle.shown.specs.Shown.{questionShown, endPath}
 use Rattle.printing.specs.Printed.{questionLines, endLines}
 use Rattle.telling.specs.Telling.{outcomeLines}

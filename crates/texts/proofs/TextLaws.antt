@@ -13,9 +13,11 @@ use Rattle.laws.proofs.Choices.{choose-yes, choose-no}
 use Rattle.laws.proofs.Orders.{lt-or-le}
 use Rattle.laws.proofs.Pasting.{getD-pasted-low, getD-pasted-high, getD-part, length-part, copied-more, copied-all, part-pasted-low, pasted-join, pasted-room, pasted-whole, length-roomed}
 use Rattle.laws.proofs.Parts.{part-part}
-use Rattle.unc.specs.Paths.{replaced, writtenWithin}
+use Rattle.unc.specs.Paths.{replaced}
+use Rattle.unc.specs.Code.{writtenWithin}
 use Rattle.unc.specs.declared.Written.the-variants.{Units, TooLong}
-use Rattle.texts.specs.Texts.{textsOf, withTried, Standing}
+use Rattle.texts.specs.Texts.{textsOf}
+use Rattle.texts.specs.Code.{withTried, Standing}
 
 -- a loop that copies within one list: one unit more, and at its end
 module _ (d : List ℕ) (from at count : ℕ) where

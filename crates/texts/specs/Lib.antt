@@ -1,2 +1,3 @@
 -- The texts of a walk.
 pub mod Texts
+pub mod Code

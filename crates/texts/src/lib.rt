@@ -5,8 +5,9 @@ ghost use mathlib.Core.Logic.{_⊎_};
 ghost use Prim.Native.Nat.{_+_, _≤_};
 ghost use lib.ListN.{length, take, replicate};
 ghost use Rattle.laws.specs.Lists.{pasted, part};
-ghost use Rattle.unc.specs.Paths.{replaced, writtenWithin};
-ghost use Rattle.texts.specs.Texts.{withTried};
+ghost use Rattle.unc.specs.Paths.{replaced};
+ghost use Rattle.unc.specs.Code.{writtenWithin};
+ghost use Rattle.texts.specs.Code.{withTried};
 use unc::Written;
 
 // The units of a room.

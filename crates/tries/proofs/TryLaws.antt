@@ -16,7 +16,8 @@ use Rattle.laws.proofs.Choices.{choose-yes, choose-no, and-left}
 use Rattle.laws.proofs.Orders.{told}
 use Rattle.laws.proofs.Tests.{eq-or-ne}
 use Rattle.unc.specs.Paths.{matches}
-use Rattle.texts.specs.Texts.{textsOf, Standing}
+use Rattle.texts.specs.Texts.{textsOf}
+use Rattle.texts.specs.Code.{Standing}
 use Rattle.texts.proofs.TextLaws.{path-in, tried-put}
 use Rattle.places.specs.Layout.{placeCount}
 use Rattle.caches.specs.Entries.{Referral}
@@ -24,14 +25,16 @@ use Rattle.caches.specs.Order.{goodReferral}
 use Rattle.caches.specs.Memory.{referrals, domains, decode, encode, inOrder}
 use Rattle.caches.proofs.MemoryLaws.{encode-decode}
 use Rattle.caches.proofs.KindLaws.{referrals-lawful, referral-told}
-use Rattle.lookup.specs.Lookup.{withKey, entryAt, targetHinted}
+use Rattle.lookup.specs.Lookup.{withKey, targetHinted}
+use Rattle.lookup.specs.Code.{entryAt}
 use Rattle.lookup.specs.declared.Found.{Found}
 use Rattle.lookup.specs.declared.Found.the-variants.{At, Nothing}
 use Rattle.lookup.proofs.LookupLaws.{KeyAt, key-found}
 use Rattle.lookup.proofs.StoreLaws.{entry-good}
 use Rattle.storing.specs.Stored.{prefixed}
 use Rattle.steps.specs.Steps.{Caches, Core, Question, Called, stops, ends, asks, Turn, ended, rests, asking, goes, inUse, referralInUse, hintSet, targetHintSet, withReferrals, nextPlace, onward, step8, linkRequest, severity, isOneOf, nextTargetStatuses, pathNotCovered, ioFails, ioWith, ioAnswered}
-use Rattle.steps.specs.Rested.{cachesOf, coreOf, askingOf, nextOf, triedOf, restedOf, endedAt, askedAt}
+use Rattle.steps.specs.Held.{cachesOf, coreOf, askingOf, nextOf, triedOf, questionOf}
+use Rattle.steps.specs.Code.{restedOf, endedAt, askedAt}
 use Rattle.steps.specs.declared.Kind.{Kind}
 use Rattle.steps.specs.declared.Kind.the-variants.{Link, Io}
 use Rattle.steps.specs.declared.End.the-variants.{Done, Failed, Gone}
@@ -40,13 +43,13 @@ use Rattle.steps.specs.declared.Asking.{Asking}
 use Rattle.steps.specs.declared.Rested.{Rested}
 use Rattle.steps.proofs.HeldLaws.{key-held, key-fits, used-is}
 use Rattle.steps.proofs.StepLaws.{asked-as}
-use Rattle.moves.specs.Moves.{Packed, joined, packed, Usable}
+use Rattle.moves.specs.Code.{Packed, joined, packed, Usable}
 use Rattle.moves.proofs.MoveLaws.{standing-path, packed-end, packed-asked, tried-size, matches-same}
-use Rattle.rounds.specs.Rounds.{questionOf, failureRests, targetsUnder, inRound}
+use Rattle.rounds.specs.Code.{failureRests, targetsUnder, inRound}
 use Rattle.rounds.proofs.RoundLaws.{round-past, round-on, targets-gone, targets-held, in-use-same, in-use-io}
 use Rattle.rounds.proofs.FailLaws.{onward-end, onward-next}
 use Rattle.rounds.proofs.QuietLaws.{Quiet, still, quiet-goes, quiet-io}
-use Rattle.tries.specs.Tries.{triedRoom, Trying, Failing, withParties, placeInUse, notCovered, nextTarget, restOf, withDoms}
+use Rattle.tries.specs.Code.{triedRoom, Trying, Failing, withParties, placeInUse, notCovered, nextTarget, restOf, withDoms}
 
 -- the place of the entry in use
 module _ (prefix raw : List ℕ) (party began : ℕ) {f : Found} (e : f ≡ withKey referrals prefix (decode referrals raw)) where

@@ -17,25 +17,26 @@ use Rattle.texts.proofs.TextLaws.{path-in}
 use Rattle.caches.specs.Order.{goodPrefix}
 use Rattle.caches.specs.Memory.{referrals, domains, encode, inOrder}
 use Rattle.steps.specs.Steps.{Turn, Resting, turned, referralAnswered, ioAnswered}
-use Rattle.steps.specs.Rested.{cachesOf, coreOf}
+use Rattle.steps.specs.Held.{cachesOf, coreOf, questionOf}
 use Rattle.steps.specs.declared.Kind.{Kind}
 use Rattle.steps.specs.declared.Kind.the-variants.{Dc, Root, Link, Sysvol, Io}
 use Rattle.steps.specs.declared.Asking.{Asking}
 use Rattle.steps.specs.declared.Rested.{Rested}
-use Rattle.moves.specs.Moves.{Packed, joined, packed}
-use Rattle.rounds.specs.Rounds.{questionOf}
-use Rattle.answers.specs.Answers.{domainsLeft}
+use Rattle.moves.specs.Code.{Packed, joined, packed}
+use Rattle.answers.specs.Code.{domainsLeft}
 use Rattle.answers.proofs.RestLaws.{Kept, rest-left, rest-path}
-use Rattle.hints.specs.Hints.{referralsLeft}
-use Rattle.events.specs.Events.{Awaiting}
-use Rattle.tries.specs.Tries.{restOf, Trying}
-use Rattle.tries.specs.Tries as tries
+use Rattle.hints.specs.Code.{referralsLeft}
+use Rattle.events.specs.Code.{Awaiting}
+use Rattle.tries.specs.Code.{restOf, Trying}
+use Rattle.tries.specs.Code as tries
 use Rattle.walks.specs.Walks.{pathIn, triedIn, bootIn, hasTried, nextInForm}
 use Rattle.walks.specs.declared.Walk.{Walk}
 use Rattle.walks.proofs.FormLaws.{Formed, form-told, first-rooms, Waiting, waiting-told, Prefixed, io-named, link-named, dc-named, sysvol-named, Rooted, root-named, request-tried}
-use Rattle.closing.specs.Closing.{Left, closes, closedRest}
+use Rattle.closing.specs.Closing.{Left, closes}
+use Rattle.closing.specs.Code.{closedRest}
 use Rattle.closing.proofs.RestLaws.{closed-rest}
-use Rattle.turns.specs.Turns.{coreIn, AnswerDue, ioTurn, referralTurn}
+use Rattle.walks.specs.Walks.{coreIn}
+use Rattle.turns.specs.Code.{AnswerDue, ioTurn, referralTurn}
 use Rattle.turns.proofs.TurnLaws.{kept-referral, kept-io}
 
 pub tried-io : (k : Kind) → hasTried k ≡ true → k ≡ Io

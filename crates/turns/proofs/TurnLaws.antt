@@ -14,11 +14,11 @@ use Rattle.referral.specs.Replies.{malformed, nothing, says}
 use Rattle.steps.specs.Steps.{Caches, Core, Question, Called, Turn, turned, goes, withHit, dcAnswer, referralAnswer, storedTurn, referralSucceeds, referralAnswered, ioWith, ioAnswered}
 use Rattle.steps.specs.declared.Kind.{Kind}
 use Rattle.steps.specs.declared.Kind.the-variants.{Dc, Root, Link, Sysvol, Io}
-use Rattle.rounds.specs.Rounds.{failureRests}
+use Rattle.rounds.specs.Code.{failureRests}
 use Rattle.steps.specs.Steps.{rests, severity}
 use Rattle.questions.specs.Questions.{requestName, nameFits, restFits}
 use Rattle.answers.proofs.RestLaws.{Kept, kept-goes}
-use Rattle.tries.specs.Tries.{restOf}
+use Rattle.tries.specs.Code.{restOf}
 use Rattle.tries.proofs.TryLaws.{io-goes}
 
 chosen : {A : Type 0} (P : A → Type 0) (b : Bool) {x y : A} → P x → P y → P (choose b x y)

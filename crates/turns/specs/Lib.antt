@@ -1,2 +1,2 @@
 -- The answers to the questions of a walk that is held.
-pub mod Turns
+pub mod Code

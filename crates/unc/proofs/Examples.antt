@@ -7,7 +7,8 @@ use lib.ListN.{length, replicate}
 use Rattle.laws.specs.Choice.{choose}
 use Rattle.laws.specs.Lists.{every}
 use Rattle.unc.specs.Names.{folded, sameUnit, sameName, plain, nothingOrDots, goodComponent}
-use Rattle.unc.specs.Paths.{before, pieces, components, componentCount, leads, withoutTrail, body, goodPath, normalised, formWithin, pathUnits, begins, matches, replaced}
+use Rattle.unc.specs.Paths.{before, pieces, components, componentCount, leads, withoutTrail, body, goodPath, normalised, pathUnits, begins, matches, replaced}
+use Rattle.unc.specs.Code.{formWithin}
 use Rattle.unc.specs.declared.Form.the-variants.{Bad, Long, Good}
 
 -- \corp\leak\s1

@@ -15,7 +15,8 @@ use Rattle.laws.proofs.Choices.{choose-yes, choose-no, and-no-left, and-no-righ
 use Rattle.laws.proofs.Orders.{told, lt-or-le}
 use Rattle.laws.proofs.Pasting.{room-in-two}
 use Rattle.unc.specs.Names.{goodComponent}
-use Rattle.unc.specs.Paths.{pieces, componentCount, leads, withoutTrail, body, goodPath, normalised, isNormalised, goodCount, formWithin, roomAfter, normalisedCount}
+use Rattle.unc.specs.Paths.{pieces, componentCount, leads, withoutTrail, body, goodPath, normalised, isNormalised, normalisedCount}
+use Rattle.unc.specs.Code.{goodCount, formWithin, roomAfter}
 use Rattle.unc.specs.declared.Form.the-variants.{Bad, Long, Good}
 use Rattle.unc.proofs.PieceLaws.{length-pieces, count-backslash, parts}
 

@@ -16,7 +16,8 @@ use Rattle.laws.specs.Lists.{every}
 use Rattle.laws.proofs.Choices.{choose-yes, choose-no, and-left, and-right, and-no-left, and-no-right}
 use Rattle.laws.proofs.Orders.{lt-or-le, told}
 use Rattle.unc.specs.Names.{plain, nothingOrDots, goodComponent, goodName, backslash}
-use Rattle.unc.specs.Paths.{before, pieces, joined, components, componentCount, firstOf, plainLength, goodCount}
+use Rattle.unc.specs.Paths.{before, pieces, joined, components, componentCount, firstOf}
+use Rattle.unc.specs.Code.{plainLength, goodCount}
 
 -- A text's pieces are never none: the first, and the others.
 pub firstPiece : List ℕ → List ℕ

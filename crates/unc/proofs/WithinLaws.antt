@@ -12,7 +12,8 @@ use lib.ListN.{length, getD}
 use borrow.Author.Tests.{eqb-true, eq-eqb}
 use Rattle.laws.proofs.Choices.{and-left, and-right, and-both}
 use Rattle.laws.proofs.Orders.{told, lt-or-le}
-use Rattle.unc.specs.Names.{folded, sameUnit, sameName, SameWithin}
+use Rattle.unc.specs.Names.{folded, sameUnit, sameName}
+use Rattle.unc.specs.Code.{SameWithin}
 use Rattle.unc.proofs.NameLaws.{folded-below, folded-above, folded-letter, sameUnit-refl}
 use Rattle.unc.proofs.UnitLaws.{or-none, or-both}
 

@@ -1,9 +1,8 @@
 -- Units and names: document 01, "Names compare with A to Z equal to a to z, all other units exactly".
-use Prim.Native.Nat.{ℕ, _+_, _≤_, _<_}
+use Prim.Native.Nat.{ℕ, _+_}
 use mathlib.Core.Bool.{Bool, true, false, _&&_, not}
 use mathlib.Core.List.{List, [], _∷_}
-use lib.ListN.{length, getD}
-use mathlib.Core.Path.{_≡_}
+use lib.ListN.{length}
 use lib.Dec.{leb, eqb}
 use Rattle.laws.specs.Choice.{choose}
 use Rattle.laws.specs.Lists.{every}
@@ -21,10 +20,6 @@ sameName [] [] = true
 sameName [] (b ∷ t) = false
 sameName (a ∷ s) [] = false
 sameName (a ∷ s) (b ∷ t) = sameUnit a b && sameName s t
-
--- the units from a place up to another are equal, each to the one at its place
-pub record SameWithin (s t : List ℕ) (from to : ℕ) : Type 0 where
-  pub at : (k : ℕ) → from ≤ k → k < to → sameUnit (getD s k 0) (getD t k 0) ≡ true
 
 abbrev pub backslash : ℕ
 backslash = 92

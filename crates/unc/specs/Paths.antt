@@ -1,16 +1,12 @@
 -- Paths: document 01, "Paths". A path's text is cut at its backslashes; every rule goes by the pieces.
-use Prim.Native.Nat.{ℕ, suc, _+_, _-_}
+use Prim.Native.Nat.{ℕ, _+_, _-_}
 use mathlib.Core.Bool.{Bool, true, false, _&&_, _||_, not}
 use mathlib.Core.List.{List, [], _∷_, _++_}
 use lib.ListN.{length, getD, take, drop}
 use lib.Dec.{leb, eqb}
 use Rattle.laws.specs.Choice.{choose}
-use Rattle.laws.specs.Lists.{every, roomed}
-use Rattle.unc.specs.Names.{sameName, backslash, plain, goodComponent}
-use Rattle.unc.specs.declared.Form.{Form}
-use Rattle.unc.specs.declared.Form.the-variants.{Bad, Long, Good}
-use Rattle.unc.specs.declared.Written.{Written}
-use Rattle.unc.specs.declared.Written.the-variants.{Units, TooLong}
+use Rattle.laws.specs.Lists.{every}
+use Rattle.unc.specs.Names.{sameName, backslash, goodComponent}
 
 -- one unit more before the pieces of a text: a backslash opens a new piece, any other unit goes before the first
 unfoldable pub before : Bool → ℕ → List (List ℕ) → List (List ℕ)
@@ -52,15 +48,6 @@ withoutTrail s = choose (eqb (getD s (length s - 1) 0) backslash) (take (length 
 unfoldable pub body : List ℕ → List ℕ
 body s = withoutTrail (drop (leads s) s)
 
--- how many units a text has before the first that may not stand in a component
-unfoldable pub plainLength : List ℕ → ℕ
-plainLength [] = 0
-plainLength (u ∷ s) = choose (plain u) (suc (plainLength s)) 0
-
--- n more than the number of pieces of a text where each is a good component, else 0
-unfoldable pub goodCount : ℕ → List ℕ → ℕ
-goodCount n s = choose (every goodComponent (pieces s)) (n + length (pieces s)) 0
-
 -- Bad are: no leading backslash, no component, an empty component, a unit 0, a "/", a component "." or ".."
 unfoldable pub goodPath : List ℕ → Bool
 goodPath s = not (eqb (leads s) 0) && every goodComponent (pieces (body s))
@@ -76,20 +63,6 @@ isNormalised s = eqb (getD s 0 0) backslash && every goodComponent (pieces (drop
 -- "A normalised path has at most 256 units, leading backslash included"
 abbrev pub pathUnits : ℕ
 pathUnits = 256
-
--- the form of a text as a path of at most n units normalised: bad, good but longer, or good with its length and its number of components
-unfoldable pub formWithin : ℕ → List ℕ → Form
-formWithin n s =
-    choose (goodPath s)
-    (choose (leb (length (normalised s)) n) (Good (length (normalised s)) (componentCount (normalised s))) Long)
-    Bad
-
--- a room after a text was normalised into it: the path with zeros after it, or the room as it was where the path is not good or does not fit
-unfoldable pub roomAfter : List ℕ → List ℕ → List ℕ
-roomAfter s room =
-    choose (goodPath s)
-    (choose (leb (length (normalised s)) (length room)) (roomed (length room) (normalised s)) room)
-    room
 
 -- the number of components of a normalised path of at most 256 units; 0 of any other text
 unfoldable pub normalisedCount : List ℕ → ℕ
@@ -118,7 +91,3 @@ isSysvol s = sameName (getD (components s) 1 []) sysvol || sameName (getD (compo
 -- Steps 3 and 11: the portion of the path that is its first k units, those of the prefix, is replaced by the target
 unfoldable pub replaced : List ℕ → ℕ → List ℕ → List ℕ
 replaced target k s = target ++ drop k s
-
--- a text written into a room of n units, or told to be too long for it
-unfoldable pub writtenWithin : ℕ → List ℕ → Written
-writtenWithin n s = choose (leb (length s) n) (Units (length s)) TooLong

@@ -3,8 +3,8 @@ ghost use mathlib.Core.Path.{_≡_};
 ghost use mathlib.Core.Bool.{true};
 ghost use Prim.Native.Nat.{_+_, _-_, _≤_, _<_};
 ghost use lib.ListN.{length, drop};
-ghost use Rattle.unc.specs.Names.{folded, sameUnit, sameName, SameWithin, plain, nothingOrDots, goodComponent, goodName};
-ghost use Rattle.unc.specs.Paths.{plainLength};
+ghost use Rattle.unc.specs.Names.{folded, sameUnit, sameName, plain, nothingOrDots, goodComponent, goodName};
+ghost use Rattle.unc.specs.Code.{SameWithin, plainLength};
 
 const BACKSLASH: u16 = 92;
 

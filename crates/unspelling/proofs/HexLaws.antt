@@ -13,7 +13,8 @@ use borrow.Author.Tests.{leb-true, eqb-true, le-leb, lt-leb, eq-eqb, ne-eqb, lt-
 use Rattle.laws.proofs.Choices.{choose-yes, choose-no, and-left, and-right, and-no-left, and-no-right, and-yes-left}
 use Rattle.laws.proofs.Orders.{lt-or-le}
 use Rattle.spelling.specs.Spelling.{tilde, stands, digitUnit, hexUnits}
-use Rattle.unspelling.specs.Reading.{digitOf, hexOf, hexDigit, hexDigits, isEscape}
+use Rattle.unspelling.specs.Reading.{digitOf, hexOf, hexDigit}
+use Rattle.unspelling.specs.Code.{hexDigits, isEscape}
 
 -- a digit by where it lies
 pub digit-none : (u : ℕ) → u < 48 → 0 ≡ digitOf u

@@ -15,7 +15,8 @@ use Rattle.laws.proofs.Choices.{choose-yes, choose-no, and-both, and-no-left, a
 use Rattle.laws.proofs.Orders.{lt-or-le}
 use Rattle.spelling.specs.Spelling.{decimal}
 use Rattle.spelling.proofs.DecimalLaws.{decimal-low, decimal-high}
-use Rattle.unspelling.specs.Reading.{valueFrom, decimalOf, isDecimal, decimalForm}
+use Rattle.unspelling.specs.Reading.{valueFrom, decimalOf}
+use Rattle.unspelling.specs.Code.{isDecimal, decimalForm}
 use Rattle.unspelling.specs.declared.Number.the-variants.{None, Value}
 
 -- the last unit of a list

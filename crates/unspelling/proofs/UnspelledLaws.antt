@@ -20,7 +20,8 @@ use Rattle.laws.proofs.Orders.{told}
 use Rattle.spelling.specs.Spelling.{tilde, stands, digitUnit, hexUnits, spelledUnit, spelled}
 use Rattle.spelling.proofs.SpellingLaws.{unit-stands, unit-escaped}
 use Rattle.spelling.proofs.PutLaws.{Left}
-use Rattle.unspelling.specs.Reading.{hexOf, unspelledFrom, unspelled, isSpelled, spelledForm, hexDigits, isEscape, unit}
+use Rattle.unspelling.specs.Reading.{hexOf, unspelledFrom, unspelled, isSpelled, unit}
+use Rattle.unspelling.specs.Code.{spelledForm, hexDigits, isEscape}
 use Rattle.unspelling.specs.declared.Spelled.{Spelled}
 use Rattle.unspelling.specs.declared.Spelled.the-variants.{Bad, Units}
 use Rattle.unspelling.proofs.HexLaws.{Escape, escape-told, digits-back, hex-small, hex-back, unit-hex}

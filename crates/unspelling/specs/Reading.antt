@@ -1,16 +1,12 @@
 -- What spelled text says. A text is read only where what it says, spelled, is the text again: "no other spelling is read".
 use Prim.Native.Nat.{ℕ, zero, suc, _+_, _-_, _*_}
-use mathlib.Core.Bool.{Bool, _&&_, _||_, not}
+use mathlib.Core.Bool.{Bool, _&&_, _||_}
 use mathlib.Core.List.{List, [], _∷_}
-use lib.ListN.{length, getD, drop}
+use lib.ListN.{getD}
 use lib.Dec.{leb, ltb, eqb}
 use Rattle.laws.specs.Choice.{choose}
 use Rattle.laws.specs.Listed.{sameList}
-use Rattle.spelling.specs.Spelling.{tilde, stands, spelled, decimal}
-use Rattle.unspelling.specs.declared.Spelled.{Spelled}
-use Rattle.unspelling.specs.declared.Spelled.the-variants.{Bad, Units}
-use Rattle.unspelling.specs.declared.Number.{Number}
-use Rattle.unspelling.specs.declared.Number.the-variants.{None, Value}
+use Rattle.spelling.specs.Spelling.{tilde, spelled}
 
 -- a unit of 16 bits
 unfoldable pub unit : ℕ → Bool
@@ -37,21 +33,9 @@ unspelled s = unspelledFrom 0 s
 unfoldable pub isSpelled : List ℕ → Bool
 isSpelled s = sameList (spelled (unspelled s)) s
 
--- and of how many units
-unfoldable pub spelledForm : List ℕ → Spelled
-spelledForm s = choose (isSpelled s) (Units (length (unspelled s))) Bad
-
--- words of the test: an upper-case hex digit
+-- an upper-case hex digit
 unfoldable pub hexDigit : ℕ → Bool
 hexDigit u = (leb 48 u && leb u 57) || (leb 65 u && leb u 70)
-
--- the first four units of a text are hex digits
-unfoldable pub hexDigits : List ℕ → Bool
-hexDigits s = hexDigit (getD s 0 0) && (hexDigit (getD s 1 0) && (hexDigit (getD s 2 0) && hexDigit (getD s 3 0)))
-
--- a text begins with the escape of a unit that does not stand as it is
-unfoldable pub isEscape : List ℕ → Bool
-isEscape s = leb 5 (length s) && (eqb (getD s 0 0) tilde && (hexDigits (drop 1 s) && not (stands (hexOf (drop 1 s)))))
 
 -- the number that digits say after the number n
 unfoldable pub valueFrom : ℕ → List ℕ → ℕ
@@ -60,11 +44,3 @@ valueFrom n (u ∷ s) = valueFrom (10 * n + (u - 48)) s
 
 unfoldable pub decimalOf : List ℕ → ℕ
 decimalOf s = valueFrom 0 s
-
--- whether a text is the decimal of a number of 32 bits
-unfoldable pub isDecimal : List ℕ → Bool
-isDecimal s = ltb (decimalOf s) 4294967296 && sameList (decimal (decimalOf s)) s
-
--- and of which
-unfoldable pub decimalForm : List ℕ → Number
-decimalForm s = choose (isDecimal s) (Value (decimalOf s)) None

@@ -5,7 +5,8 @@ ghost use Prim.Native.Nat.{_+_, _-_, _≤_, _<_};
 ghost use lib.ListN.{length, drop};
 ghost use Rattle.laws.specs.Listed.{sameList};
 ghost use Rattle.spelling.specs.Spelling.{decimal, Put};
-ghost use Rattle.unspelling.specs.Reading.{digitOf, hexOf, unspelled, isSpelled, spelledForm, hexDigit, hexDigits, isEscape, decimalForm};
+ghost use Rattle.unspelling.specs.Reading.{digitOf, hexOf, unspelled, isSpelled, hexDigit};
+ghost use Rattle.unspelling.specs.Code.{spelledForm, hexDigits, isEscape, decimalForm};
 
 const TILDE: u16 = 126;
 

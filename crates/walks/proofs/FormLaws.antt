@@ -23,7 +23,7 @@ use Rattle.caches.specs.Order.{goodPrefix}
 use Rattle.texts.specs.Texts.{textsOf}
 use Rattle.texts.proofs.TextLaws.{length-texts, path-in}
 use Rattle.steps.specs.Steps.{Resting}
-use Rattle.steps.specs.Rested.{nextOf, triedOf}
+use Rattle.steps.specs.Held.{nextOf, triedOf}
 use Rattle.steps.specs.declared.Kind.{Kind}
 use Rattle.steps.specs.declared.Kind.the-variants.{Dc, Root, Link, Sysvol, Io}
 use Rattle.steps.specs.declared.Asking.{Asking}

@@ -14,11 +14,11 @@ use Rattle.laws.specs.Lists.{part, roomed}
 use Rattle.laws.proofs.Choices.{and-left, and-right, and-both}
 use Rattle.laws.proofs.Pasting.{length-part, length-roomed, getD-part}
 use Rattle.laws.proofs.Parts.{part-join, part-whole, getD-roomed, roomed-take}
-use Rattle.places.specs.Layout.{zeros}
+use Rattle.places.specs.Code.{zeros}
 use Rattle.places.proofs.ZeroLaws.{zero-at, zeros-all}
 use Rattle.texts.specs.Texts.{textsOf}
 use Rattle.walks.specs.Walks.{lent}
-use Rattle.walks.specs.Tests.{roomForm, roomsForm}
+use Rattle.walks.specs.Code.{roomForm, roomsForm}
 
 length-room : (n : ℕ) (s : List ℕ) → length (roomed n s) ≡ length s + (n - length s)
 unfolding roomed

@@ -13,12 +13,12 @@ use Rattle.laws.proofs.Choices.{and-left, and-right, and-both, and-yes-left, an
 use Rattle.laws.proofs.Tests.{both-ways}
 use Rattle.laws.proofs.Listed.{same-sameList}
 use Rattle.unc.specs.Paths.{matches, normalisedCount}
-use Rattle.places.specs.Layout.{zeros}
+use Rattle.places.specs.Code.{zeros}
 use Rattle.steps.specs.declared.Kind.the-variants.{Root}
 use Rattle.steps.specs.declared.Asking.{Asking}
 use Rattle.walks.specs.declared.Walk.{Walk}
 use Rattle.walks.specs.Walks.{lent, pathIn, triedIn, bootIn, goodSettings, namesDomain, namesPrefix, noParty, askedInForm, goodTried, nextInForm, inForm}
-use Rattle.walks.specs.Tests.{plainSize, roomForm, roomsForm}
+use Rattle.walks.specs.Code.{plainSize, roomForm, roomsForm}
 use Rattle.walks.proofs.RoomLaws.{lent-yes, lent-told}
 use Rattle.walks.proofs.FormLaws.{Formed, form-told}
 

@@ -1,3 +1,3 @@
 -- The walk as it is held, and its form.
 pub mod Walks
-pub mod Tests
+pub mod Code

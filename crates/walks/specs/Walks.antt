@@ -12,8 +12,8 @@ use Rattle.unc.specs.Names.{goodName}
 use Rattle.unc.specs.Paths.{firstOf, matches, normalisedCount}
 use Rattle.texts.specs.Texts.{textsOf}
 use Rattle.domains.specs.Domains.{goodSize}
-use Rattle.steps.specs.Steps.{Resting}
-use Rattle.steps.specs.Rested.{nextOf, triedOf}
+use Rattle.steps.specs.Steps.{Resting, Core}
+use Rattle.steps.specs.Held.{nextOf, triedOf, coreOf}
 use Rattle.steps.specs.declared.Kind.{Kind}
 use Rattle.steps.specs.declared.Kind.the-variants.{Dc, Root, Link, Sysvol, Io}
 use Rattle.steps.specs.declared.End.{End}
@@ -131,3 +131,7 @@ walkOf limit boot x = record {
 
 unfoldable pub textsAfter : List ℕ → Resting → List ℕ
 textsAfter boot x = lent (x .core .path) (triedOf (x .rest)) boot
+
+-- what the steps use of a walk that is held
+unfoldable pub coreIn : Walk → List ℕ → Core
+coreIn w texts = coreOf (pathIn w texts) (w .size) (w .hit)

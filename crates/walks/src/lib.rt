@@ -6,7 +6,7 @@ ghost use Rattle.steps.specs.declared.Kind.the-variants.{Dc, Root, Link, Sysvol
 ghost use Rattle.domains.specs.Domains.{goodSize};
 ghost use Rattle.walks.specs.Walks.{goodLimit, goodSettings, namesDomain, namesPrefix, noParty, askedInForm};
 ghost use Rattle.walks.specs.Walks.{hasTried, endTried, goodTried, endStatus, nextInForm, inForm};
-ghost use Rattle.walks.specs.Tests.{plainSize, askingForm, endForm, roomForm, roomsForm};
+ghost use Rattle.walks.specs.Code.{plainSize, askingForm, endForm, roomForm, roomsForm};
 use steps::Asking;
 use steps::End;
 use steps::Kind;

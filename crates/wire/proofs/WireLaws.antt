@@ -9,7 +9,7 @@ use Rattle.referral.specs.Replies.{referralCount, sizeAt, starts, entries}
 use Rattle.referral.specs.declared.Answer.{Answer}
 use Rattle.referral.specs.declared.Answer.the-variants.{Malformed, Nothing, Says}
 use Rattle.referral.proofs.EntryLaws.{starts-cons}
-use Rattle.wire.specs.Wire.{answerNumber, bitOf}
+use Rattle.wire.specs.Code.{answerNumber, bitOf}
 
 pub bit-yes : {b : Bool} → b ≡ true → 1 ≡ bitOf b
 unfolding bitOf

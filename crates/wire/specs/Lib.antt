@@ -1,2 +1,2 @@
 -- What the probe of the readers hands to programs that link it.
-pub mod Wire
+pub mod Code

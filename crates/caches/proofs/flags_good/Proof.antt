@@ -3,7 +3,7 @@ use Prim.Native.Nat.{_-_, _≤_}
 use mathlib.Core.Path.{_≡_, sym, _∙_}
 use native.Mathlib.Omega.{arith}
 use borrow.Author.Needs.{needs}
-use Rattle.caches.specs.Tests.{goodFlags}
+use Rattle.caches.specs.Code.{goodFlags}
 use Rattle.caches.proofs.TestLaws.{flagsFrom, flags-start, flags-more, flags-stop, flags-end}
 use Rattle.caches.proofs.flags_good.Statement.{statement}
 use Rattle.caches.proofs.flags_good.Tie as tie

@@ -4,7 +4,7 @@ use mathlib.Core.Path.{_≡_, sym, _∙_}
 use native.Mathlib.Omega.{arith}
 use borrow.Author.Needs.{needs}
 use Rattle.places.specs.Layout.{placeCount}
-use Rattle.caches.specs.Tests.{keyApart}
+use Rattle.caches.specs.Code.{keyApart}
 use Rattle.caches.proofs.TestLaws.{freshFrom, fresh-free, fresh-start, fresh-more, fresh-stop, fresh-end}
 use Rattle.caches.proofs.key_apart.Statement.{statement}
 use Rattle.caches.proofs.key_apart.Tie as tie

@@ -5,7 +5,7 @@ use mathlib.Core.Path.{_≡_, sym, _∙_}
 use native.Mathlib.Omega.{arith}
 use borrow.Author.Needs.{needs}
 use Rattle.places.specs.Layout.{placeCount}
-use Rattle.caches.specs.Tests.{keysApart}
+use Rattle.caches.specs.Code.{keysApart}
 use Rattle.caches.proofs.TestLaws.{apartFrom, apart-start, apart-more, apart-stop, apart-end}
 use Rattle.caches.proofs.keys_apart.Statement.{statement}
 use Rattle.caches.proofs.keys_apart.Tie as tie

@@ -5,7 +5,7 @@ use mathlib.Core.Path.{_≡_, sym, _∙_}
 use native.Mathlib.Omega.{arith}
 use borrow.Author.Needs.{needs}
 use Rattle.places.specs.Layout.{placeCount}
-use Rattle.caches.specs.Tests.{allOrdered}
+use Rattle.caches.specs.Code.{allOrdered}
 use Rattle.caches.proofs.TestLaws.{orderedFrom, ordered-start, ordered-more, ordered-stop, ordered-end}
 use Rattle.caches.proofs.places_ordered.Statement.{statement}
 use Rattle.caches.proofs.places_ordered.Tie as tie

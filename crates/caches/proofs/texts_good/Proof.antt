@@ -4,7 +4,7 @@ use borrow.Author.Tests.{not-true, not-false}
 use mathlib.Core.Path.{_≡_, sym, _∙_}
 use native.Mathlib.Omega.{arith}
 use borrow.Author.Needs.{needs}
-use Rattle.caches.specs.Tests.{goodTexts}
+use Rattle.caches.specs.Code.{goodTexts}
 use Rattle.caches.proofs.TestLaws.{textsFrom, texts-start, texts-more, texts-stop, texts-end}
 use Rattle.caches.proofs.texts_good.Statement.{statement}
 use Rattle.caches.proofs.texts_good.Tie as tie

@@ -4,7 +4,7 @@ use Prim.Native.Nat.{_-_}
 use native.Mathlib.Omega.{arith}
 use lib.ListN.{length, drop}
 use Rattle.reading.specs.Entries.{linesOf}
-use Rattle.checking.specs.Tests.{apartFrom}
+use Rattle.checking.specs.Code.{apartFrom}
 use Rattle.checking.proofs.TextLaws.{end-fits, apart-other, apart-same, apart-next, apart-end}
 use borrow.Author.Needs.{needs}
 use Rattle.checking.proofs.apart_from.Statement.{statement}

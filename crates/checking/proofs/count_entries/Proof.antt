@@ -5,7 +5,7 @@ use native.Mathlib.Omega.{arith}
 use lib.ListN.{length, drop}
 use borrow.Author.Tests.{not-true, not-false}
 use Rattle.reading.specs.Entries.{linesOf, groups}
-use Rattle.checking.specs.Tests.{counted}
+use Rattle.checking.specs.Code.{counted}
 use Rattle.checking.proofs.TextLaws.{end-fits, rested, rested-start, count-wrong, count-on, count-short, count-done, count-end}
 use borrow.Author.Needs.{needs}
 use Rattle.checking.proofs.count_entries.Statement.{statement}

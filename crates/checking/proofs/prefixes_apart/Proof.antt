@@ -6,7 +6,7 @@ use lib.ListN.{length, drop}
 use borrow.Author.Tests.{not-true, not-false}
 use Rattle.reading.specs.Entries.{linesOf}
 use Rattle.caches.specs.Order.{distinct}
-use Rattle.checking.specs.Tests.{prefixLines}
+use Rattle.checking.specs.Code.{prefixLines}
 use Rattle.checking.proofs.TextLaws.{end-fits, distinct-other, distinct-same, distinct-next, distinct-end}
 use borrow.Author.Needs.{needs}
 use Rattle.checking.proofs.prefixes_apart.Statement.{statement}

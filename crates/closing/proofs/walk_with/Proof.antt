@@ -1,5 +1,5 @@
 use mathlib.Core.Path.{refl}
-use Rattle.closing.specs.Closing.{walkWith}
+use Rattle.closing.specs.Code.{walkWith}
 use borrow.Author.Needs.{needs}
 use Rattle.closing.proofs.walk_with.Statement.{statement}
 use Rattle.closing.proofs.walk_with.Tie as tie

@@ -5,11 +5,11 @@ use mathlib.Core.Path.{_≡_, refl, _∙_}
 use Prim.Native.Nat.{_≤_, _-_}
 use native.Mathlib.Omega.{arith}
 use lib.ListN.{length, take, drop}
-use Rattle.spans.specs.Spans.{spanned}
-use Rattle.places.specs.Layout.{changed}
-use Rattle.entries.specs.Writing.{addAll, addDc}
+use Rattle.spans.specs.Code.{spanned}
+use Rattle.places.specs.Code.{changed}
+use Rattle.entries.specs.Code.{addAll, addDc}
 use Rattle.entries.proofs.WritingLaws.{kept-at, shown-at, length-shown, shortName, keeps-dc, all-more, all-done}
-use Rattle.domains.specs.Domains.{goodNameSpan}
+use Rattle.domains.specs.Code.{goodNameSpan}
 use Rattle.domains.proofs.DcLaws.{fits-room, all-good, good-short, dc-added}
 use borrow.Author.Needs.{needs}
 use Rattle.domains.proofs.add_dcs.Statement.{statement}

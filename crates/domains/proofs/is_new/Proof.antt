@@ -5,10 +5,9 @@ use mathlib.Core.Path.{_≡_, refl, sym, _∙_}
 use Prim.Native.Nat.{_≤_, _-_}
 use native.Mathlib.Omega.{arith}
 use lib.ListN.{length, take, drop}
-use Rattle.spans.specs.Spans.{spanned}
+use Rattle.spans.specs.Code.{spanned}
 use Rattle.entries.proofs.WritingLaws.{kept-at, shown-at, length-shown}
-use Rattle.domains.specs.Domains.{goodNameSpan}
-use Rattle.domains.specs.Gathering.{isNew}
+use Rattle.domains.specs.Code.{goodNameSpan, isNew}
 use Rattle.domains.proofs.DcLaws.{fits-inside}
 use Rattle.domains.proofs.OnceLaws.{new-more, new-broken, new-end}
 use borrow.Author.Needs.{needs}

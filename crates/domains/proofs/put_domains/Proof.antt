@@ -5,12 +5,12 @@ use mathlib.Core.Path.{_≡_}
 use Prim.Native.Nat.{_≤_, _-_, _/_}
 use native.Mathlib.Omega.{arith}
 use lib.ListN.{length, take}
-use Rattle.spans.specs.Spans.{spanned}
+use Rattle.spans.specs.Code.{spanned}
 use Rattle.caches.specs.Memory.{domains, encode}
 use Rattle.caches.proofs.MemoryLaws.{size-told}
 use Rattle.entries.proofs.WritingLaws.{kept-at, shown-at, length-shown}
 use Rattle.storing.specs.Stored.{domainPlaces}
-use Rattle.domains.specs.Domains.{goodNameSpan}
+use Rattle.domains.specs.Code.{goodNameSpan}
 use Rattle.domains.proofs.DcLaws.{fits-room, all-good}
 use Rattle.domains.proofs.NamesLaws.{all-free, name-put, names-put}
 use borrow.Author.Needs.{needs}

@@ -1,6 +1,6 @@
 use Rattle.entries.proofs.WritingLaws.{kept-at, shown-at, length-shown, short, keeps-target, all-short, all-more, all-done}
-use Rattle.entries.specs.Writing.{addAll, addTarget, heldTarget, keptFits}
-use Rattle.places.specs.Layout.{changed}
+use Rattle.entries.specs.Code.{addAll, addTarget, heldTarget, keptFits}
+use Rattle.places.specs.Code.{changed}
 use denote.Ref.{now}
 use native.Mathlib.Omega.{arith}
 use lib.ListN.{length, take, drop}

@@ -1,5 +1,5 @@
 use Rattle.spans.proofs.UnitLaws.{length-spanned}
-use Rattle.spans.specs.Spans.{spanned}
+use Rattle.spans.specs.Code.{spanned}
 use denote.Ref.{now}
 use native.Mathlib.Omega.{arith}
 use Rattle.entries.proofs.WritingLaws.{entry-begun}

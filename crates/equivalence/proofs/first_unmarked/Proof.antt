@@ -3,7 +3,7 @@ use mathlib.Core.Path.{_≡_, sym, _∙_}
 use mathlib.Core.List.{map}
 use Prim.Native.Nat.{_-_, _≤_}
 use native.Mathlib.Omega.{arith}
-use Rattle.equivalence.specs.Compared.{givenPath}
+use Rattle.equivalence.specs.Code.{givenPath}
 use Rattle.equivalence.proofs.ComparisonLaws.{kept-inside, seek, seek-hit, seek-miss, seek-end}
 use borrow.Author.Needs.{needs}
 use Rattle.equivalence.proofs.first_unmarked.Statement.{statement}

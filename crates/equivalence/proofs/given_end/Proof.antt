@@ -3,7 +3,7 @@ use mathlib.Core.Path.{_≡_, sym, _∙_}
 use Prim.Native.Nat.{_+_, _-_, _≤_}
 use lib.ListN.{take}
 use native.Mathlib.Omega.{arith}
-use Rattle.equivalence.specs.Compared.{givenBoundaries, setEnd}
+use Rattle.equivalence.specs.Code.{givenBoundaries, setEnd}
 use Rattle.equivalence.proofs.SetLaws.{endFrom, end-start, given-stop, given-more, given-last}
 use borrow.Author.Needs.{needs}
 use Rattle.equivalence.proofs.given_end.Statement.{statement}

@@ -2,7 +2,7 @@
 use mathlib.Core.Path.{_≡_, sym, _∙_}
 use Prim.Native.Nat.{_+_, _-_, _≤_}
 use native.Mathlib.Omega.{arith}
-use Rattle.equivalence.specs.Compared.{heldTargets, boundaries, setEnd}
+use Rattle.equivalence.specs.Code.{heldTargets, boundaries, setEnd}
 use Rattle.equivalence.proofs.SetLaws.{endFrom, end-start, held-stop, held-more, held-last}
 use borrow.Author.Needs.{needs}
 use Rattle.equivalence.proofs.held_end.Statement.{statement}

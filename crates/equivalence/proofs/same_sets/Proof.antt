@@ -6,7 +6,7 @@ use native.Mathlib.Omega.{arith}
 use borrow.Author.Tests.{not-true, not-false}
 use Rattle.laws.proofs.Every.{every-fewer}
 use Rattle.equivalence.specs.Equivalence.{sets, sameSets}
-use Rattle.equivalence.specs.Compared.{heldTargets, givenTargets}
+use Rattle.equivalence.specs.Code.{heldTargets, givenTargets}
 use Rattle.equivalence.proofs.SetLaws.{setsFrom, held-within, given-within, sets-short, sets-end, sets-differ, sets-more}
 use borrow.Author.Needs.{needs}
 use Rattle.equivalence.proofs.same_sets.Statement.{statement}

@@ -3,8 +3,8 @@ use mathlib.Core.Path.{ap, _∙_}
 use Prim.Native.Nat.{ℕ, _+_}
 use native.Mathlib.Omega.{arith}
 use lib.ListN.{drop}
-use Rattle.unspelling.specs.Reading.{decimalForm}
-use Rattle.filling.specs.Filling.{valueAt}
+use Rattle.unspelling.specs.Code.{decimalForm}
+use Rattle.filling.specs.Code.{valueAt}
 use Rattle.filling.proofs.LineLaws.{value-slice, line-inside, number-known, number-some}
 use borrow.Author.Needs.{needs}
 use Rattle.filling.proofs.number_at.Statement.{statement}

@@ -4,9 +4,9 @@ use mathlib.Core.Path.{ap, _∙_}
 use Prim.Native.Nat.{ℕ, _+_}
 use native.Mathlib.Omega.{arith}
 use lib.ListN.{length}
-use Rattle.places.specs.Layout.{changed}
+use Rattle.places.specs.Code.{changed}
 use Rattle.unspelling.specs.Reading.{isSpelled, unspelled}
-use Rattle.entries.specs.Writing.{addText}
+use Rattle.entries.specs.Code.{addText}
 use Rattle.filling.proofs.LineLaws.{value-slice, line-inside}
 use borrow.Author.Needs.{needs}
 use Rattle.filling.proofs.put_path.Statement.{statement}

@@ -3,10 +3,11 @@ use mathlib.Core.Path.{_≡_, refl, _∙_}
 use Prim.Native.Nat.{_-_, _≤_}
 use native.Mathlib.Omega.{arith}
 use lib.ListN.{length, drop}
-use Rattle.places.specs.Layout.{changed}
+use Rattle.places.specs.Code.{changed}
 use Rattle.listing.specs.Form.{targetLines}
-use Rattle.entries.specs.Writing.{addTarget, addAll}
-use Rattle.filling.specs.Filling.{saidAt, LinesAt}
+use Rattle.entries.specs.Code.{addTarget, addAll}
+use Rattle.filling.specs.Code.{saidAt}
+use Rattle.filling.specs.Filling.{LinesAt}
 use Rattle.filling.proofs.EntryLaws.{targets-few, more-left, left-none, left-past, target-there, target-next, target-added, targets-done}
 use borrow.Author.Needs.{needs}
 use Rattle.filling.proofs.put_targets.Statement.{statement}

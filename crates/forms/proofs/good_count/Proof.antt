@@ -1,4 +1,4 @@
-use Rattle.unc.specs.Paths.{goodCount}
+use Rattle.unc.specs.Code.{goodCount}
 use denote.Ref.{now}
 use Prim.Native.Nat.{_≤_, _-_}
 use lib.ListN.{length, drop}

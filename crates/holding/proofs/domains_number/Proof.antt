@@ -1,4 +1,4 @@
-use Rattle.domains.specs.Domains.{domainsRefusal}
+use Rattle.domains.specs.Code.{domainsRefusal}
 use mathlib.Core.Path.{sym, ap}
 use borrow.Author.Needs.{needs}
 use Rattle.holding.proofs.domains_number.Statement.{statement}

@@ -1,4 +1,4 @@
-use Rattle.loading.specs.Loaded.{loadRefusal}
+use Rattle.loading.specs.Code.{loadRefusal}
 use mathlib.Core.Path.{sym, ap}
 use borrow.Author.Needs.{needs}
 use Rattle.holding.proofs.read_number.Statement.{statement}

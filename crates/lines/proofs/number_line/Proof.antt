@@ -4,7 +4,7 @@ use denote.Ref.{now}
 use mathlib.Core.Path.{ap, _∙_}
 use native.Mathlib.Omega.{arith}
 use borrow.Author.Tests.{not-true, not-false}
-use Rattle.unspelling.specs.Reading.{decimalForm}
+use Rattle.unspelling.specs.Code.{decimalForm}
 use Rattle.lines.proofs.LineLaws.{number-other, number-read, key-fits, tail-value}
 use borrow.Author.Needs.{needs}
 use Rattle.lines.proofs.number_line.Statement.{statement}

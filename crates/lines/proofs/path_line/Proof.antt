@@ -6,7 +6,8 @@ use Prim.Native.Nat.{ℕ, _-_}
 use native.Mathlib.Omega.{arith}
 use borrow.Author.Tests.{not-true, not-false}
 use Rattle.caches.specs.Order.{goodPrefix}
-use Rattle.unspelling.specs.Reading.{spelledForm, unspelled, isSpelled}
+use Rattle.unspelling.specs.Code.{spelledForm}
+use Rattle.unspelling.specs.Reading.{unspelled, isSpelled}
 use Rattle.lines.proofs.LineLaws.{path-other, path-bad, path-said, key-fits, tail-value, spelled-good}
 use borrow.Author.Needs.{needs}
 use Rattle.lines.proofs.path_line.Statement.{statement}

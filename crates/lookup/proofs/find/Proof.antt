@@ -6,7 +6,7 @@ use mathlib.Core.Path.{_≡_, refl, sym, _∙_}
 use native.Mathlib.Omega.{arith}
 use Rattle.caches.specs.Memory.{referrals, decode}
 use Rattle.lookup.specs.Lookup.{longestMatch, longestFrom}
-use Rattle.lookup.specs.Ends.{bestFound}
+use Rattle.lookup.specs.Code.{bestFound}
 use Rattle.lookup.proofs.FindLaws.{find-hit, find-end}
 use Rattle.lookup.proofs.EndLaws.{find-begin, find-better, find-worse, find-whole}
 use borrow.Author.Needs.{needs}

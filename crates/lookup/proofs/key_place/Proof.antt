@@ -4,7 +4,7 @@ use mathlib.Core.Path.{_≡_, sym, _∙_}
 use native.Mathlib.Omega.{arith}
 use borrow.Author.Needs.{needs}
 use Rattle.places.specs.Layout.{placeCount}
-use Rattle.lookup.specs.Keys.{keyPlace}
+use Rattle.lookup.specs.Code.{keyPlace}
 use Rattle.lookup.proofs.FindLaws.{keyFrom, key-start, key-hit, key-miss, key-end}
 use Rattle.lookup.proofs.key_place.Statement.{statement}
 use Rattle.lookup.proofs.key_place.Tie as tie

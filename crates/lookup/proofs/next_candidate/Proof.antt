@@ -2,7 +2,7 @@
 use Prim.Native.Nat.{_-_, _≤_}
 use mathlib.Core.Path.{refl}
 use native.Mathlib.Omega.{arith}
-use Rattle.lookup.specs.Ends.{Passed}
+use Rattle.lookup.specs.Code.{Passed}
 use Rattle.lookup.proofs.EndLaws.{passed-none, passed-on, passed-one}
 use borrow.Author.Needs.{needs}
 use Rattle.places.specs.Layout.{placeCount}

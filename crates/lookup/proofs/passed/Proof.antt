@@ -1,7 +1,7 @@
 -- Tests place after place. The invariant: none before place i + k matches.
 use Prim.Native.Nat.{_+_, _-_, _≤_}
 use native.Mathlib.Omega.{arith}
-use Rattle.lookup.specs.Ends.{Passed}
+use Rattle.lookup.specs.Code.{Passed}
 use Rattle.lookup.proofs.EndLaws.{passed-none, passed-one}
 use borrow.Author.Needs.{needs}
 use Rattle.lookup.proofs.passed.Statement.{statement}

@@ -1,6 +1,6 @@
 use Rattle.moves.proofs.PointLaws.{good-gone, reached-long, reached-ready, reached-found}
 use lib.ListN.{take}
-use Rattle.moves.specs.Points.{goneTo}
+use Rattle.moves.specs.Code.{goneTo}
 use denote.Ref.{now}
 use borrow.Author.Needs.{needs}
 use Rattle.moves.proofs.reached.Statement.{statement}

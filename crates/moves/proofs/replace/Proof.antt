@@ -2,8 +2,8 @@ use Rattle.moves.proofs.PointLaws.{path-stays, path-goes}
 use mathlib.Core.Path.{ap, _∙_}
 use mathlib.Core.List.{List}
 use Prim.Native.Nat.{ℕ, _-_}
-use Rattle.unc.specs.Paths.{writtenWithin}
-use Rattle.moves.specs.Moves.{movedTo}
+use Rattle.unc.specs.Code.{writtenWithin}
+use Rattle.moves.specs.Code.{movedTo}
 use native.Mathlib.Omega.{arith}
 use denote.Ref.{now}
 use borrow.Author.Needs.{needs}

@@ -2,7 +2,7 @@
 use denote.Ref.{now}
 use mathlib.Core.Path.{sym, ap, _∙_}
 use native.Mathlib.Omega.{arith}
-use Rattle.spans.specs.Spans.{spanned, partOf}
+use Rattle.spans.specs.Code.{spanned, partOf}
 use Rattle.spans.proofs.UnitLaws.{length-spanned, inside-is}
 use Rattle.namelists.proofs.ListLaws.{rest-spanned, bare-stays, bare-drops}
 use Rattle.unc.proofs.FormLaws.{past-end}

@@ -1,7 +1,7 @@
 -- The DC name in a text.
 use denote.Ref.{now}
 use native.Mathlib.Omega.{arith}
-use Rattle.spans.specs.Spans.{spanned}
+use Rattle.spans.specs.Code.{spanned}
 use Rattle.namelists.specs.NameLists.{bare}
 use Rattle.namelists.proofs.ListLaws.{dc-yes, dc-no}
 use Rattle.referral.proofs.TextLaws.{none-spanned}

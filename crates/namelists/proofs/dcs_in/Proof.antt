@@ -5,13 +5,13 @@ use mathlib.Core.Path.{ap, _∙_}
 use Prim.Native.Nat.{ℕ, _+_}
 use lib.ListN.{take}
 use Rattle.reader.specs.declared.Offsets.{Offsets}
-use Rattle.spans.specs.Spans.{spanned}
+use Rattle.spans.specs.Code.{spanned}
 use Rattle.namelists.specs.NameLists.{dcOf}
 use mathlib.Core.List.{map}
 use Rattle.referral.specs.Replies.{says}
-use Rattle.referral.specs.Found.{replyOf}
+use Rattle.referral.specs.Code.{replyOf}
 use Rattle.namelists.specs.NameLists.{textsAt, dcNames}
-use Rattle.namelists.specs.Found.{denotedDcs}
+use Rattle.namelists.specs.Code.{denotedDcs}
 use borrow.Author.Needs.{needs}
 use Rattle.namelists.proofs.dcs_in.Statement.{statement}
 use Rattle.namelists.proofs.dcs_in.Tie as tie

@@ -4,13 +4,13 @@ use mathlib.Core.Path.{_≡_, _∙_}
 use Prim.Native.Nat.{_-_, _≤_}
 use lib.ListN.{length, take}
 use native.Mathlib.Omega.{arith}
-use Rattle.spans.specs.Spans.{spanned}
+use Rattle.spans.specs.Code.{spanned}
 use Rattle.namelists.specs.NameLists.{dcOf}
 use Rattle.laws.specs.Lists.{every}
 use mathlib.Core.Bool.{true}
 use mathlib.Core.List.{map, _++_}
 use Rattle.namelists.specs.NameLists.{textsAt}
-use Rattle.referral.specs.Found.{isInside}
+use Rattle.referral.specs.Code.{isInside}
 use Rattle.referral.proofs.TargetLaws.{none-inside}
 use Rattle.namelists.proofs.ListLaws.{name-next, name-all, name-start, span-next}
 use lib.ListN.{length-set}

@@ -1,6 +1,6 @@
 -- Nothing is handed on.
 use mathlib.Core.Path.{refl}
-use Rattle.namelists.specs.Found.{noDcs}
+use Rattle.namelists.specs.Code.{noDcs}
 use Rattle.namelists.proofs.no_dcs.Statement.{statement}
 use Rattle.namelists.proofs.no_dcs.Tie as tie
 

@@ -9,7 +9,7 @@ use Rattle.laws.specs.Lists.{every}
 use mathlib.Core.List.{map}
 use Rattle.referral.proofs.ReplyLaws.{read-short, read-long, read-none, read-bad, read-good}
 use Rattle.namelists.specs.NameLists.{domainAt, goodDomain, readDomains}
-use Rattle.namelists.specs.Found.{answerOf}
+use Rattle.namelists.specs.Code.{answerOf}
 use Rattle.namelists.proofs.ListLaws.{answer-is}
 use borrow.Author.Needs.{needs}
 use Rattle.namelists.proofs.read_domains.Statement.{statement}

@@ -6,7 +6,7 @@ use mathlib.Core.Path.{_≡_, refl, _∙_}
 use native.Mathlib.Omega.{arith}
 use borrow.Author.Needs.{needs}
 use Rattle.laws.specs.Lists.{part}
-use Rattle.places.specs.Layout.{zeros}
+use Rattle.places.specs.Code.{zeros}
 use Rattle.places.proofs.ZeroLaws.{zero-more, zero-end}
 use Rattle.places.proofs.all_zero.Statement.{statement}
 use Rattle.places.proofs.all_zero.Tie as tie

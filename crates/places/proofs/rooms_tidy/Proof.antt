@@ -4,7 +4,7 @@ use borrow.Author.Tests.{not-true, not-false}
 use mathlib.Core.Path.{_≡_, sym, _∙_}
 use native.Mathlib.Omega.{arith}
 use borrow.Author.Needs.{needs}
-use Rattle.places.specs.Layout.{tidyRooms}
+use Rattle.places.specs.Code.{tidyRooms}
 use Rattle.places.proofs.TidyLaws.{roomsFrom, rooms-start, rooms-more, rooms-stop, rooms-long, rooms-end}
 use Rattle.places.proofs.rooms_tidy.Statement.{statement}
 use Rattle.places.proofs.rooms_tidy.Tie as tie

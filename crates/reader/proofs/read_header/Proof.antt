@@ -36,7 +36,7 @@ use denote.Triple.Table.{entered, cited}
 use denote.Triple.Walked.{says, needs, Stays, stay-none-slice, walkOf, goes-none-slice, Walks, ends-at, walked, walk-meets}
 use denote.Exit.{yes}
 use Rattle.reader.specs.declared.Header.{Header}
-use Rattle.reader.specs.Fields.{headerOf}
+use Rattle.reader.specs.Code.{headerOf}
 use Rattle.reader.proofs.Calls.{New, Unit, Word, Moved, reader, spelt, makes, moves, reads-unit, reads-word}
 use Rattle.reader.proofs.Header as S
 use Rattle.reader.proofs.Header.Laws as S′

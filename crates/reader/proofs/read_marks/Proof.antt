@@ -37,7 +37,7 @@ use denote.Triple.Table.{entered, cited}
 use denote.Triple.Walked.{says, needs, Stays, stay-none, stay-none-slice, walkOf, goes-none, goes-none-slice, Walks, ends-at, walked, walk-meets}
 use denote.Exit.{yes}
 use Rattle.reader.specs.declared.Marks.{Marks}
-use Rattle.reader.specs.Fields.{entryMarks}
+use Rattle.reader.specs.Code.{entryMarks}
 use Rattle.reader.proofs.Calls.{New, Unit, Word, Moved, reader, spelt, makes, moves, reads-unit, reads-word}
 use Rattle.reader.proofs.Marks as S
 use Rattle.reader.proofs.Marks.Laws as S′

@@ -37,7 +37,7 @@ use denote.Triple.Table.{entered, cited}
 use denote.Triple.Walked.{says, needs, Stays, stay-none, stay-none-slice, walkOf, goes-none, goes-none-slice, Walks, ends-at, walked, walk-meets}
 use denote.Exit.{yes}
 use Rattle.reader.specs.declared.Start.{Start}
-use Rattle.reader.specs.Fields.{startOf}
+use Rattle.reader.specs.Code.{startOf}
 use Rattle.reader.proofs.Calls.{New, Unit, Moved, reader, spelt, makes, moves, reads-unit}
 use Rattle.reader.proofs.Start as S
 use Rattle.reader.proofs.Start.Laws as S′

@@ -33,7 +33,7 @@ use denote.Triple.Walked.{says, Stays, stay-none, walkOf, goes-none, Walks, ends
 use denote.Exit.{yes}
 use denote.Triple.Clauses.{ensured, lasts}
 use Rattle.spans.specs.Bytes.{textAt}
-use Rattle.spans.specs.Spans.{textEnd}
+use Rattle.spans.specs.Code.{textEnd}
 use Rattle.spans.specs.declared.Read.{Read}
 use Rattle.spans.proofs.Read as S
 use Rattle.spans.proofs.Read.Laws as S′

@@ -1,6 +1,6 @@
 -- Nothing is handed on.
 use mathlib.Core.Path.{refl}
-use Rattle.referral.specs.Found.{noReferral}
+use Rattle.referral.specs.Code.{noReferral}
 use Rattle.referral.proofs.no_referral.Statement.{statement}
 use Rattle.referral.proofs.no_referral.Tie as tie
 

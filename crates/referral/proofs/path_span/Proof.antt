@@ -3,12 +3,12 @@ use denote.Ref.{now}
 use mathlib.Core.Path.{sym, ap, _∙_}
 use Prim.Native.Nat.{_-_}
 use native.Mathlib.Omega.{arith}
-use Rattle.spans.specs.Spans.{spanned, partOf}
+use Rattle.spans.specs.Code.{spanned, partOf}
 use Rattle.spans.specs.declared.Span.{Span}
 use Rattle.spans.proofs.UnitLaws.{length-spanned, part-spanned, inside-is}
 use Rattle.referral.proofs.TextLaws.{none-spanned, path-unled-at, path-over, path-few, path-found}
 use Rattle.unc.proofs.FormLaws.{body-within}
-use Rattle.unc.specs.Paths.{goodCount}
+use Rattle.unc.specs.Code.{goodCount}
 use borrow.Author.Needs.{needs}
 use Rattle.referral.proofs.path_span.Statement.{statement}
 use Rattle.referral.proofs.path_span.Tie as tie

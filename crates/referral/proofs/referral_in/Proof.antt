@@ -12,10 +12,9 @@ use Rattle.referral.specs.Replies.{versionAt, serverTypeAt}
 use Rattle.referral.specs.Replies.{versionAt, serverTypeAt, referralCount}
 use mathlib.Core.List.{map}
 use Prim.Native.Nat.{min}
-use Rattle.referral.specs.Found.{targetShown}
+use Rattle.referral.specs.Code.{targetShown, denoted, replyOf, referralShown}
 use mathlib.Core.Bool.{_&&_}
 use Rattle.referral.specs.Replies.{says, referralIn, headerFlag, ttlAt}
-use Rattle.referral.specs.Found.{denoted, replyOf, referralShown}
 use lib.Dec.{eqb}
 use borrow.Author.Needs.{needs}
 use Rattle.referral.proofs.referral_in.Statement.{statement}

@@ -15,7 +15,7 @@ use Rattle.referral.proofs.EntryLaws.{entries-start}
 use mathlib.Core.Bool.{true}
 use mathlib.Core.List.{map, _++_}
 use Rattle.referral.specs.Replies.{keptTargets}
-use Rattle.referral.specs.Found.{targetShown, keptInside}
+use Rattle.referral.specs.Code.{targetShown, keptInside}
 use Rattle.referral.proofs.TargetLaws.{toCome, come-all, target-all, none-kept, target-next, kept-next, left-fits, left-next}
 use borrow.Author.Needs.{needs}
 use Rattle.referral.proofs.targets.Statement.{statement}

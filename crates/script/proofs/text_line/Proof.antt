@@ -1,6 +1,7 @@
 use Rattle.script.proofs.LineLaws.{text-other, text-bad, text-long, text-said}
 use Rattle.lines.proofs.LineLaws.{key-fits, tail-value, spelled-good}
-use Rattle.unspelling.specs.Reading.{spelledForm, unspelled, isSpelled}
+use Rattle.unspelling.specs.Code.{spelledForm}
+use Rattle.unspelling.specs.Reading.{unspelled, isSpelled}
 use Rattle.laws.specs.Lists.{pasted}
 use lib.ListN.{length}
 use mathlib.Core.List.{List}

@@ -6,7 +6,7 @@ use native.Mathlib.Omega.{arith}
 use Rattle.laws.specs.Lists.{pasted}
 use Rattle.laws.proofs.Pasting.{pasted-nil, copied-more, copied-all}
 use Rattle.spans.proofs.UnitLaws.{length-spanned}
-use Rattle.spans.specs.Spans.{spanned}
+use Rattle.spans.specs.Code.{spanned}
 use borrow.Author.Needs.{needs}
 use Rattle.spans.proofs.copy_span.Statement.{statement}
 use Rattle.spans.proofs.copy_span.Tie as tie

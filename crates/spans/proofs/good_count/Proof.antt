@@ -4,10 +4,10 @@ use lib.ListN.{drop}
 use denote.Ref.{now}
 use native.Mathlib.Omega.{arith}
 use Rattle.unc.specs.Names.{nothingOrDots}
-use Rattle.unc.specs.Paths.{goodCount}
+use Rattle.unc.specs.Code.{goodCount}
 use Rattle.unc.proofs.PieceLaws.{scan-within, count-bad, count-next, count-last, count-dots}
 use Rattle.spans.proofs.UnitLaws.{length-spanned, part-spanned, inside-is}
-use Rattle.spans.specs.Spans.{spanned, partOf}
+use Rattle.spans.specs.Code.{spanned, partOf}
 use Rattle.spans.specs.declared.Span.{Span}
 use borrow.Author.Needs.{needs}
 use Rattle.spans.proofs.good_count.Statement.{statement}

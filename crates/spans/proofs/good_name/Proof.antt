@@ -6,7 +6,7 @@ use denote.Ref.{now}
 use native.Mathlib.Omega.{arith}
 use Rattle.unc.proofs.PieceLaws.{name-long, name-fits, component-dots, component-scan}
 use Rattle.spans.proofs.UnitLaws.{length-spanned}
-use Rattle.spans.specs.Spans.{spanned}
+use Rattle.spans.specs.Code.{spanned}
 use borrow.Author.Needs.{needs}
 use Rattle.spans.proofs.good_name.Statement.{statement}
 use Rattle.spans.proofs.good_name.Tie as tie

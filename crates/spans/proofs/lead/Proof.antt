@@ -4,7 +4,7 @@ use denote.Ref.{now}
 use native.Mathlib.Omega.{arith}
 use Rattle.unc.proofs.FormLaws.{leads-none, leads-one, leads-two, past-end}
 use Rattle.spans.proofs.UnitLaws.{length-spanned}
-use Rattle.spans.specs.Spans.{spanned}
+use Rattle.spans.specs.Code.{spanned}
 use borrow.Author.Needs.{needs}
 use Rattle.spans.proofs.lead.Statement.{statement}
 use Rattle.spans.proofs.lead.Tie as tie

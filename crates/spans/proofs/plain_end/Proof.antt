@@ -5,10 +5,10 @@ use denote.Ref.{now}
 use native.Mathlib.Omega.{arith}
 use borrow.Author.Tests.{not-true, not-false}
 use Rattle.unc.specs.Names.{plain}
-use Rattle.unc.specs.Paths.{plainLength}
+use Rattle.unc.specs.Code.{plainLength}
 use Rattle.unc.proofs.PieceLaws.{plain-hit, plain-miss, plain-over}
 use Rattle.spans.proofs.UnitLaws.{length-spanned}
-use Rattle.spans.specs.Spans.{spanned}
+use Rattle.spans.specs.Code.{spanned}
 use borrow.Author.Needs.{needs}
 use Rattle.spans.proofs.plain_end.Statement.{statement}
 use Rattle.spans.proofs.plain_end.Tie as tie

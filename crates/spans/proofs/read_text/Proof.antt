@@ -5,7 +5,7 @@ use lib.ListN.{length}
 use mathlib.Core.Path.{_≡_, refl, sym, _∙_}
 use native.Mathlib.Omega.{arith}
 use Rattle.spans.specs.Bytes.{textAt}
-use Rattle.spans.specs.Spans.{textEnd}
+use Rattle.spans.specs.Code.{textEnd}
 use Rattle.spans.proofs.UnitLaws.{text-over, text-half, text-zero, text-more}
 use borrow.Author.Needs.{needs}
 use Rattle.spans.proofs.read_text.Statement.{statement}

@@ -6,7 +6,7 @@ use native.Mathlib.Omega.{arith}
 use Rattle.unc.specs.Names.{folded, sameName}
 use Rattle.unc.proofs.NameLaws.{sameName-unlike, same-hit, same-miss, same-end}
 use Rattle.spans.proofs.UnitLaws.{length-spanned}
-use Rattle.spans.specs.Spans.{spanned}
+use Rattle.spans.specs.Code.{spanned}
 use borrow.Author.Needs.{needs}
 use Rattle.spans.proofs.same_span.Statement.{statement}
 use Rattle.spans.proofs.same_span.Tie as tie

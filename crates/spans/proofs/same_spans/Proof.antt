@@ -5,10 +5,10 @@ use denote.Ref.{now}
 use native.Mathlib.Omega.{arith}
 use borrow.Author.Tests.{not-true, not-false}
 use borrow.Author.Needs.{needs}
-use Rattle.unc.specs.Names.{SameWithin}
+use Rattle.unc.specs.Code.{SameWithin}
 use Rattle.unc.proofs.NameLaws.{sameName-unlike}
 use Rattle.unc.proofs.WithinLaws.{within-none, within-more, within-all, unlike-at}
-use Rattle.spans.specs.Spans.{spanned}
+use Rattle.spans.specs.Code.{spanned}
 use Rattle.spans.proofs.UnitLaws.{length-spanned, units-told}
 use Rattle.spans.proofs.same_spans.Statement.{statement}
 use Rattle.spans.proofs.same_spans.Tie as tie

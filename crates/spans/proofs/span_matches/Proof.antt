@@ -8,7 +8,7 @@ use native.Mathlib.Omega.{arith}
 use Rattle.unc.specs.Names.{sameName}
 use Rattle.unc.proofs.MatchLaws.{matches-longer, matches-whole, matches-part, matches-beside}
 use Rattle.spans.proofs.UnitLaws.{length-spanned}
-use Rattle.spans.specs.Spans.{spanned}
+use Rattle.spans.specs.Code.{spanned}
 use borrow.Author.Needs.{needs}
 use Rattle.spans.proofs.span_matches.Statement.{statement}
 use Rattle.spans.proofs.span_matches.Tie as tie

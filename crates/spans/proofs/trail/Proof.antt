@@ -5,7 +5,7 @@ use denote.Ref.{now}
 use native.Mathlib.Omega.{arith}
 use Rattle.unc.proofs.FormLaws.{trail-none, trail-dropped, trail-kept}
 use Rattle.spans.proofs.UnitLaws.{length-spanned}
-use Rattle.spans.specs.Spans.{spanned}
+use Rattle.spans.specs.Code.{spanned}
 use borrow.Author.Needs.{needs}
 use Rattle.spans.proofs.trail.Statement.{statement}
 use Rattle.spans.proofs.trail.Tie as tie

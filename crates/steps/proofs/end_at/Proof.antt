@@ -1,5 +1,5 @@
 use mathlib.Core.Path.{refl}
-use Rattle.steps.specs.Rested.{endedAt}
+use Rattle.steps.specs.Code.{endedAt}
 use borrow.Author.Needs.{needs}
 use Rattle.steps.proofs.end_at.Statement.{statement}
 use Rattle.steps.proofs.end_at.Tie as tie

@@ -1,7 +1,7 @@
 use Rattle.caches.specs.Memory.{domains}
 use Rattle.steps.proofs.HeldLaws.{key-fits}
 use Rattle.caches.proofs.KindLaws.{prefix-short}
-use Rattle.steps.specs.Rested.{askingOf}
+use Rattle.steps.specs.Held.{askingOf}
 use Rattle.steps.specs.Steps.{step6Host}
 use mathlib.Core.Path.{refl, sym, _∙_}
 use Rattle.steps.proofs.StepLaws.{asked-as, host-asked, domain-asked}

@@ -1,8 +1,8 @@
 use Prim.Native.Nat.{_≤_, _-_}
 use mathlib.Core.Path.{_≡_, sym, _∙_}
 use native.Mathlib.Omega.{arith}
-use Rattle.spans.specs.Spans.{spanned}
-use Rattle.lookup.specs.Keys.{keyPlace}
+use Rattle.spans.specs.Code.{spanned}
+use Rattle.lookup.specs.Code.{keyPlace}
 use Rattle.lookup.proofs.FindLaws.{keyFrom, key-start, key-hit, key-miss, key-end, key-referral}
 use borrow.Author.Needs.{needs}
 use Rattle.places.specs.Layout.{placeCount}

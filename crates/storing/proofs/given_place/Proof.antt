@@ -1,7 +1,7 @@
-use Rattle.entries.specs.Writing.{heldTarget, keptFits}
+use Rattle.entries.specs.Code.{heldTarget, keptFits}
 use Rattle.storing.specs.Stored.{firstEqual, hinted}
 use mathlib.Core.List.{map}
-use Rattle.lookup.specs.Lookup.{entryAt}
+use Rattle.lookup.specs.Code.{entryAt}
 use Rattle.caches.specs.Memory.{referrals}
 use denote.Ref.{now}
 use lib.ListN.{length, drop, take}

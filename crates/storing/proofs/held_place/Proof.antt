@@ -1,6 +1,6 @@
 use Rattle.storing.proofs.HintLaws.{nowhere, target-path, hinted-is, equal-hit, equal-miss, equal-end}
 use Rattle.storing.specs.Stored.{firstEqual, hinted}
-use Rattle.lookup.specs.Lookup.{entryAt}
+use Rattle.lookup.specs.Code.{entryAt}
 use Rattle.caches.specs.Memory.{referrals}
 use denote.Ref.{now}
 use lib.ListN.{length, drop}

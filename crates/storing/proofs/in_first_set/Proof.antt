@@ -1,7 +1,7 @@
 use Rattle.storing.specs.Stored.{inFirstSet}
 use Rattle.laws.specs.Lists.{every}
 use mathlib.Core.Bool.{not}
-use Rattle.lookup.specs.Lookup.{entryAt}
+use Rattle.lookup.specs.Code.{entryAt}
 use Rattle.caches.specs.Memory.{referrals}
 use denote.Ref.{now}
 use Prim.Native.Nat.{_≤_, _-_}

@@ -1,4 +1,4 @@
-use Rattle.unc.specs.Paths.{plainLength}
+use Rattle.unc.specs.Code.{plainLength}
 use borrow.Author.Tests.{not-true, not-false}
 use Prim.Native.Nat.{_≤_, _+_, _-_}
 use lib.ListN.{length, drop}

@@ -3,7 +3,7 @@ use mathlib.Core.Path.{_≡_, refl}
 use mathlib.Core.Bool.{true}
 use native.Mathlib.Omega.{arith}
 use borrow.Author.Needs.{needs}
-use Rattle.unc.specs.Names.{SameWithin}
+use Rattle.unc.specs.Code.{SameWithin}
 use Rattle.unc.proofs.WithinLaws.{within-none, block-more, block-less, block-end, block-told}
 use Rattle.unc.proofs.same_block.Statement.{statement}
 use Rattle.unc.proofs.same_block.Tie as tie

@@ -5,7 +5,7 @@ use mathlib.Core.Path.{sym}
 use mathlib.Core.Bool.{true≢false}
 use borrow.Author.Tests.{not-true, not-false}
 use native.Mathlib.Omega.{arith}
-use Rattle.unc.specs.Names.{SameWithin}
+use Rattle.unc.specs.Code.{SameWithin}
 use Rattle.unc.proofs.WithinLaws.{within-none, within-join, within-all, unlike-within}
 use borrow.Author.Needs.{needs}
 use Rattle.unc.proofs.same_blocks.Statement.{statement}

@@ -4,7 +4,7 @@ use mathlib.Core.Path.{sym}
 use native.Mathlib.Omega.{arith}
 use borrow.Author.Tests.{not-true, not-false}
 use borrow.Author.Needs.{needs}
-use Rattle.unc.specs.Names.{SameWithin}
+use Rattle.unc.specs.Code.{SameWithin}
 use Rattle.unc.proofs.WithinLaws.{within-none, within-more, within-equal, within-all, unlike-at}
 use Rattle.unc.proofs.same_units.Statement.{statement}
 use Rattle.unc.proofs.same_units.Tie as tie

@@ -4,7 +4,7 @@ use Prim.Native.Nat.{_-_, _≤_}
 use native.Mathlib.Omega.{arith}
 use lib.ListN.{length, drop}
 use borrow.Author.Tests.{not-true, not-false}
-use Rattle.unspelling.specs.Reading.{spelledForm}
+use Rattle.unspelling.specs.Code.{spelledForm}
 use Rattle.unspelling.proofs.UnspelledLaws.{formFrom, form-start, form-stands, form-escape, form-bad, form-end, escape-within}
 use borrow.Author.Needs.{needs}
 use Rattle.unspelling.proofs.spelled_form.Statement.{statement}

@@ -1,6 +1,6 @@
 -- The form of a walk that waits.
 use Rattle.walks.proofs.TestLaws.{few, enough, stops, passes, tried-as}
-use Rattle.walks.specs.Tests.{askingForm}
+use Rattle.walks.specs.Code.{askingForm}
 use Rattle.walks.specs.Walks.{nextInForm}
 use borrow.Author.Tests.{not-true, not-false}
 use borrow.Author.Needs.{needs}

@@ -1,6 +1,6 @@
 -- The form of a walk that ended.
 use Rattle.walks.proofs.TestLaws.{few, enough, stops, passes, tried-as}
-use Rattle.walks.specs.Tests.{endForm}
+use Rattle.walks.specs.Code.{endForm}
 use Rattle.walks.specs.Walks.{nextInForm}
 use borrow.Author.Tests.{not-true, not-false}
 use borrow.Author.Needs.{needs}

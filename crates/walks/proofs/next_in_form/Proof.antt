@@ -1,5 +1,5 @@
 -- The form of the next move, by its case.
-use Rattle.walks.specs.Tests.{askingForm, endForm}
+use Rattle.walks.specs.Code.{askingForm, endForm}
 use Rattle.walks.specs.Walks.{nextInForm}
 use mathlib.Core.Path.{sym, ap, _∙_}
 use borrow.Author.Needs.{needs}

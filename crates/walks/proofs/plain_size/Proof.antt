@@ -1,6 +1,6 @@
 -- A good size, and not of PATH_NOT_COVERED.
 use Rattle.walks.proofs.TestLaws.{stops, passes}
-use Rattle.walks.specs.Tests.{plainSize}
+use Rattle.walks.specs.Code.{plainSize}
 use borrow.Author.Tests.{not-true, not-false}
 use mathlib.Core.Path.{refl}
 use borrow.Author.Needs.{needs}

@@ -1,6 +1,6 @@
 -- One room: its text fits, and zeros stand past it.
 use Rattle.walks.proofs.TestLaws.{room-tested}
-use Rattle.walks.specs.Tests.{roomForm}
+use Rattle.walks.specs.Code.{roomForm}
 use Rattle.laws.proofs.Choices.{and-no-left}
 use borrow.Author.Tests.{lt-leb}
 use mathlib.Core.Path.{sym}

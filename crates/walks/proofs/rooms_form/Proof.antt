@@ -1,6 +1,6 @@
 -- The three rooms.
 use Rattle.walks.proofs.TestLaws.{stops, passes}
-use Rattle.walks.specs.Tests.{roomsForm}
+use Rattle.walks.specs.Code.{roomsForm}
 use borrow.Author.Tests.{not-true, not-false}
 use borrow.Author.Needs.{needs}
 use Rattle.walks.proofs.rooms_form.Statement.{statement}

@@ -1,6 +1,6 @@
 -- The form of a SYSVOL request.
 use Rattle.walks.proofs.TestLaws.{stops, passes}
-use Rattle.walks.specs.Tests.{plainSize}
+use Rattle.walks.specs.Code.{plainSize}
 use Rattle.walks.specs.Walks.{askedInForm, oneParty}
 use borrow.Author.Tests.{not-true, not-false, eq-eqb, ne-eqb}
 use mathlib.Core.Path.{refl}

@@ -1,6 +1,6 @@
 -- An answer as a number.
 use mathlib.Core.Path.{sym, ap}
-use Rattle.wire.specs.Wire.{answerNumber}
+use Rattle.wire.specs.Code.{answerNumber}
 use borrow.Author.Needs.{needs}
 use Rattle.wire.proofs.answer_number.Statement.{statement}
 use Rattle.wire.proofs.answer_number.Tie as tie

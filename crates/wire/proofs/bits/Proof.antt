@@ -1,7 +1,7 @@
 -- Four flags as one number.
 use Prim.Native.Nat.{_+_, _*_}
 use native.Mathlib.Omega.{arith}
-use Rattle.wire.specs.Wire.{bitsOf}
+use Rattle.wire.specs.Code.{bitsOf}
 use Rattle.wire.proofs.WireLaws.{bit-small}
 use borrow.Author.Needs.{needs}
 use Rattle.wire.proofs.bits.Statement.{statement}

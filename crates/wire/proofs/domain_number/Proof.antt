@@ -3,7 +3,7 @@ use denote.Ref.{now}
 use mathlib.Core.Path.{refl, ap, _∙_}
 use native.Mathlib.Omega.{arith}
 use Rattle.namelists.specs.NameLists.{domainAt}
-use Rattle.wire.specs.Wire.{spanOf}
+use Rattle.wire.specs.Code.{spanOf}
 use Rattle.wire.proofs.WireLaws.{number-at, number-past}
 use borrow.Author.Needs.{needs}
 use Rattle.wire.proofs.domain_number.Statement.{statement}

@@ -2,7 +2,7 @@
 
 use mathlib.Core.Path.{refl}
 use Prim.Native.Nat.{zero-le}
-use Rattle.wire.specs.Wire.{foundNumbers}
+use Rattle.wire.specs.Code.{foundNumbers}
 use Rattle.wire.proofs.WireLaws.{number-at, number-past, four-past}
 use borrow.Author.Needs.{needs}
 use Rattle.wire.proofs.head_number.Statement.{statement}

@@ -1,7 +1,7 @@
 -- Number k of a kept target.
 use mathlib.Core.Path.{refl}
 use native.Mathlib.Omega.{arith}
-use Rattle.wire.specs.Wire.{targetNumbers}
+use Rattle.wire.specs.Code.{targetNumbers}
 use Rattle.wire.proofs.WireLaws.{number-at, number-past}
 use borrow.Author.Needs.{needs}
 use Rattle.wire.proofs.kept_number.Statement.{statement}

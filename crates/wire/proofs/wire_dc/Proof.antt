@@ -2,7 +2,7 @@
 use mathlib.Core.Path.{refl}
 use lib.ListN.{getD}
 use native.Mathlib.Omega.{arith}
-use Rattle.wire.specs.Wire.{spanOf}
+use Rattle.wire.specs.Code.{spanOf}
 use Rattle.wire.proofs.WireLaws.{number-at, number-past}
 use borrow.Author.Needs.{needs}
 use Rattle.wire.proofs.wire_dc.Statement.{statement}

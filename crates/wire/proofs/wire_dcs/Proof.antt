@@ -3,7 +3,7 @@
 use mathlib.Core.Path.{refl}
 use mathlib.Core.List.{[], _∷_}
 use native.Mathlib.Omega.{arith}
-use Rattle.wire.specs.Wire.{answerNumber}
+use Rattle.wire.specs.Code.{answerNumber}
 use Rattle.wire.proofs.WireLaws.{number-at, number-past}
 use borrow.Author.Needs.{needs}
 use Rattle.wire.proofs.wire_dcs.Statement.{statement}

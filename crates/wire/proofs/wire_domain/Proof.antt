@@ -4,7 +4,7 @@ use mathlib.Core.Path.{sym, _∙_}
 use native.Mathlib.Omega.{arith}
 use Rattle.referral.specs.Replies.{referralCount}
 use Rattle.namelists.specs.NameLists.{readDomains}
-use Rattle.namelists.specs.Found.{answerOf}
+use Rattle.namelists.specs.Code.{answerOf}
 use Rattle.namelists.proofs.SaysLaws.{says-domains}
 use Rattle.wire.proofs.WireLaws.{says-two, two-says}
 use borrow.Author.Needs.{needs}

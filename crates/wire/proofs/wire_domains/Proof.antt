@@ -1,6 +1,6 @@
 -- What a domain reply is read as.
 use mathlib.Core.Path.{ap, _∙_}
-use Rattle.wire.specs.Wire.{answerNumber}
+use Rattle.wire.specs.Code.{answerNumber}
 use borrow.Author.Needs.{needs}
 use Rattle.wire.proofs.wire_domains.Statement.{statement}
 use Rattle.wire.proofs.wire_domains.Tie as tie

@@ -1,6 +1,6 @@
 -- Number k of a target.
 use native.Mathlib.Omega.{arith}
-use Rattle.wire.specs.Wire.{noKept}
+use Rattle.wire.specs.Code.{noKept}
 use borrow.Author.Needs.{needs}
 use Rattle.wire.proofs.wire_target.Statement.{statement}
 use Rattle.wire.proofs.wire_target.Tie as tie

@@ -1,0 +1,44 @@
+-- Shapes of the code, proved equal to the rules; nothing here is to be believed.
+-- What is known of a reply and of a place where an entry is written.
+use Prim.Native.Nat.{ℕ, _≤_, _<_}
+use mathlib.Core.Path.{_≡_}
+use mathlib.Core.Bool.{Bool, true, false}
+use mathlib.Core.List.{List}
+use lib.ListN.{take}
+use Rattle.laws.specs.Lists.{every}
+use Rattle.places.specs.Layout.{placeCount, placeAt}
+use Rattle.places.specs.Code.{changed}
+use Rattle.caches.specs.Order.{goodReferral}
+use Rattle.caches.specs.Memory.{referrals, referralUnits}
+use Rattle.lookup.specs.Code.{entryAt}
+use Rattle.spans.specs.Code.{Inside}
+use Rattle.referral.specs.Code.{referralShown}
+use Rattle.referral.specs.declared.ReferralFound.{ReferralFound}
+use Rattle.equivalence.specs.Equivalence.{equivalent}
+use Rattle.entries.specs.Code.{keptFits}
+use Rattle.storing.specs.Stored.{targetsIn, refreshed, fresh}
+
+-- what a reply must be to be stored: its spans lie inside it, and the entry that it makes is good
+pub record Storable (r : List ℕ) (f : ReferralFound) : Type 0 where
+  pub inside : Inside r (f .prefix)
+  pub few : f .targets ≤ 8
+  pub kept : every (keptFits r) (take (f .targets) (f .kept)) ≡ true
+  pub good : goodReferral (fresh (referralShown r f) false 0) ≡ true
+
+-- place i holds a good referral entry, and exactly it
+pub record HeldEntry (i : ℕ) (raw : List ℕ) : Type 0 where
+  pub fits : i < placeCount raw
+  pub good : goodReferral (entryAt referrals i raw) ≡ true
+  pub units : placeAt i raw ≡ referralUnits (entryAt referrals i raw)
+
+-- whether the targets of the entry at place i are equivalent to those of the reply
+abbrev pub equivalentAt : ℕ → List ℕ → List ℕ → ReferralFound → Bool
+equivalentAt i raw r f = equivalent (f .version) (entryAt referrals i raw .targets) (targetsIn (referralShown r f))
+
+-- the memory with the entry at place i refreshed, and with a new entry there
+abbrev pub refreshedAt : ℕ → List ℕ → ReferralFound → Bool → ℕ → List ℕ → List ℕ
+refreshedAt i r f interlink clock raw =
+    changed i (λ q. referralUnits (refreshed (entryAt referrals i raw) (referralShown r f) interlink clock)) raw
+
+abbrev pub insertedAt : ℕ → List ℕ → ReferralFound → Bool → ℕ → List ℕ → List ℕ
+insertedAt i r f interlink clock raw = changed i (λ q. referralUnits (fresh (referralShown r f) interlink clock)) raw

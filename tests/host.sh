@@ -4,7 +4,7 @@
 # take (host/walks).
 set -eu
 cd "$(dirname "$0")/.."
-tests/library wire probe dfsc
+tests/library testing dfsc
 run() { cargo run --quiet --release --offline --manifest-path "host/$1/Cargo.toml" -- "${@:2}"; }
 run layouts
 # the look-ups in four builds, whose code lies at other places

@@ -1,11 +1,9 @@
-// Links libprobe.a and libwire.a of target/staticlib of the repository (`rt staticlib probe`, `rt staticlib wire`). BENCH_SHIFT moves the code by so many bytes.
+// Links target/staticlib/libtesting.a of the repository (`rt staticlib testing`). BENCH_SHIFT moves the code by so many bytes.
 fn main() {
     let dir = format!("{}/../../target/staticlib", std::env::var("CARGO_MANIFEST_DIR").unwrap());
     println!("cargo:rustc-link-search=native={dir}");
     println!("cargo:rerun-if-env-changed=BENCH_SHIFT");
     println!("cargo:rustc-env=BENCH_SHIFT={}", std::env::var("BENCH_SHIFT").unwrap_or("0".into()));
-    for name in ["probe", "wire"] {
-        println!("cargo:rerun-if-changed={dir}/lib{name}.a");
-        println!("cargo:rustc-link-lib=static={name}");
-    }
+    println!("cargo:rerun-if-changed={dir}/libtesting.a");
+    println!("cargo:rustc-link-lib=static=testing");
 }

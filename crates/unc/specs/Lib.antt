@@ -1,4 +1,2 @@
--- Document 01, "Paths".
-pub mod Names
-pub mod Paths
-pub mod Code
+-- Names, components and paths: document 01, "Paths".
+pub mod names

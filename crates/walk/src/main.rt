@@ -1,8 +1,8 @@
-// Walks a path by the answers on standard input, from empty caches: document 01, "Examples to hold it to". It reads, calls and writes: `pieces` says what has come,
-// `sequence` what it says and which call is due, and `stream` reads, makes the call and writes its lines.
+// Walks a path by the answers on standard input, from empty caches: document 01, "Examples to hold it to". It reads, calls and writes: `script_input::pieces` says what has come,
+// `script_input::line_order` what it says and which call is due, and `script_run::stream` reads, makes the call and writes its lines.
 ghost use mathlib.Core.Path.{_≡_};
 ghost use lib.ListN.{length};
-use script::Due;
+use script_input::lines::Due;
 
 // The places of a cache, all free.
 fn cache() -> [u16; 18688]
@@ -49,30 +49,38 @@ fn main() {
     let mut boot = long_text();
     let mut reply = reply_memory();
     let mut count = 0;
-    let mut came = pieces::nothing();
-    let mut s = script::begin();
-    let mut walk = holding::no_walk();
+    let mut came = script_input::pieces::nothing();
+    let mut s = script_input::lines::begin();
+    let mut walk = dfsc_memory::no_walk();
     // a turn takes up what comes next, or reads what has come; a call may be due after each
     let mut unread = false;
     // nothing says that the input ends
     let mut turns = u64::MAX;
-    while turns > 0 && sequence::goes_on(s) {
+    while turns > 0 && script_input::line_order::goes_on(s) {
         let mut due = Due::None;
         if unread {
             let input = came.input;
             let held = came.held;
-            s = sequence::take(input, s, &line, held, &mut path, &mut boot, &mut reply);
-            due = sequence::due_after(input, s);
+            s = script_input::line_order::take(
+                input,
+                s,
+                &line,
+                held,
+                &mut path,
+                &mut boot,
+                &mut reply,
+            );
+            due = script_input::line_order::due_after(input, s);
         } else {
-            let p = stream::next(&mut units, count, came.at, came.ended);
+            let p = script_run::stream::next(&mut units, count, came.at, came.ended);
             count = p.count;
             came.at = p.at;
-            came = pieces::come(&units[..count], &mut line, came);
+            came = script_input::pieces::come(&units[..count], &mut line, came);
             let input = came.input;
             let held = came.held;
-            due = sequence::due_before(input, s, &line, held);
+            due = script_input::line_order::due_before(input, s, &line, held);
         }
-        let d = stream::call(
+        let d = script_run::stream::call(
             due,
             s,
             walk,

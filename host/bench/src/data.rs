@@ -107,6 +107,42 @@ pub fn domains(places: usize) -> Vec<u16> {
     cache
 }
 
+/// A domain cache of full places whose names, and their DCs, have 255 units and differ in the last two.
+pub fn long_domains(places: usize) -> Vec<u16> {
+    let mut cache = vec![0; places * PLACE];
+    for (i, place) in cache.chunks_mut(PLACE).enumerate() {
+        put(place, 0, &long_name(i));
+        for j in 1..=8 {
+            put(place, j, &long_name(100 + j));
+        }
+        place[9] = 8;
+    }
+    cache
+}
+
+/// A name of 255 units; two of them differ in the last two.
+fn long_name(tag: usize) -> Vec<u16> {
+    let mut name = vec![97; 255];
+    name[253] = 97 + (tag / 16) as u16;
+    name[254] = 97 + (tag % 16) as u16;
+    name
+}
+
+/// The domain reply that takes longest: 32 different names of 255 units, and then the last of them in as many entries as 57,344 bytes hold.
+pub fn slow_domains() -> Vec<u8> {
+    let strings: Vec<u8> = (0..32).flat_map(|i| [vec![92], long_name(i), vec![0]].concat()).flat_map(u16::to_le_bytes).collect();
+    let n = (57_344 - 8 - strings.len()) / 18;
+    let mut r = [[0, 0], (n as u16).to_le_bytes(), [0, 0], [0, 0]].concat();
+    for i in 0..n {
+        let offset = 8 + 18 * n + 514 * i.min(31) - (8 + 18 * i);
+        for v in [3, 18, 0, 2, 300, 0, offset as u16, 0, 0] {
+            r.extend(v.to_le_bytes());
+        }
+    }
+    r.extend(strings);
+    r
+}
+
 fn units(s: &str) -> Vec<u16> {
     s.encode_utf16().collect()
 }
@@ -178,34 +214,4 @@ pub fn damaged(r: &[u8], k: usize) -> Vec<u8> {
         }
     }
     d
-}
-
-/// A domain reply of 57,344 bytes at most: entries that name 32 domains of 255 units in turn, which differ in two units alone, their last or their first ones.
-pub fn domain_reply(differ_at_end: bool) -> Vec<u8> {
-    let names: Vec<Vec<u16>> = (0..32)
-        .map(|i| {
-            let mut name = vec![97; 255];
-            let at = if differ_at_end { 253 } else { 0 };
-            name[at] += i / 16;
-            name[at + 1] += i % 16;
-            name
-        })
-        .collect();
-    let strings: Vec<u8> = names.iter().flat_map(|name| [&[92][..], name, &[0]].concat()).flat_map(u16::to_le_bytes).collect();
-    let n = (57344 - 8 - strings.len()) / 18;
-    let mut r = [[0, 0], (n as u16).to_le_bytes(), [0, 0], [0, 0]].concat();
-    for i in 0..n {
-        let offset = 18 * (n - i) + i % 32 * 514;
-        for v in [3, 18, 0, 2, 300, 0, offset as u16, 0, 0] {
-            r.extend(v.to_le_bytes());
-        }
-    }
-    r.extend(strings);
-    r
-}
-
-/// A listing of n entries with one target each.
-pub fn long_listing(n: usize) -> Vec<u16> {
-    let entry = |i| format!("prefix=\\corp\\dfs{i:05}\nkind=root\ninterlink=0\nfailback=0\nttl=300\ntaken=0\nhint=0\ntarget=\\nas\\dfs{i:05}\n");
-    units(&(0..n).map(entry).collect::<String>())
 }

@@ -310,8 +310,14 @@ fn starts() {
     // each question, each end of a start, each refusal
     let all = [1, 2, 3, 4, 5, 21, 24, 26].map(|rest| (0, rest)).into_iter().chain([1, 2, 3, 4, 10].map(|number| (number, 0)));
     assert_eq!(seen, all.collect::<BTreeSet<_>>());
-    for (name, places, shape) in [("32 full places each, texts of 256 units", 32, LONG), ("8 places, 4 targets, texts of 30 units", 8, USUAL)] {
-        let (refs, doms) = (referrals(places, shape), domains(places));
+    let rows = [
+        ("32 full places each, texts of 256 units, domain names of 4 to 24", LONG, domains(32)),
+        ("32 full places each, texts of 256 units, domain names of 255", LONG, data::long_domains(32)),
+        ("8 places, 4 targets, texts of 30 units", USUAL, domains(8)),
+    ];
+    for (name, shape, doms) in rows {
+        let places = doms.len() / dfsc::PLACE_UNITS;
+        let refs = referrals(places, shape);
         let mut p = path(shape.units, places - 1);
         if shape.units < 250 {
             p.extend("\\docs\\a.txt".encode_utf16());
@@ -362,19 +368,13 @@ fn replies(goals: &mut Goals) {
     }
 }
 
-// What takes the longest: every name of a domain reply is compared with each that is kept, every prefix of a listing with each later one.
-fn longest() {
-    let best = |call: &mut dyn FnMut()| (0..5).map(|_| round(1, call)).fold(f64::MAX, f64::min);
-    for (differ, at_end) in [("last", true), ("first", false)] {
-        let (r, mut doms) = (data::domain_reply(at_end), domains(32));
-        assert_eq!(dfsc::calls::read_domains(&r, SIZE, &mut doms), 0);
-        let ns = best(&mut || { black_box(dfsc::calls::read_domains(black_box(&r), SIZE, &mut doms)); });
-        println!("reading a domain reply of {} bytes, 32 names of 255 units that differ in their {differ} units: {}", r.len(), shown(ns));
-    }
-    let (text, mut refs) = (data::long_listing(4600), referrals(32, USUAL));
-    assert_eq!(dfsc::calls::read(&text, &mut refs), 9, "more entries than places");
-    let ns = best(&mut || { black_box(dfsc::calls::read(black_box(&text), &mut refs)); });
-    println!("reading a listing of 4600 entries, {} units: {}", text.len(), shown(ns));
+// The domain reply that takes longest.
+fn domain_replies() {
+    let r = data::slow_domains();
+    let mut doms = vec![0; 32 * dfsc::PLACE_UNITS];
+    let mut call = || assert_eq!(dfsc::calls::read_domains(black_box(&r), SIZE, black_box(&mut doms)), 0);
+    let ns = (0..20).map(|_| round(1, &mut call)).fold(f64::MAX, f64::min);
+    println!("reading a domain reply of 32 names of 255 units that differ at their ends, {} bytes: {}", r.len(), shown(ns));
 }
 
 fn main() {
@@ -402,7 +402,7 @@ fn main() {
     hold_look_ups(&mut goals, &builds);
     starts();
     replies(&mut goals);
-    longest();
+    domain_replies();
     for m in &goals.missed {
         println!("missed: {m}");
     }

@@ -65,8 +65,12 @@ fn plain(cache: &[u16]) -> Vec<u16> {
 }
 
 /// The least time of one call in microseconds, over many short rounds: other work on the machine falls into some of them only.
-fn time(mut call: impl FnMut(), calls: u32) -> f64 {
-    (0..400)
+fn time(call: impl FnMut(), calls: u32) -> f64 {
+    least(400, call, calls)
+}
+
+fn least(rounds: u32, mut call: impl FnMut(), calls: u32) -> f64 {
+    (0..rounds)
         .map(|_| {
             let t = Instant::now();
             for _ in 0..calls {
@@ -75,6 +79,12 @@ fn time(mut call: impl FnMut(), calls: u32) -> f64 {
             t.elapsed().as_nanos() as f64 / calls as f64 / 1e3
         })
         .fold(f64::MAX, f64::min)
+}
+
+/// A listing of so many entries, each with one target.
+fn many(entries: usize) -> Vec<u16> {
+    let entry = |i| format!("prefix=\\files\\link{i:04}\nkind=link\ninterlink=0\nfailback=0\nttl=300\ntaken=0\nhint=0\ntarget=\\nas1\\link{i:04}\n");
+    (0..entries).map(entry).collect::<String>().encode_utf16().collect()
 }
 
 /// What reading the listing of a cache leaves: no gaps, one set each.
@@ -171,6 +181,10 @@ fn main() {
     let l = time(|| { assert_eq!(read(black_box(&long), black_box(&mut back)), 0); }, 1);
     println!("reading 32 entries with four targets of 30 units: {r:.1} us");
     println!("reading 32 entries with eight targets of 256 units, all escaped: {l:.1} us");
+    // too many for a cache of 32 places: refused when all of it has been tested
+    let text = many(4600);
+    let m = least(5, || { assert_eq!(read(black_box(&text), black_box(&mut back)), 9); }, 1);
+    println!("refusing 4,600 entries with one target, {} units: {:.2} s", text.len(), m / 1e6);
     if u >= 100.0 || r >= 300.0 {
         println!("100 us or more to list, or 300 us or more to read");
         std::process::exit(1);

@@ -1,4 +1,4 @@
-//! Lent memory and the model's values: caches as crates/places/specs/Layout.antt lays them out, a walk as crates/packing and crates/walks do.
+//! Lent memory and the model's values: caches as crates/cache/specs/places/Layout.antt lays them out, a walk as crates/walk_form/src/packed.rt and crates/walk_form/src/held.rt do.
 use crate::rules::caches::{domains_in_order, referrals_in_order, Caches, Domain, Referral, Serves, Target};
 use crate::rules::names::{components, good_path, matches, Text};
 use crate::rules::walk::{good_settings, good_size, End, Kind, Party, Question, Rest, Walk};

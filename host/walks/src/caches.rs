@@ -1,4 +1,4 @@
-//! The caches of a scenario as lent memory: the layout of crates/places/specs/Layout.antt, written from the vectors' lines.
+//! The caches of a scenario as lent memory: the layout of crates/cache/specs/places/Layout.antt, written from the vectors' lines.
 use crate::lines::{field, units};
 use dfsc::PLACE_UNITS as PLACE;
 

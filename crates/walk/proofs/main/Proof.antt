@@ -1,4 +1,4 @@
-use Rattle.telling.proofs.TellingLaws.{taken-whole}
+use Rattle.script_output.proofs.outcome.TellingLaws.{taken-whole}
 use mathlib.Core.Path.{_≡_, _∙_, sym, ap}
 use mathlib.Core.Logic.{⊎-elim}
 use Prim.Native.Nat.{_≤_}

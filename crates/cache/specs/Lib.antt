@@ -1,0 +1,3 @@
+-- The two caches in lent memory: document 01, "The two caches".
+pub mod places
+pub mod order

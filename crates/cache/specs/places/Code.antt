@@ -1,0 +1,61 @@
+-- Shapes of the code, proved equal to the rules; nothing here is to be believed.
+use Prim.Native.Nat.{ℕ, _+_, _-_, _*_}
+use mathlib.Core.Bool.{Bool, _&&_}
+use mathlib.Core.List.{List, [], _∷_}
+use lib.ListN.{length, replicate}
+use lib.Dec.{eqb, leb}
+use Rattle.laws.specs.Lists.{every, pasted, part, roomed}
+use Rattle.laws.specs.Listed.{listed, sameList}
+use Rattle.cache.specs.places.Layout.{placeAt, listCount, textAt, unitAt, written, wideUnits}
+
+-- the memory with place i changed by f, and all else as it was
+unfoldable pub changed : ℕ → (List ℕ → List ℕ) → List ℕ → List ℕ
+changed i f raw = pasted raw (i * 2336) (f (placeAt i raw))
+
+-- read back from a place: the key and the texts of the list
+unfoldable pub placeTexts : List ℕ → List (List ℕ)
+placeTexts piece = listed (1 + listCount piece) (λ j. textAt j piece)
+
+-- the marks of the list
+unfoldable pub marksOf : List ℕ → List ℕ
+marksOf piece = listed (listCount piece) (λ j. unitAt (11 + j) piece)
+
+-- the settings, of which seven units are in use
+unfoldable pub settingsOf : List ℕ → List ℕ
+settingsOf piece = listed 7 (λ j. unitAt (19 + j) piece)
+
+-- the unused room of a used place is zero: the place is exactly what its texts, hint, marks and settings write
+unfoldable pub tidy : List ℕ → Bool
+tidy piece = sameList (written (placeTexts piece) (unitAt 10 piece) (marksOf piece) (settingsOf piece)) piece
+
+-- every unit is zero
+unfoldable pub zeros : List ℕ → Bool
+zeros s = every (λ u. eqb u 0) s
+
+-- nothing stands in room j past its text
+unfoldable pub tidyRoom : List ℕ → ℕ → Bool
+tidyRoom piece j = leb (unitAt j piece) 256 && zeros (part (32 + j * 256 + unitAt j piece) (256 - unitAt j piece) piece)
+
+-- the same of the nine rooms
+unfoldable pub tidyRooms : List ℕ → Bool
+tidyRooms piece = every (tidyRoom piece) (listed 9 (λ j. j))
+
+-- what the writers of a place make of it: one unit
+unfoldable pub putUnit : ℕ → ℕ → List ℕ → List ℕ
+putUnit j v piece = pasted piece j (v ∷ [])
+
+-- a number of 32 bits
+unfoldable pub putWide : ℕ → ℕ → List ℕ → List ℕ
+putWide j v piece = pasted piece j (wideUnits v)
+
+-- a text with its length; the rest of its room becomes zero
+unfoldable pub putText : ℕ → List ℕ → List ℕ → List ℕ
+putText j t piece = pasted (putUnit j (length t) piece) (32 + j * 256) (roomed 256 t)
+
+-- settings in units 19 and on
+unfoldable pub putSettings : List ℕ → List ℕ → List ℕ
+putSettings settings piece = pasted piece 19 settings
+
+-- all but the key becomes zero
+unfoldable pub keyOnly : List ℕ → List ℕ
+keyOnly piece = pasted (pasted piece 1 (replicate 31 0)) 288 (replicate 2048 0)

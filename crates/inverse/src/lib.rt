@@ -1,1 +1,0 @@
-// Reading a line and printing a value are inverse. It has no function.

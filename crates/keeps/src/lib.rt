@@ -1,1 +1,0 @@
-// Laws over whole calls: what they keep. It has no function.

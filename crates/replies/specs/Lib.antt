@@ -1,1 +1,0 @@
--- A reply by the kind of its question; its words are those of `hints`.

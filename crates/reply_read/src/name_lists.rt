@@ -1,0 +1,284 @@
+// DC and domain replies on lent bytes: document 01, "Layouts".
+ghost use mathlib.Core.Path.{_≡_};
+ghost use mathlib.Core.Bool.{true};
+ghost use mathlib.Core.List.{map};
+ghost use Prim.Native.Nat.{_+_, _*_, _≤_, _<_, min};
+ghost use lib.ListN.{length, take};
+ghost use Rattle.laws.specs.Lists.{every};
+ghost use Rattle.reply_bytes.specs.texts.Bytes.{terminated, textAt};
+ghost use Rattle.reply_bytes.specs.texts.Code.{spanned, Inside};
+ghost use Rattle.reply_read.specs.referral.Replies.{isRead, entries, says};
+ghost use Rattle.reply_read.specs.referral.Code.{isInside};
+ghost use Rattle.reply_read.specs.name_lists.NameLists.{bare, dcOf, domainOf, bytesPast, textsAt, dcNames, goodDcs, readDcs, domainAt, goodDomain, readDomains};
+ghost use Rattle.reply_read.specs.name_lists.Code.{denotedDcs, DcsInside, noDcs, answerOf};
+use crate::referral::Answer;
+use reply_bytes::texts::Read;
+use reply_bytes::texts::Span;
+
+const BACKSLASH: u16 = 92;
+
+// A DC reply: the first `count` places of `kept` are the DC names, as spans of the reply.
+pub struct DcsFound {
+    pub answer: Answer,
+    pub kept: [Span; 8],
+    pub count: usize,
+}
+
+// A name without a leading backslash.
+fn bare(r: &[u8], s: Span) -> Span
+    requires { ⌜ Inside (now r) s ⌝ }
+    ensures name { λ v. ⌜ spanned (now (r .entry)) v ≡ bare (spanned (now (r .entry)) s) ⌝ }
+    ensures inside { λ v. ⌜ Inside (now (r .entry)) v ⌝ }
+{
+    let n = s.units;
+    if n == 0 {
+        return s;
+    }
+    if reply_bytes::texts::unit_of(r, s, 0) != BACKSLASH {
+        return s;
+    }
+    reply_bytes::texts::part(s, 1, n)
+}
+
+// The DC name in a text; no units where it is not one.
+fn dc_span(r: &[u8], s: Span) -> Span
+    requires { ⌜ Inside (now r) s ⌝ }
+    ensures name { λ v. ⌜ spanned (now (r .entry)) v ≡ dcOf (terminated (spanned (now (r .entry)) s)) ⌝ }
+    ensures inside { λ v. ⌜ Inside (now (r .entry)) v ⌝ }
+{
+    let b = bare(r, s);
+    if reply_bytes::texts::good_name(r, b) {
+        return b;
+    }
+    Span { from: 0, units: 0 }
+}
+
+// The domain name in a text "\domain"; no units where it is not one.
+fn domain_span(r: &[u8], s: Span) -> Span
+    requires { ⌜ Inside (now r) s ⌝ }
+    ensures name { λ v. ⌜ spanned (now (r .entry)) v ≡ domainOf (terminated (spanned (now (r .entry)) s)) ⌝ }
+    ensures inside { λ v. ⌜ Inside (now (r .entry)) v ⌝ }
+{
+    let n = s.units;
+    if n == 0 {
+        return Span { from: 0, units: 0 };
+    }
+    if reply_bytes::texts::unit_of(r, s, 0) != BACKSLASH {
+        return Span { from: 0, units: 0 };
+    }
+    let b = reply_bytes::texts::part(s, 1, n);
+    if reply_bytes::texts::good_name(r, b) {
+        return b;
+    }
+    Span { from: 0, units: 0 }
+}
+
+// The domain name of the entry at e.
+pub fn domain_at(r: &[u8], e: usize) -> Span
+    requires { ⌜ (e + 13 < length (now r)) × (length (now r) < 4294967296) ⌝ }
+    ensures name { λ v. ⌜ spanned (now (r .entry)) v ≡ domainAt (now (r .entry)) e ⌝ }
+    ensures inside { λ v. ⌜ Inside (now (r .entry)) v ⌝ }
+{
+    let o = reply_bytes::reader::read_unit(r, e + 12) as usize;
+    let at = e + o;
+    let Read::Ended { units } = reply_bytes::reader::read_text(r, at) else {
+        return Span { from: 0, units: 0 };
+    };
+    domain_span(r, Span { from: at, units })
+}
+
+// A DC name, and where the text after it starts.
+struct Dc {
+    name: Span,
+    next: usize,
+}
+
+// The DC name at a byte; no units where there is none.
+fn dc_at(r: &[u8], at: usize) -> Dc
+    ensures name { λ v. ⌜ spanned (now (r .entry)) (v .name) ≡ dcOf (textAt (now (r .entry)) at) ⌝ }
+    ensures next { λ v. ⌜ v .next ≡ at + bytesPast (textAt (now (r .entry)) at) ⌝ }
+    ensures inside { λ v. ⌜ Inside (now (r .entry)) (v .name) ⌝ }
+{
+    let Read::Ended { units } = reply_bytes::reader::read_text(r, at) else {
+        return Dc {
+            name: Span { from: 0, units: 0 },
+            next: at,
+        };
+    };
+    let name = dc_span(r, Span { from: at, units });
+    Dc {
+        name,
+        next: at + 2 * (units + 1),
+    }
+}
+
+// Whether the n texts from a byte on are DC names.
+fn good_names(r: &[u8], n: usize, from: usize) -> bool
+    ensures { λ v. ⌜ v ≡ every isRead (map dcOf (textsAt n from (now (r .entry)))) ⌝ }
+{
+    let mut at = from;
+    let mut i = 0;
+    while i < n {
+        let d = dc_at(r, at);
+        let s = d.name;
+        if s.units == 0 {
+            return false;
+        }
+        at = d.next;
+        i += 1;
+    }
+    true
+}
+
+// The first 8 of the n DC names from a byte on.
+fn names(r: &[u8], n: usize, from: usize) -> [Span; 8]
+    ensures names { λ v. ⌜ map (spanned (now (r .entry))) (take (min n 8) v) ≡ take 8 (map dcOf (textsAt n from (now (r .entry)))) ⌝ }
+    ensures inside { λ v. ⌜ every (isInside (now (r .entry))) v ≡ true ⌝ }
+{
+    let m = crate::referral::kept_of(n);
+    let mut kept = [Span { from: 0, units: 0 }; 8];
+    let mut at = from;
+    let mut i = 0;
+    while i < m {
+        let d = dc_at(r, at);
+        let s = d.name;
+        kept[i] = s;
+        at = d.next;
+        i += 1;
+    }
+    kept
+}
+
+// The first entry of a DC reply: its version, its flag, and all its DC names.
+fn good_dcs(r: &[u8]) -> bool
+    requires { ⌜ 8 ≤ length (now r) ⌝ }
+    ensures { λ v. ⌜ v ≡ goodDcs (now (r .entry)) ⌝ }
+{
+    if !crate::referral::entry_fits(r, 8, 18) {
+        return false;
+    }
+    let s = reply_bytes::reader::read_start(r, 8);
+    if !crate::referral::is_readable(s.version) {
+        return false;
+    }
+    let marks = reply_bytes::reader::read_marks(r, 8);
+    if !crate::referral::has_flag(2, marks.flags as u32) {
+        return false;
+    }
+    let f = reply_bytes::reader::read_offsets(r, 8);
+    let n = f.second as usize;
+    if n == 0 {
+        return false;
+    }
+    let o = f.third as usize;
+    good_names(r, n, 8 + o)
+}
+
+// What a good DC reply says.
+fn dcs_in(r: &[u8]) -> DcsFound
+    requires { ⌜ 26 ≤ length (now r) ⌝ }
+    ensures found { λ v. ⌜ denotedDcs (now (r .entry)) v ≡ says (take 8 (dcNames (now (r .entry)))) ⌝ }
+    ensures within { λ v. ⌜ DcsInside (now (r .entry)) v ⌝ }
+{
+    let f = reply_bytes::reader::read_offsets(r, 8);
+    let n = f.second as usize;
+    let o = f.third as usize;
+    let kept = names(r, n, 8 + o);
+    DcsFound {
+        answer: Answer::Says,
+        kept,
+        count: crate::referral::kept_of(n),
+    }
+}
+
+// A DC reply that says nothing.
+fn no_dcs(answer: Answer) -> DcsFound
+    ensures { λ v. ⌜ v ≡ noDcs answer ⌝ }
+{
+    DcsFound {
+        answer,
+        kept: [Span { from: 0, units: 0 }; 8],
+        count: 0,
+    }
+}
+
+// A DC reply, with the size asked for.
+pub fn read_dcs(r: &[u8], size: u32) -> DcsFound
+    ensures found { λ v. ⌜ denotedDcs (now (r .entry)) v ≡ readDcs size (now (r .entry)) ⌝ }
+    ensures within { λ v. ⌜ DcsInside (now (r .entry)) v ⌝ }
+{
+    if r.len() < 8 {
+        return no_dcs(Answer::Malformed);
+    }
+    if (size as usize) < r.len() {
+        return no_dcs(Answer::Malformed);
+    }
+    let h = reply_bytes::reader::read_header(r);
+    if h.count == 0 {
+        return no_dcs(Answer::Nothing);
+    }
+    if !good_dcs(r) {
+        return no_dcs(Answer::Malformed);
+    }
+    dcs_in(r)
+}
+
+// The entry at e of a domain reply.
+fn good_domain(r: &[u8], e: usize) -> bool
+    requires { ⌜ (e ≤ length (now r)) × (length (now r) < 4294967296) ⌝ }
+    ensures { λ v. ⌜ v ≡ goodDomain (now (r .entry)) e ⌝ }
+{
+    if !crate::referral::entry_fits(r, e, 18) {
+        return false;
+    }
+    let s = reply_bytes::reader::read_start(r, e);
+    if s.version != 3 {
+        return false;
+    }
+    let m = reply_bytes::reader::read_marks(r, e);
+    if !crate::referral::has_flag(2, m.flags as u32) {
+        return false;
+    }
+    let d = domain_at(r, e);
+    d.units != 0
+}
+
+// All entries of a domain reply.
+fn good_domains(r: &[u8]) -> bool
+    requires { ⌜ (8 ≤ length (now r)) × (length (now r) < 4294967296) ⌝ }
+    ensures { λ v. ⌜ v ≡ every (goodDomain (now (r .entry))) (entries (now (r .entry))) ⌝ }
+{
+    let h = reply_bytes::reader::read_header(r);
+    let n = h.count as usize;
+    let mut e = 8;
+    let mut i = 0;
+    while i < n {
+        if !good_domain(r, e) {
+            return false;
+        }
+        e = crate::referral::next_entry(r, e);
+        i += 1;
+    }
+    true
+}
+
+// A domain reply, with the size asked for. Of one that says something the names are read one by one: `domain_at` of the entry at 8, then
+// of each that `reply_read::referral::next_entry` gives.
+pub fn read_domains(r: &[u8], size: u32) -> Answer
+    ensures { λ v. ⌜ v ≡ answerOf (readDomains size (now (r .entry))) ⌝ }
+{
+    if r.len() < 8 {
+        return Answer::Malformed;
+    }
+    if (size as usize) < r.len() {
+        return Answer::Malformed;
+    }
+    let h = reply_bytes::reader::read_header(r);
+    if h.count == 0 {
+        return Answer::Nothing;
+    }
+    if !good_domains(r) {
+        return Answer::Malformed;
+    }
+    Answer::Says
+}

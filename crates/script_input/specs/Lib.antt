@@ -1,0 +1,4 @@
+-- The input of the program `walk`: document 01, "Examples to hold it to".
+pub mod line_bytes
+pub mod lines
+pub mod pieces

@@ -1,0 +1,3 @@
+-- The program `walk` between its input and its output.
+pub mod call_due
+pub mod stream

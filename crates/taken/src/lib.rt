@@ -1,1 +1,0 @@
-// A call that is taken prints just one outcome. It has no function.

@@ -1,0 +1,2 @@
+-- Exports for the tests in host/.
+pub mod layouts

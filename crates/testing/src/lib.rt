@@ -1,0 +1,5 @@
+// Exports for the tests in host/.
+// - layouts: what the readers of replies find, as numbers
+// - bench: the order test and the look-up
+pub mod bench;
+pub mod layouts;

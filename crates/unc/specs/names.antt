@@ -1,0 +1,4 @@
+-- Document 01, "Paths".
+pub mod Names
+pub mod Paths
+pub mod Code

@@ -1,0 +1,86 @@
+// A start whose path has been tested for its form: the first rest of the walk.
+ghost use mathlib.Core.Path.{_≡_};
+ghost use mathlib.Core.Bool.{false};
+ghost use lib.ListN.{length, take};
+ghost use Rattle.unc.specs.names.Code.{formWithin};
+ghost use Rattle.unc.specs.names.Paths.{pathUnits};
+ghost use Rattle.walk_steps.specs.steps.Steps.{started, turned};
+ghost use Rattle.walk_steps.specs.steps.Held.{cachesOf, coreOf};
+ghost use Rattle.walk_steps.specs.cycle.Code.{joined, packed};
+ghost use Rattle.walk_calls.specs.call_end.Code.{left};
+ghost use Rattle.walk_calls.specs.start_steps.Code.{pathRooms, startAt, startRooms, Begun};
+use crate::call_end::Outcome;
+use crate::call_end::Verdict;
+use unc::names::Form;
+use walk_form::held::Walk;
+use walk_steps::steps::End;
+use walk_steps::steps::Rested;
+
+const ROOM: usize = 256;
+
+const TEXTS: usize = 768;
+
+// The normalised path into the path's room, and no path tried.
+pub fn put_path(path: &[u16], rooms: &mut [u16]) -> Form
+    requires { ⌜ length (now rooms) ≡ 512 ⌝ }
+    ensures form { λ r. ⌜ r ≡ formWithin pathUnits (now (path .entry)) ⌝ }
+    ensures rooms { λ r. ⌜ now (rooms .exit) ≡ pathRooms (now (path .entry)) (now (rooms .entry)) ⌝ }
+{
+    memory::clear_units(rooms, ROOM, ROOM);
+    unc::path_form::normalise(path, &mut rooms[..ROOM])
+}
+
+// Where the steps rest after a start with a path of n units and k components.
+fn first_rest(
+    refs: &[u16],
+    doms: &[u16],
+    rooms: &mut [u16],
+    n: usize,
+    k: usize,
+    limit: u16,
+    size: u32,
+    clock: u32,
+) -> Rested
+    requires { ⌜ Begun (now refs) (now rooms) n k ⌝ }
+    ensures { λ r. ⌜ joined r (now (rooms .exit)) ≡ packed (turned limit clock (started (cachesOf (now (refs .entry)) (now (doms .entry))) (coreOf (take n (now (rooms .entry))) size false) clock)) ⌝ }
+{
+    if k == 1 {
+        return walk_steps::steps::end_at(End::NotDfs, 0, n, limit, false);
+    }
+    walk_steps::cycle::from_lookup(refs, doms, rooms, n, limit, false, size, clock)
+}
+
+// A start with a path of n units and k components in its room, both caches being in order.
+pub fn start_at(
+    refs: &[u16],
+    doms: &[u16],
+    rooms: &mut [u16],
+    n: usize,
+    k: usize,
+    walk: Walk,
+    texts: &mut [u16],
+    boot: &[u16],
+    limit: u32,
+    size: u32,
+    clock: u32,
+    out: &mut [u8],
+) -> Outcome
+    requires { ⌜ Begun (now refs) (now rooms) n k ⌝ }
+    ensures walk { λ o. ⌜ left o (now (texts .exit)) (now (out .exit)) ≡ startAt (now (refs .entry)) (now (doms .entry)) (now (texts .entry)) walk (take n (now (rooms .entry))) (now (boot .entry)) limit size clock (now (out .entry)) ⌝ }
+    ensures rooms { λ o. ⌜ now (rooms .exit) ≡ startRooms (now (refs .entry)) (now (doms .entry)) (now (texts .entry)) (take n (now (rooms .entry))) (now (boot .entry)) limit size clock (now (rooms .entry)) ⌝ }
+{
+    if !walk_form::held::good_settings(limit, size, boot) {
+        return Outcome {
+            verdict: Verdict::BadSettings,
+            walk,
+        };
+    }
+    if texts.len() != TEXTS {
+        return Outcome {
+            verdict: Verdict::OutOfForm,
+            walk,
+        };
+    }
+    let r = first_rest(refs, doms, rooms, n, k, limit as u16, size, clock);
+    crate::call_end::close_start(limit, size, boot, r, rooms, walk, texts, out)
+}

@@ -1,0 +1,3 @@
+-- The walk as a host keeps it.
+pub mod held
+pub mod packed

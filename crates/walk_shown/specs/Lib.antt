@@ -1,0 +1,2 @@
+-- What a host is shown of a walk.
+pub mod question

@@ -1,0 +1,75 @@
+use native.Mathlib.Omega.{arith}
+use Rattle.laws.proofs.Pasting.{pasted-nil}
+use Rattle.walk_steps.proofs.walk_texts.TextLaws.{within-more, within-all}
+use Prim.Native.Nat.{_-_, _≤_}
+use mathlib.Core.Path.{_≡_, sym}
+use lib.ListN.{length, take}
+use Rattle.laws.specs.Lists.{pasted, part}
+use borrow.Author.Needs.{needs}
+use Rattle.walk_steps.proofs.walk_texts.copy_within.Statement.{statement}
+use Rattle.walk_steps.proofs.walk_texts.copy_within.Tie as tie
+
+abbrev Inv-loop : tie.InvT-loop
+Inv-loop dst₀ from at count i₀ dst i =
+    (i ≤ count) × ((length dst ≡ length dst₀) × (dst ≡ pasted dst₀ at (take i (part from count dst₀))))
+
+abbrev μ-loop : tie.MeasureT-loop
+μ-loop dst₀ from at count i₀ dst i = count - i
+
+loop-holds : tie.Need-loop-holds Inv-loop μ-loop
+loop-holds c = (search needs, (search needs, sym (pasted-nil _ _)))
+
+add-dst : tie.Need-add-dst Inv-loop μ-loop
+add-dst c = search needs
+
+mul-dst : tie.Need-mul-dst Inv-loop μ-loop
+mul-dst c = search needs
+
+slice-read-dst : tie.Need-slice-read-dst Inv-loop μ-loop
+slice-read-dst c = search needs
+
+add-dst-2 : tie.Need-add-dst-2 Inv-loop μ-loop
+add-dst-2 c = search needs
+
+mul-dst-2 : tie.Need-mul-dst-2 Inv-loop μ-loop
+mul-dst-2 c = search needs
+
+slice-write-dst : tie.Need-slice-write-dst Inv-loop μ-loop
+slice-write-dst c = search needs
+
+add-i : tie.Need-add-i Inv-loop μ-loop
+add-i c = search needs
+
+loop-less : tie.Need-loop-less Inv-loop μ-loop
+loop-less c = search needs
+
+loop-again : tie.Need-loop-again Inv-loop μ-loop
+loop-again c = (
+  search needs,
+  (search needs, within-more _ _ _ _ (c .before .before .loop .i) (c .before .before .loop .inv .1 .1) (c .before .before .before .pre .1 .1) (omega arith) (omega arith) (omega arith)),
+)
+
+same-length : tie.Need-same-length Inv-loop μ-loop
+same-length c = search needs
+
+returns : tie.Need-returns Inv-loop μ-loop
+returns c = within-all _ _ _ _ (c .before .loop .i) (c .before .loop .inv .1 .1) (omega arith) (omega arith)
+
+pub copy-within-spec : {M : Type 1} → statement M
+copy-within-spec =
+    tie.close
+    (tie.spec
+    Inv-loop
+    μ-loop
+    loop-holds
+    add-dst
+    mul-dst
+    slice-read-dst
+    add-dst-2
+    mul-dst-2
+    slice-write-dst
+    add-i
+    loop-less
+    loop-again
+    same-length
+    returns)

@@ -1,0 +1,67 @@
+-- Shapes of the code, proved equal to the rules; nothing here is to be believed.
+use Prim.Native.Nat.{ℕ, _-_}
+use mathlib.Core.Bool.{Bool, false, _&&_, not}
+use mathlib.Core.List.{List}
+use lib.ListN.{length}
+use lib.Dec.{eqb}
+use Rattle.laws.specs.Choice.{choose}
+use Rattle.unc.specs.names.Paths.{firstOf, isSysvol}
+use Rattle.cache.specs.order.Entries.{Referral}
+use Rattle.cache.specs.order.Memory.{referrals, decode}
+use Rattle.cache_lookup.specs.Lookup.{longestMatch, withKey, expired}
+use Rattle.cache_lookup.specs.Code.{entryAt}
+use Rattle.cache_lookup.specs.declared.Found.{Found}
+use Rattle.cache_lookup.specs.declared.Found.the-variants.{At, Nothing}
+use Rattle.walk_steps.specs.steps.Steps.{Resting}
+use Rattle.walk_steps.specs.declared.steps.Kind.{Kind}
+use Rattle.walk_steps.specs.declared.steps.End.{End}
+use Rattle.walk_steps.specs.declared.steps.End.the-variants.{LimitReached}
+use Rattle.walk_steps.specs.declared.steps.Asking.{Asking}
+use Rattle.walk_steps.specs.declared.steps.Next.the-variants.{Asks, Ends}
+use Rattle.walk_steps.specs.declared.steps.Rested.{Rested}
+use Rattle.walk_steps.specs.declared.steps.Matched.{Matched}
+use Rattle.walk_steps.specs.declared.steps.Matched.the-variants.{Fresh, Refresh, Stale, Missed}
+use Rattle.walk_steps.specs.steps.Held.{nextOf, triedOf}
+
+-- a rest as numbers, the texts by their lengths
+unfoldable pub restedOf : Resting → Rested
+restedOf x = record {
+  next = nextOf (x .rest);
+  path = length (x .core .path);
+  tried = length (triedOf (x .rest));
+  left = x .left;
+  hit = x .core .hit;
+}
+
+-- an end, and a question put if a move is left
+unfoldable pub endedAt : End → ℕ → ℕ → ℕ → Bool → Rested
+endedAt e status path left hit = record { next = Ends e status; path = path; tried = 0; left = left; hit = hit }
+
+unfoldable pub askedAt : Asking → ℕ → ℕ → Bool → Rested
+askedAt q path left hit =
+    choose (eqb left 0) (endedAt LimitReached 0 path left hit) (record { next = Asks q; path = path; tried = 0; left = left - 1; hit = hit })
+
+-- a request that names the domain of the path's first component
+unfoldable pub domainAsking : Kind → List ℕ → ℕ → ℕ → Asking
+domainAsking kind path party size =
+    record { kind = kind; entry = length (firstOf 1 path); party = party; began = party; size = size; covered = false }
+
+-- step 4 goes to step 11 at a link with Interlink, SYSVOL and NETLOGON apart
+unfoldable pub turning : List ℕ → Referral → Bool
+turning path e = not (e .root) && (not (isSysvol path) && e .interlink)
+
+-- step 9, and step 2 at an entry that was found, and step 2
+unfoldable pub step9At : List ℕ → Found → Matched
+step9At raw Nothing = Stale
+step9At raw (At i) = choose (entryAt referrals i raw .root) (Refresh i) Stale
+
+unfoldable pub step9In : List ℕ → List ℕ → Matched
+step9In path raw = step9At raw (withKey referrals (firstOf 2 path) (decode referrals raw))
+
+unfoldable pub step2At : ℕ → List ℕ → List ℕ → Found → Matched
+step2At clock path raw Nothing = Missed
+step2At clock path raw (At i) =
+    choose (expired clock (entryAt referrals i raw)) (choose (entryAt referrals i raw .root) Stale (step9In path raw)) (Fresh i)
+
+unfoldable pub step2In : ℕ → List ℕ → List ℕ → Matched
+step2In clock path raw = step2At clock path raw (longestMatch path (decode referrals raw))

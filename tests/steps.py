@@ -1,10 +1,10 @@
 """Computes the scenarios of vectors/scenarios.txt on the definitions of the steps (crates/walk_steps/specs/steps/Steps.antt).
 
-steps.py ROOT: writes into ROOT, a copy of the repository, two files of crates/walk_steps/proofs/steps: a run over the definitions, and for each scenario the
-statement that its calls give what the file says, caches after each call included. A check of `walk_steps` there then computes them all.
+steps.py ROOT: writes into ROOT, a copy of the repository, a crate `scenarios` without functions: a run over the definitions, and for each scenario the
+statement that its calls give what the file says, caches after each call included. A check of `scenarios` there then computes them all.
 Calls that are refused with 1 to 4 or 10 change nothing and are left out, as are listings.
 """
-import re, sys
+import os, re, sys
 root = sys.argv[1]
 src=open(root+'/vectors/scenarios.txt').read().split('\n')
 def units(s):
@@ -262,15 +262,16 @@ abbrev pub runs : State → List Event → List Out
 runs s [] = []
 runs s (e ∷ es) = emit (step s e .out) (runs (step s e .state) es)
 """
-d=root+'/crates/walk_steps/proofs/steps'
+d=root+'/crates/scenarios/proofs'
+os.makedirs(d)
+os.makedirs(root+'/crates/scenarios/src')
+open(root+'/crates/scenarios/src/lib.rt','w').write('// The scenarios.\n')
 open(d+'/Run.antt','w').write(hdr+uses+run)
 body=[];k=0
 for n,h,c in scen():
     t=build(n,h,c)
     if t: body.append(t.replace('UNFOLD',' '.join(names))); k+=1
-open(d+'/Scen.antt','w').write(hdr+uses+"use Rattle.walk_steps.proofs.steps.Run.{State, Event, launch, answers, tries, learns, puts, Out, asked, done, refused, learnt, nowhere, runs}\n\n"+"\n".join(body))
-lib=open(d+'.antt').read()
-for m in('Run','Scen'):
-    if 'mod '+m not in lib: lib+=f"pub mod {m}\n"
-open(d+'.antt','w').write(lib)
+open(d+'/Scen.antt','w').write(hdr+uses+"use Rattle.scenarios.proofs.Run.{State, Event, launch, answers, tries, learns, puts, Out, asked, done, refused, learnt, nowhere, runs}\n\n"+"\n".join(body))
+open(d+'/Lib.antt','w').write('-- The scenarios.\npub mod Run\npub mod Scen\n')
+open(root+'/crates.txt','a').write('scenarios: laws memory unc cache cache_lookup reply_bytes reply_read cache_store walk_steps\n')
 print(k)

@@ -14,7 +14,7 @@ for d in target/*; do
 done
 n=$(python3 tests/steps.py "$copy")
 [ "$n" -ge 250 ]
-if (cd "$copy" && rt check walk_steps) >"$copy/log" 2>&1; then
+if (cd "$copy" && rt check scenarios) >"$copy/log" 2>&1; then
     echo "steps: $n passed, 0 failed"
 else
     grep -m5 error "$copy/log" | cut -c1-300

@@ -1,5 +1,5 @@
 #!/usr/bin/env bash
-# The program `walk`, proved and linked, on vectors/walk and host/examples, and on lines at and over the bounds of their length.
+# The program `walk`, proved and linked, on vectors/walk, vectors/recorded and host/examples, and on lines at and over the bounds of their length.
 set -eu
 cd "$(dirname "$0")/.."
 folder=$(mktemp -d)
@@ -9,7 +9,7 @@ walk=target/bin/walk good=0 bad=0
 compare() { # NAME INPUT EXPECTED
     if "$walk" <"$2" 2>/dev/null | cmp -s - "$3"; then good=$((good + 1)); else bad=$((bad + 1)); echo "differs: $1"; fi
 }
-for i in vectors/walk/*.in host/examples/*.in; do compare "$i" "$i" "${i%.in}.out"; done
+for i in vectors/walk/*.in vectors/recorded/*.in host/examples/*.in; do compare "$i" "$i" "${i%.in}.out"; done
 
 # NAME EXPECTED, with the input in $folder/in: what is printed after the question
 settings='path=\\files\s1\nlimit=4\nsize=8192\nnow=100\nboot=dc1\n'

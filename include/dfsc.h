@@ -23,13 +23,17 @@
  *     if (r == 0 && dfsc_end(walk, LEN(walk), end, 3) == 3) ... end[0] is the end's number, end[1] its status, end[2] the moves made
  *
  * (A host whose caches others change between calls tests to_len: it is DFSC_REFUSED(27) where the entry in use is gone. Whatever it then
- * answers ends the walk with 27.) host/examples/resolve.c is a whole program.
+ * answers ends the walk with 27.) host/examples/resolve.c is a whole program. include/dfsc_host.h has these calls over structs, so that caches, units
+ * and bytes cannot be taken for each other. docs/HOST.md says which status to answer and what to do at each end.
  *
  * MEMORY. Everything lent belongs to the caller. The library allocates nothing, keeps no pointer after a call and has no state of its own, so
  * that calls on memory that they do not share may run at once. A pointer and the length after it are one slice; lengths count elements
  * (units of 16 bits, bytes, or numbers of 32 bits), not bytes. Pointers are valid and aligned for their type, also where the length is 0;
  * a slice that a call may write (no const) overlaps no other slice of that call. Every content and every length is safe to lend: what is not
  * as it should be is refused by a number. A call that is refused changes nothing that was lent. Elements past what a call writes stay.
+ *
+ * STACK. Each call takes under 16,384 bytes; a test measures it. Figures on x86-64: dfsc_answer_referral 14,400; dfsc_start 1,900, and with 64 moves
+ * round by interlinks in a warm cache 6,700; dfsc_answer_io and dfsc_read_domains 1,700; every other call under 1,000.
  *
  * TEXT is UTF-16 code units without a terminator. A path has one or two leading backslashes and at most 256 units once it is normalised to
  * one. Names are equal where they differ in the case of A to Z only.
@@ -70,6 +74,10 @@
 extern "C" {
 #endif
 
+/* The version of this header: 10000 * major + 100 * minor + patch, and as text. The library has no call that tells it. */
+#define DFSC_VERSION 100
+#define DFSC_VERSION_TEXT "0.1.0"
+
 #define DFSC_PLACE_UNITS 2336   /* units of one place of a cache */
 #define DFSC_MOST_PLACES 32     /* places of a cache */
 #define DFSC_WALK_UNITS 800     /* units of a walk */
@@ -99,6 +107,32 @@ enum {
 
 /* What dfsc_list gives back where it is refused: a listing may have more than 65,535 units. */
 #define DFSC_LIST_REFUSED(number) ((uint64_t)(number) << 32)
+
+/*
+ * Whether a result is a refusal, and its number (0 where it is none). Results are of three kinds, and the first argument says which:
+ *
+ *     DFSC_IS_REFUSED(TAKES, r)   0 or the number        dfsc_start, both answers, dfsc_domain_request, dfsc_read_domains, dfsc_read
+ *     DFSC_IS_REFUSED(SHOWS, r)   as DFSC_REFUSED        dfsc_question, dfsc_question_party, dfsc_question_name, dfsc_end, dfsc_end_path
+ *     DFSC_IS_REFUSED(LISTS, r)   as DFSC_LIST_REFUSED   dfsc_list
+ */
+#define DFSC_REFUSAL(kind, result) DFSC_REFUSAL_##kind(result)
+#define DFSC_IS_REFUSED(kind, result) (DFSC_REFUSAL(kind, result) != 0)
+#define DFSC_REFUSAL_TAKES(result) ((uint32_t)(result))
+#define DFSC_REFUSAL_SHOWS(result) ((uint32_t)(result) >> 16)
+#define DFSC_REFUSAL_LISTS(result) ((uint32_t)((uint64_t)(result) >> 32))
+
+/* Statuses (NTSTATUS). To an I/O try these six, and no other, lead to the next target. */
+#define DFSC_STATUS_IO_TIMEOUT UINT32_C(0xC00000B5)           /* timed out */
+#define DFSC_STATUS_BAD_NETWORK_PATH UINT32_C(0xC00000BE)     /* no such host, and any failure of the network that has no other name here */
+#define DFSC_STATUS_NETWORK_NAME_DELETED UINT32_C(0xC00000C9) /* reset or broken */
+#define DFSC_STATUS_BAD_NETWORK_NAME UINT32_C(0xC00000CC)     /* no such share */
+#define DFSC_STATUS_CONNECTION_REFUSED UINT32_C(0xC0000236)
+#define DFSC_STATUS_HOST_UNREACHABLE UINT32_C(0xC000023D)     /* no route to the host or to its network */
+/* Others that a walk tells apart. */
+#define DFSC_STATUS_SUCCESS UINT32_C(0)
+#define DFSC_STATUS_BUFFER_OVERFLOW UINT32_C(0x80000005)      /* a referral reply was cut: the same party is asked with the size doubled */
+#define DFSC_STATUS_PATH_NOT_COVERED UINT32_C(0xC0000257)     /* a link lies below the target of an I/O try */
+#define DFSC_STATUS_OBJECT_PATH_NOT_FOUND UINT32_C(0xC000003A) /* at ends 22 and 23: all DCs failed, or a reply without an entry */
 
 /* Kinds of question. */
 enum {

@@ -1,6 +1,6 @@
 #!/usr/bin/env bash
-# The library for hosts as its users see it: C programs over include/dfsc.h, the wrapper for Rust with its tests and the first of those programs
-# (host/dfsc), and random walks and listings given to the library and to the model (host/model), which leaves out no function of the header.
+# The library for hosts as its users see it: C programs over include/dfsc.h and dfsc_host.h, the wrapper for Rust with its tests and the first of those
+# programs (host/dfsc), and random walks and listings given to the library and to the model (host/model), which leaves out no function of the header.
 set -eu
 cd "$(dirname "$0")/.."
 folder=$(mktemp -d)
@@ -10,6 +10,20 @@ for e in resolve moved_link; do
     cc -O2 -Wall -Werror -Iinclude "host/examples/$e.c" target/staticlib/libdfsc.a -o "$folder/$e"
     "$folder/$e" >"$folder/$e.out"
     diff "host/examples/$e.out" "$folder/$e.out"
+done
+# dfsc_host.h as C and, where there is a compiler, as C++; what it is there to refuse is not compiled
+cc -std=c11 -pedantic -O2 -Wall -Wextra -Werror -Iinclude host/c/types.c target/staticlib/libdfsc.a -o "$folder/types"
+"$folder/types"
+if command -v c++ >/dev/null; then
+    c++ -x c++ -std=c++11 -pedantic -O2 -Wall -Wextra -Werror -Iinclude -c host/c/types.c -o "$folder/types.o"
+    c++ "$folder/types.o" target/staticlib/libdfsc.a -o "$folder/types"
+    "$folder/types"
+fi
+for wrong in EXCHANGED MIXED; do
+    if cc -std=c11 -Werror=incompatible-pointer-types -fsyntax-only -D"$wrong" -Iinclude host/c/types.c 2>/dev/null; then
+        echo "clients: host/c/types.c compiles with $wrong"
+        exit 1
+    fi
 done
 cargo test --quiet --offline --manifest-path host/dfsc/Cargo.toml >"$folder/log" 2>&1 || { cat "$folder/log"; exit 1; }
 grep -E '^test result: ok\. [1-9]' "$folder/log"

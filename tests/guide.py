@@ -34,6 +34,10 @@ for status, name, does in rows:
         check(f"{status} {name}: {said}", said[:2] == ["end=" + end, "status=" + status])
 next_target = re.search(r"^nextTargetStatuses = (.*)$", open("crates/walk_steps/specs/steps/Steps.antt", encoding="utf-8").read(), re.M)[1]
 check("the statuses for the next target", sorted(re.findall("0x([0-9A-F]{8})", next_target)) == sorted(s for s, _, d in rows if d == "next target"))
+# the names of include/dfsc.h have the numbers of the table
+header = dict(re.findall(r"^#define DFSC_STATUS_([A-Z_]+) UINT32_C\(0x([0-9A-F]{8})\)", open("include/dfsc.h").read(), re.M))
+check("the header's statuses", len(header) >= 9 and all(header.get(name, status) == status for status, name, _ in rows))
+check("the header has those for the next target", all(name in header for _, name, does in rows if does == "next target"))
 # an errno given as a status, and a warning
 for status in ("0000006F", "80000005"):
     check(f"{status} is a success", after(status)[0] == "end=20")

@@ -60,6 +60,10 @@ fn constants() {
     assert_eq!(defined("MOST_PLACES"), Some(dfsc::MOST_PLACES));
     assert_eq!(defined("WALK_UNITS"), Some(dfsc::WALK_UNITS));
     assert_eq!(defined("REQUEST_BYTES"), Some(dfsc::REQUEST_BYTES));
+
+    let part = |n: usize| env!("CARGO_PKG_VERSION").split('.').nth(n).unwrap().parse::<usize>().unwrap();
+    assert_eq!(defined("VERSION"), Some(10000 * part(0) + 100 * part(1) + part(2)));
+    assert!(header.contains(concat!("#define DFSC_VERSION_TEXT \"", env!("CARGO_PKG_VERSION"), "\" ")));
 }
 
 #[test]

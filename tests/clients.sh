@@ -25,6 +25,24 @@ for wrong in EXCHANGED MIXED; do
         exit 1
     fi
 done
+# the wrapper's layout and lints, where cargo has these tools
+if cargo fmt --version >/dev/null 2>&1; then
+    cargo fmt --check --manifest-path host/dfsc/Cargo.toml
+else
+    echo "clients: there is no cargo fmt on this machine: not tried"
+fi
+if cargo clippy --version >/dev/null 2>&1; then
+    cargo clippy --quiet --offline --all-targets --manifest-path host/dfsc/Cargo.toml -- -D warnings
+else
+    echo "clients: there is no cargo clippy on this machine: not tried"
+fi
+# where there is no library the build says how to make it
+if DFSC_LIB="$folder" CARGO_TARGET_DIR="$folder/cargo" cargo build --quiet --offline --manifest-path host/dfsc/Cargo.toml 2>"$folder/log" ||
+    ! grep -q 'rt staticlib dfsc' "$folder/log"; then
+    cat "$folder/log"
+    echo "clients: a build without libdfsc.a"
+    exit 1
+fi
 cargo test --quiet --offline --manifest-path host/dfsc/Cargo.toml >"$folder/log" 2>&1 || { cat "$folder/log"; exit 1; }
 grep -E '^test result: ok\. [1-9]' "$folder/log"
 cargo run --quiet --offline --manifest-path host/dfsc/Cargo.toml --example resolve >"$folder/resolve.out"

@@ -25,7 +25,7 @@ fn main() -> Result<(), Refusal> {
     for (clock, (status, reply)) in (100..).zip(ANSWERS) {
         match walk.rest(&refs, &doms)? {
             Rest::Asks(Question::Referral { kind, party, name, size, request }) => {
-                println!("ask={}\nto={party}\nname={name}", format!("{kind:?}").to_lowercase());
+                println!("ask={kind}\nto={party}\nname={name}");
                 println!("size={size} request={} bytes", request.len());
                 walk.answer_referral(&mut refs, &mut doms, status, &bytes(reply), clock)?;
             }
@@ -33,7 +33,7 @@ fn main() -> Result<(), Refusal> {
                 println!("ask=io\nto={party}\nname={name}");
                 walk.answer_io(&mut refs, &doms, status, clock)?;
             }
-            Rest::Ended(_) => break,
+            _ => break,
         }
     }
     let end = walk.end()?;

@@ -1,6 +1,8 @@
 //! The two caches: units that the host owns and lends to each call.
 use crate::calls;
+use crate::entries::{domain, referral, used, DomainEntry, ReferralEntry};
 use crate::refusal::{listed, taken, Refusal};
+use std::fmt;
 
 /// The units of one place of a cache.
 pub const PLACE_UNITS: usize = 2336;
@@ -10,15 +12,37 @@ pub const MOST_PLACES: usize = 32;
 const LISTED_UNITS: usize = 9 * (8 + 5 * 256) + 80;
 
 /// The referrals that are known: for each prefix its targets, how long they hold, and which of them was used last.
-#[derive(Clone, Debug, PartialEq, Eq)]
+#[derive(Clone, PartialEq, Eq)]
 pub struct ReferralCache(Vec<u16>);
 
 /// The domains that are known, and their DCs.
-#[derive(Clone, Debug, PartialEq, Eq)]
+#[derive(Clone, PartialEq, Eq)]
 pub struct DomainCache(Vec<u16>);
 
+// Places and what is held, in place of thousands of units.
+fn show(f: &mut fmt::Formatter, name: &str, units: &[u16], entries: impl Iterator<Item = impl fmt::Debug>) -> fmt::Result {
+    let entries: Vec<_> = entries.collect();
+    f.debug_struct(name).field("places", &(units.len() / PLACE_UNITS)).field("entries", &entries).finish()
+}
+
+impl fmt::Debug for ReferralCache {
+    fn fmt(&self, f: &mut fmt::Formatter) -> fmt::Result {
+        show(f, "ReferralCache", &self.0, self.entries())
+    }
+}
+
+impl fmt::Debug for DomainCache {
+    fn fmt(&self, f: &mut fmt::Formatter) -> fmt::Result {
+        show(f, "DomainCache", &self.0, self.entries())
+    }
+}
+
 fn empty(places: usize) -> Result<Vec<u16>, Refusal> {
-    if (1..=MOST_PLACES).contains(&places) { Ok(vec![0; places * PLACE_UNITS]) } else { Err(Refusal::NotInOrder) }
+    if (1..=MOST_PLACES).contains(&places) {
+        Ok(vec![0; places * PLACE_UNITS])
+    } else {
+        Err(Refusal::NotInOrder)
+    }
 }
 
 impl ReferralCache {
@@ -40,6 +64,23 @@ impl ReferralCache {
     /// Its units, to be changed.
     pub fn units_mut(&mut self) -> &mut [u16] {
         &mut self.0
+    }
+
+    /// The entries, in place order.
+    pub fn entries(&self) -> impl Iterator<Item = ReferralEntry> + '_ {
+        used(&self.0).map(referral)
+    }
+
+    /// Expires every entry: its TTL becomes 0, and the next walk that uses it asks for it anew.
+    pub fn expire(&mut self) {
+        for place in self.0.chunks_exact_mut(PLACE_UNITS) {
+            place[22..24].fill(0);
+        }
+    }
+
+    /// Empties the cache.
+    pub fn clear(&mut self) {
+        self.0.fill(0);
     }
 
     /// The cache as text, in units: include/dfsc.h has its form.
@@ -75,6 +116,25 @@ impl DomainCache {
     /// Its units, to be changed.
     pub fn units_mut(&mut self) -> &mut [u16] {
         &mut self.0
+    }
+
+    /// The entries, in place order.
+    pub fn entries(&self) -> impl Iterator<Item = DomainEntry> + '_ {
+        used(&self.0).map(domain)
+    }
+
+    /// The hint of a domain to its next DC: the number of its DCs, 0 where none is known.
+    pub fn next_dc(&mut self, name: &[u16]) -> usize {
+        let fold = |u: u16| if (0x41..=0x5A).contains(&u) { u + 32 } else { u };
+        let same = |d: &DomainEntry| d.name.iter().map(|u| fold(*u)).eq(name.iter().map(|u| fold(*u)));
+        let Some(d) = self.entries().find(|d| same(d) && !d.dcs.is_empty()) else { return 0 };
+        self.0[d.place * PLACE_UNITS + 10] = ((d.hint + 1) % d.dcs.len()) as u16;
+        d.dcs.len()
+    }
+
+    /// Empties the cache.
+    pub fn clear(&mut self) {
+        self.0.fill(0);
     }
 
     /// The request whose reply [`read`](DomainCache::read) takes.

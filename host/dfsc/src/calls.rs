@@ -6,15 +6,23 @@
 
 extern "C" {
     // calls that move a walk
-    fn dfsc_start(refs: *const u16, refs_len: usize, doms: *const u16, doms_len: usize, walk: *mut u16, walk_len: usize, path: *const u16, path_len: usize,
-        boot: *const u16, boot_len: usize, limit: u32, size: u32, clock: u32, out: *mut u8, out_len: usize) -> u32;
-    fn dfsc_answer_referral(refs: *mut u16, refs_len: usize, doms: *mut u16, doms_len: usize, walk: *mut u16, walk_len: usize, status: u32,
-        reply: *const u8, reply_len: usize, clock: u32, out: *mut u8, out_len: usize) -> u32;
-    fn dfsc_answer_io(refs: *mut u16, refs_len: usize, doms: *const u16, doms_len: usize, walk: *mut u16, walk_len: usize, status: u32, clock: u32,
-        out: *mut u8, out_len: usize) -> u32;
+    fn dfsc_start(
+        refs: *const u16, refs_len: usize, doms: *const u16, doms_len: usize, walk: *mut u16, walk_len: usize, path: *const u16, path_len: usize,
+        boot: *const u16, boot_len: usize, limit: u32, size: u32, clock: u32, out: *mut u8, out_len: usize,
+    ) -> u32;
+    fn dfsc_answer_referral(
+        refs: *mut u16, refs_len: usize, doms: *mut u16, doms_len: usize, walk: *mut u16, walk_len: usize, status: u32, reply: *const u8, reply_len: usize,
+        clock: u32, out: *mut u8, out_len: usize,
+    ) -> u32;
+    fn dfsc_answer_io(
+        refs: *mut u16, refs_len: usize, doms: *const u16, doms_len: usize, walk: *mut u16, walk_len: usize, status: u32, clock: u32, out: *mut u8,
+        out_len: usize,
+    ) -> u32;
 
     // calls that show something of it
-    fn dfsc_question_party(refs: *const u16, refs_len: usize, doms: *const u16, doms_len: usize, walk: *const u16, walk_len: usize, out: *mut u16, out_len: usize) -> u32;
+    fn dfsc_question_party(
+        refs: *const u16, refs_len: usize, doms: *const u16, doms_len: usize, walk: *const u16, walk_len: usize, out: *mut u16, out_len: usize,
+    ) -> u32;
     fn dfsc_question_name(walk: *const u16, walk_len: usize, out: *mut u16, out_len: usize) -> u32;
     fn dfsc_question(walk: *const u16, walk_len: usize, out: *mut u32, out_len: usize) -> u32;
     fn dfsc_end_path(walk: *const u16, walk_len: usize, out: *mut u16, out_len: usize) -> u32;
@@ -33,8 +41,23 @@ extern "C" {
 #[inline]
 pub fn start(refs: &[u16], doms: &[u16], walk: &mut [u16], path: &[u16], boot: &[u16], limit: u32, size: u32, clock: u32, out: &mut [u8]) -> u32 {
     unsafe {
-        dfsc_start(refs.as_ptr(), refs.len(), doms.as_ptr(), doms.len(), walk.as_mut_ptr(), walk.len(), path.as_ptr(), path.len(), boot.as_ptr(), boot.len(),
-            limit, size, clock, out.as_mut_ptr(), out.len())
+        dfsc_start(
+            refs.as_ptr(),
+            refs.len(),
+            doms.as_ptr(),
+            doms.len(),
+            walk.as_mut_ptr(),
+            walk.len(),
+            path.as_ptr(),
+            path.len(),
+            boot.as_ptr(),
+            boot.len(),
+            limit,
+            size,
+            clock,
+            out.as_mut_ptr(),
+            out.len(),
+        )
     }
 }
 
@@ -42,8 +65,20 @@ pub fn start(refs: &[u16], doms: &[u16], walk: &mut [u16], path: &[u16], boot: &
 #[inline]
 pub fn answer_referral(refs: &mut [u16], doms: &mut [u16], walk: &mut [u16], status: u32, reply: &[u8], clock: u32, out: &mut [u8]) -> u32 {
     unsafe {
-        dfsc_answer_referral(refs.as_mut_ptr(), refs.len(), doms.as_mut_ptr(), doms.len(), walk.as_mut_ptr(), walk.len(), status, reply.as_ptr(), reply.len(),
-            clock, out.as_mut_ptr(), out.len())
+        dfsc_answer_referral(
+            refs.as_mut_ptr(),
+            refs.len(),
+            doms.as_mut_ptr(),
+            doms.len(),
+            walk.as_mut_ptr(),
+            walk.len(),
+            status,
+            reply.as_ptr(),
+            reply.len(),
+            clock,
+            out.as_mut_ptr(),
+            out.len(),
+        )
     }
 }
 

@@ -5,39 +5,52 @@
 //! say is kept in two caches, [`ReferralCache`] and [`DomainCache`], which the host owns.
 //!
 //! ```
-//! use dfsc::{units, DomainCache, Outcome, Question, ReferralCache, Refusal, Rest, Settings, Walk};
+//! use dfsc::{units, Network, NtStatus, Outcome, Refusal, Resolver, Text};
 //!
-//! let mut refs = ReferralCache::new(8)?;
-//! let mut doms = DomainCache::new(8)?;
-//! let bootstrap = units("dc1");
-//! let mut walk = Walk::start(&refs, &doms, &units(r"\\files\s1"), Settings { bootstrap: &bootstrap, limit: 16, size: 8192 }, 100)?;
-//! let end = loop {
-//!     match walk.rest(&refs, &doms)? {
-//!         // a host would send `request` to `party`; this one has no network
-//!         Rest::Asks(Question::Referral { party, request, .. }) => {
-//!             assert!(party == "files" && request.len() == 22);
-//!             walk.answer_referral(&mut refs, &mut doms, 0xC000_0001, &[], 100)?
-//!         }
-//!         Rest::Asks(Question::Io { .. }) => walk.answer_io(&mut refs, &doms, 0xC000_0001, 100)?,
-//!         Rest::Ended(end) => break end,
+//! // a host has an SMB client here; this one reaches nobody
+//! struct Nobody;
+//! impl Network for Nobody {
+//!     fn referral(&mut self, server: &Text, request: &[u8], _size: u32) -> (NtStatus, Vec<u8>) {
+//!         assert!(*server == "files" && request.len() == 22);
+//!         (std::io::ErrorKind::ConnectionRefused.into(), vec![])
 //!     }
-//! };
+//!     fn io(&mut self, _path: &Text) -> NtStatus {
+//!         NtStatus::CONNECTION_REFUSED
+//!     }
+//!     fn clock(&mut self) -> u32 {
+//!         100
+//!     }
+//! }
+//!
+//! let end = Resolver::new("dc1").follow(&units(r"\\files\s1"), &mut Nobody, 8)?;
 //! assert!(end.outcome == Outcome::NotDfs && end.path == r"\files\s1" && end.moves == 1);
 //! # Ok::<(), Refusal>(())
 //! ```
 //!
-//! examples/resolve.rs goes through a root, a link and two targets with replies of a server.
+//! [`Resolver`] owns both caches. A host that shares them between threads, or has to go on while a server answers, keeps the caches itself and calls
+//! [`Walk`]: examples/resolve.rs goes so through a root, a link and two targets with replies of a server.
 #![deny(unsafe_code)]
 #![warn(missing_docs)]
 
 mod caches;
+#[cfg(not(feature = "raw"))]
+#[allow(unsafe_code)]
+mod calls;
+#[cfg(feature = "raw")]
+#[doc(hidden)]
 #[allow(unsafe_code)]
 pub mod calls;
+mod entries;
 mod refusal;
+mod resolver;
+mod status;
 mod text;
 mod walk;
 
 pub use caches::{DomainCache, ReferralCache, MOST_PLACES, PLACE_UNITS};
+pub use entries::{DomainEntry, ReferralEntry, Target};
 pub use refusal::Refusal;
+pub use resolver::{Network, Resolver};
+pub use status::NtStatus;
 pub use text::{units, Text, TEXT_UNITS};
 pub use walk::{End, Kind, Outcome, Question, Rest, Settings, Walk, REQUEST_BYTES, WALK_UNITS};

@@ -3,6 +3,7 @@ use std::fmt;
 
 /// A refusal. A call that is refused has changed nothing.
 #[derive(Clone, Copy, Debug, PartialEq, Eq)]
+#[non_exhaustive]
 pub enum Refusal {
     /// 1: the path is not a path.
     BadPath,
@@ -70,15 +71,27 @@ impl std::error::Error for Refusal {}
 
 /// What a call that moves something gives back: 0 where it was taken.
 pub(crate) fn taken(number: u32) -> Result<(), Refusal> {
-    if number == 0 { Ok(()) } else { Err(Refusal::of(number)) }
+    if number == 0 {
+        Ok(())
+    } else {
+        Err(Refusal::of(number))
+    }
 }
 
 /// What a call that shows something gives back: the elements written, or 65,536 times a refusal.
 pub(crate) fn shown(number: u32) -> Result<usize, Refusal> {
-    if number < 1 << 16 { Ok(number as usize) } else { Err(Refusal::of(number >> 16)) }
+    if number < 1 << 16 {
+        Ok(number as usize)
+    } else {
+        Err(Refusal::of(number >> 16))
+    }
 }
 
 /// What listing gives back: the units written, or 2^32 times a refusal.
 pub(crate) fn listed(number: u64) -> Result<usize, Refusal> {
-    if number < 1 << 32 { Ok(number as usize) } else { Err(Refusal::of((number >> 32) as u32)) }
+    if number < 1 << 32 {
+        Ok(number as usize)
+    } else {
+        Err(Refusal::of((number >> 32) as u32))
+    }
 }

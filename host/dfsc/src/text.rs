@@ -14,6 +14,24 @@ pub struct Text {
 }
 
 impl Text {
+    /// At most the first 256 of these units.
+    pub(crate) fn of(text: &[u16]) -> Text {
+        let length = text.len().min(TEXT_UNITS);
+        let mut units = [0; TEXT_UNITS];
+        units[..length].copy_from_slice(&text[..length]);
+        Text { units, length }
+    }
+
+    /// Its components, parted by backslashes: the server, the share, and so on.
+    pub fn components(&self) -> impl Iterator<Item = Text> + '_ {
+        self.split(|u| *u == u16::from(b'\\')).filter(|c| !c.is_empty()).map(Text::of)
+    }
+
+    /// A component, from 0; the empty text where there are fewer.
+    pub fn component(&self, number: usize) -> Text {
+        self.components().nth(number).unwrap_or(Text::of(&[]))
+    }
+
     pub(crate) fn shown(show: impl FnOnce(&mut [u16]) -> u32) -> Result<Text, Refusal> {
         let mut units = [0; TEXT_UNITS];
         let length = shown(show(&mut units))?;

@@ -2,6 +2,7 @@
 use crate::caches::{DomainCache, ReferralCache};
 use crate::calls;
 use crate::refusal::{shown, taken, Refusal};
+use crate::status::NtStatus;
 use crate::text::Text;
 use std::fmt;
 
@@ -24,6 +25,7 @@ pub struct Settings<'a> {
 
 /// The kind of a referral request.
 #[derive(Clone, Copy, Debug, PartialEq, Eq)]
+#[non_exhaustive]
 pub enum Kind {
     /// 1: the DCs of a domain, from the bootstrap DC.
     Dc,
@@ -41,8 +43,21 @@ impl Kind {
     }
 }
 
+/// As the program `walk` says it: dc, root, link, sysvol.
+impl fmt::Display for Kind {
+    fn fmt(&self, f: &mut fmt::Formatter) -> fmt::Result {
+        f.pad(match self {
+            Kind::Dc => "dc",
+            Kind::Root => "root",
+            Kind::Link => "link",
+            Kind::Sysvol => "sysvol",
+        })
+    }
+}
+
 /// What a walk waits for.
 #[derive(Clone, Debug, PartialEq, Eq)]
+#[non_exhaustive]
 pub enum Question<'a> {
     /// A referral request; answered by [`Walk::answer_referral`].
     Referral {
@@ -66,8 +81,18 @@ pub enum Question<'a> {
     },
 }
 
+impl fmt::Display for Question<'_> {
+    fn fmt(&self, f: &mut fmt::Formatter) -> fmt::Result {
+        match self {
+            Question::Referral { kind, party, name, size, .. } => write!(f, "{kind} referral of {name} from {party}, {size} bytes"),
+            Question::Io { name, .. } => write!(f, "I/O on {name}"),
+        }
+    }
+}
+
 /// How a walk ended.
 #[derive(Clone, Copy, Debug, PartialEq, Eq)]
+#[non_exhaustive]
 pub enum Outcome {
     /// 20: the I/O was done.
     Done,
@@ -101,26 +126,60 @@ impl Outcome {
     }
 }
 
+impl fmt::Display for Outcome {
+    fn fmt(&self, f: &mut fmt::Formatter) -> fmt::Result {
+        let text = match self {
+            Outcome::Done => "done",
+            Outcome::NotDfs => "not DFS",
+            Outcome::NoDc => "no DC",
+            Outcome::Failed => "failed in DFS",
+            Outcome::LimitReached => "limit reached",
+            Outcome::Malformed => "reply malformed",
+            Outcome::TooLong => "new path too long",
+            Outcome::Gone => "the entry in use is gone",
+        };
+        write!(f, "{text} ({})", self.number())
+    }
+}
+
 /// The end of a walk.
 #[derive(Clone, Debug, PartialEq, Eq)]
+#[non_exhaustive]
 pub struct End {
     /// How it ended.
     pub outcome: Outcome,
     /// The NTSTATUS: 0 but for [`Outcome::Done`], [`Outcome::NoDc`] and [`Outcome::Failed`].
-    pub status: u32,
+    pub status: NtStatus,
     /// The path that was tried for [`Outcome::Done`], else the one that was being resolved.
     pub path: Text,
     /// The moves made.
     pub moves: u32,
 }
 
-/// Where a walk is.
+impl fmt::Display for End {
+    fn fmt(&self, f: &mut fmt::Formatter) -> fmt::Result {
+        write!(f, "{}, status {}, {} after {} moves", self.outcome, self.status, self.path, self.moves)
+    }
+}
+
+/// Where a walk is. It is looked at and gone, so that its size does not matter.
+#[allow(clippy::large_enum_variant)]
 #[derive(Clone, Debug, PartialEq, Eq)]
+#[non_exhaustive]
 pub enum Rest<'a> {
     /// It waits for the answer to a question.
     Asks(Question<'a>),
     /// It has ended.
     Ended(End),
+}
+
+impl fmt::Display for Rest<'_> {
+    fn fmt(&self, f: &mut fmt::Formatter) -> fmt::Result {
+        match self {
+            Rest::Asks(question) => question.fmt(f),
+            Rest::Ended(end) => end.fmt(f),
+        }
+    }
 }
 
 /// A walk at rest. It is copied and saved as its units; two walks may share caches, called one at a time.
@@ -190,7 +249,7 @@ impl Walk {
     pub fn end(&self) -> Result<End, Refusal> {
         let [number, status, moves] = self.numbers(calls::end)?;
         let path = Text::shown(|out| calls::end_path(&self.units, out))?;
-        Ok(End { outcome: Outcome::of(number).ok_or(Refusal::Other(number))?, status, path, moves })
+        Ok(End { outcome: Outcome::of(number).ok_or(Refusal::Other(number))?, status: NtStatus(status), path, moves })
     }
 
     /// The moves made, with the one that waits.
@@ -200,12 +259,14 @@ impl Walk {
 
     /// The answer to a referral request: the NTSTATUS and the bytes of RESP_GET_DFS_REFERRAL, which are not read where the status is a failure. What the
     /// reply says is stored in the caches.
-    pub fn answer_referral(&mut self, refs: &mut ReferralCache, doms: &mut DomainCache, status: u32, reply: &[u8], clock: u32) -> Result<(), Refusal> {
-        taken(calls::answer_referral(refs.units_mut(), doms.units_mut(), &mut self.units, status, reply, clock, &mut self.request))
+    pub fn answer_referral(
+        &mut self, refs: &mut ReferralCache, doms: &mut DomainCache, status: impl Into<NtStatus>, reply: &[u8], clock: u32,
+    ) -> Result<(), Refusal> {
+        taken(calls::answer_referral(refs.units_mut(), doms.units_mut(), &mut self.units, status.into().0, reply, clock, &mut self.request))
     }
 
     /// The answer to an I/O try: its NTSTATUS.
-    pub fn answer_io(&mut self, refs: &mut ReferralCache, doms: &DomainCache, status: u32, clock: u32) -> Result<(), Refusal> {
-        taken(calls::answer_io(refs.units_mut(), doms.units(), &mut self.units, status, clock, &mut self.request))
+    pub fn answer_io(&mut self, refs: &mut ReferralCache, doms: &DomainCache, status: impl Into<NtStatus>, clock: u32) -> Result<(), Refusal> {
+        taken(calls::answer_io(refs.units_mut(), doms.units(), &mut self.units, status.into().0, clock, &mut self.request))
     }
 }

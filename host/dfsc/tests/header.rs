@@ -34,7 +34,7 @@ fn functions(text: &str, before: &str, after: &str, parameter: impl Fn(&str) -> 
         let Some((name, rest)) = piece.split_once('(') else { continue };
         let Some((parameters, rest)) = rest.split_once(')') else { continue };
         if rest.starts_with(after) {
-            all.insert(name.to_string(), parameters.split(',').map(|p| parameter(p.trim())).collect());
+            all.insert(name.to_string(), parameters.split(',').map(str::trim).filter(|p| !p.is_empty()).map(&parameter).collect());
         }
     }
     all
@@ -71,17 +71,48 @@ fn numbers() {
     let header = words(&read("../../include/dfsc.h"));
     let number = |name: &str| header.split(&format!("DFSC_{name} = ")).nth(1).and_then(|t| t.split([',', ' ']).next()?.parse::<u32>().ok()).expect(name);
     use dfsc::{Outcome, Refusal};
-    let refusals = [("BAD_PATH", Refusal::BadPath), ("LONG_PATH", Refusal::LongPath), ("BAD_SETTINGS", Refusal::BadSettings), ("NOT_IN_ORDER", Refusal::NotInOrder),
-        ("OUT_OF_FORM", Refusal::OutOfForm), ("TOO_MANY_NAMES", Refusal::TooManyNames), ("BAD_DOMAIN_REPLY", Refusal::BadDomainReply),
-        ("BAD_LISTING", Refusal::BadListing), ("TOO_MANY_ENTRIES", Refusal::TooManyEntries),
-        ("SHORT_BUFFER", Refusal::ShortBuffer), ("END_GONE", Refusal::Gone)];
+    let refusals = [
+        ("BAD_PATH", Refusal::BadPath),
+        ("LONG_PATH", Refusal::LongPath),
+        ("BAD_SETTINGS", Refusal::BadSettings),
+        ("NOT_IN_ORDER", Refusal::NotInOrder),
+        ("OUT_OF_FORM", Refusal::OutOfForm),
+        ("TOO_MANY_NAMES", Refusal::TooManyNames),
+        ("BAD_DOMAIN_REPLY", Refusal::BadDomainReply),
+        ("BAD_LISTING", Refusal::BadListing),
+        ("TOO_MANY_ENTRIES", Refusal::TooManyEntries),
+        ("SHORT_BUFFER", Refusal::ShortBuffer),
+        ("END_GONE", Refusal::Gone),
+    ];
     for (name, refusal) in refusals {
         assert_eq!((refusal.number(), Refusal::of(number(name))), (number(name), refusal));
     }
     assert_eq!((Refusal::of(99), Refusal::Other(99).number()), (Refusal::Other(99), 99));
-    let outcomes = [("END_DONE", Outcome::Done), ("END_NOT_DFS", Outcome::NotDfs), ("END_NO_DC", Outcome::NoDc), ("END_FAILED", Outcome::Failed),
-        ("END_LIMIT_REACHED", Outcome::LimitReached), ("END_MALFORMED", Outcome::Malformed), ("END_TOO_LONG", Outcome::TooLong), ("END_GONE", Outcome::Gone)];
+    let outcomes = [
+        ("END_DONE", Outcome::Done),
+        ("END_NOT_DFS", Outcome::NotDfs),
+        ("END_NO_DC", Outcome::NoDc),
+        ("END_FAILED", Outcome::Failed),
+        ("END_LIMIT_REACHED", Outcome::LimitReached),
+        ("END_MALFORMED", Outcome::Malformed),
+        ("END_TOO_LONG", Outcome::TooLong),
+        ("END_GONE", Outcome::Gone),
+    ];
     for (name, outcome) in outcomes {
         assert_eq!(outcome.number(), number(name));
     }
+}
+
+#[test]
+fn statuses() {
+    let header = words(&read("../../include/dfsc.h"));
+    let mut seen = 0;
+    for piece in header.split("#define DFSC_STATUS_").skip(1) {
+        let (name, rest) = piece.split_once(" UINT32_C(").expect("a name and a number");
+        let number = rest.split(')').next().unwrap();
+        let number = u32::from_str_radix(number.trim_start_matches("0x"), 16).unwrap();
+        assert_eq!(dfsc::NtStatus(number).to_string(), format!("{number:08X} {name}"));
+        seen += 1;
+    }
+    assert_eq!(seen, 10);
 }

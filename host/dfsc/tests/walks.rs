@@ -1,5 +1,5 @@
 //! Walks through the wrapper: what is asked, what the answers do, how it ends, and each refusal.
-use dfsc::{units, DomainCache, End, Kind, Outcome, Question, ReferralCache, Refusal, Rest, Settings, Walk};
+use dfsc::{units, DomainCache, End, Kind, NtStatus, Outcome, Question, ReferralCache, Refusal, Rest, Settings, Walk};
 
 const FAILS: u32 = 0xC000_0001;
 
@@ -48,8 +48,8 @@ fn a_root_and_its_target() {
     let Rest::Asks(Question::Io { party, name }) = walk.rest(&refs, &doms).unwrap() else { panic!() };
     assert!(party == r"\nas1\s1" && name == r"\nas1\s1\a");
     walk.answer_io(&mut refs, &doms, 0, 101).unwrap();
-    let Rest::Ended(End { outcome, status, path, moves }) = walk.rest(&refs, &doms).unwrap() else { panic!() };
-    assert!(outcome == Outcome::Done && status == 0 && path == r"\nas1\s1\a" && moves == 2);
+    let Rest::Ended(End { outcome, status, path, moves, .. }) = walk.rest(&refs, &doms).unwrap() else { panic!() };
+    assert!(outcome == Outcome::Done && status == NtStatus::SUCCESS && path == r"\nas1\s1\a" && moves == 2);
     assert_eq!(walk.question(&refs, &doms), Err(Refusal::OutOfForm));
 
     // the cache knows it now
@@ -87,7 +87,7 @@ fn sysvol() {
     assert_eq!(kind, Kind::Sysvol);
     walk.answer_referral(&mut refs, &mut doms, FAILS, &[], 100).unwrap();
     let end = walk.end().unwrap();
-    assert!(end.outcome == Outcome::NoDc && end.status == FAILS && end.path == r"\corp\SysVol\x");
+    assert!(end.outcome == Outcome::NoDc && end.status == NtStatus(FAILS) && end.path == r"\corp\SysVol\x");
 }
 
 #[test]

@@ -3,7 +3,5 @@
 # says of `walk` in a pipe.
 set -eu
 cd "$(dirname "$0")/.."
-log=$(mktemp)
-trap 'rm -f "$log"' EXIT
-rt check walk >"$log" 2>&1 || { cat "$log"; exit 1; }
+tests/program walk
 python3 -B tests/guide.py target/bin/walk

@@ -10,10 +10,13 @@
  *     dfsch_settings settings = {boot, 16, 8192};
  *     uint32_t refused = dfsch_start(&refs, &doms, &walk, path, settings, now());
  *     while (!refused && dfsch_waits(&walk) && !(refused = dfsch_ask(&refs, &doms, &walk, &q))) {
- *         if (q.kind == DFSC_ASK_IO)
+ *         if (q.kind == DFSC_ASK_IO) {
  *             refused = dfsch_answer_io(&refs, &doms, &walk, open_on(&q.name), now());
- *         else
- *             refused = dfsch_answer_referral(&refs, &doms, &walk, get_referral(&q.party, q.request, q.size, &reply), reply, now());
+ *         } else {
+ *             dfsch_bytes reply = {buffer, 0};
+ *             uint32_t status = get_referral(&q.party, q.request, q.size, buffer, &reply.bytes);
+ *             refused = dfsch_answer_referral(&refs, &doms, &walk, status, reply, now());
+ *         }
  *     }
  *     if (!refused && !(refused = dfsch_ended(&walk, &end))) ... end.number, end.status, end.moves, end.path
  *

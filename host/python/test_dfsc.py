@@ -299,6 +299,23 @@ class Memory(unittest.TestCase):
             dfsc.Walk(damaged, r.domains, TRAIN, "none", 1)
         self.assertEqual(e.exception.number, 4)
 
+    def test_places(self):
+        """Links that are used in turn, with one place fewer than there are: none is found in the cache. With places for all and the root each is."""
+        for places, found in ((3, 0), (5, 16)):
+            s, r = Servers(), dfsc.Resolver("none", places=places)
+            s.referrals["files", r"\files\rec"] = referral(r"\files\rec", [r"\files\rec"], root=True)
+            for i in range(4):
+                s.files[r"\files\rec\%d\a" % i] = dfsc.PATH_NOT_COVERED
+                s.files[r"\nas\%d\a" % i] = 0
+                s.referrals["files", r"\files\rec\%d\a" % i] = referral(r"\files\rec\%d" % i, [r"\nas\%d" % i])
+            hits = 0
+            for turn in range(20):
+                s.now += 1
+                s.asked.clear()
+                self.assertEqual(r.walk(r"\files\rec\%d\a" % (turn % 4), s).number, dfsc.DONE)
+                hits += len(s.asked) == 1
+            self.assertEqual(hits, found)
+
     def test_text(self):
         for name in ("séjour", "e\u0301t\u00e9", "\ubc14\ub2e4", "\U0001f4a7drop", "half\ud83d", "\udc00half"):
             w = dfsc.Walk(dfsc.ReferralCache(1), dfsc.DomainCache(1), "\\\\files\\" + name, "dc", 1)

@@ -12,7 +12,7 @@ ghost use Rattle.cache.specs.order.Memory.{domains, rightSize, decode, encode};
 ghost use Rattle.reply_read.specs.referral.Code.{asked};
 ghost use Rattle.reply_read.specs.referral.Request.{bufferWith};
 ghost use Rattle.reply_read.specs.referral.Replies.{entries, says};
-ghost use Rattle.reply_read.specs.name_lists.NameLists.{domainAt};
+ghost use Rattle.reply_read.specs.name_lists.Code.{domainName};
 ghost use Rattle.cache_store.specs.write_entry.Code.{addAll, addDc};
 ghost use Rattle.cache_store.specs.entry_after_reply.Stored.{dcsStored, domainPlaces};
 ghost use Rattle.cache_store.specs.domain_cache.Code.{goodNameSpan, DomainAt, StorableDcs, domainsRefusal, askedNumber};
@@ -23,6 +23,7 @@ use reply_bytes::texts::Span;
 use reply_read::name_lists::DcsFound;
 use reply_read::referral::Answer;
 use reply_read::referral::Asked;
+use reply_read::referral::TextRead;
 
 // The least and the most bytes of a reply that may be asked for.
 const LEAST_SIZE: u32 = 1024;
@@ -120,7 +121,10 @@ fn gather(reply: &[u8]) -> Names
         if names.count == NAMES {
             return names;
         }
-        let s = reply_read::name_lists::domain_at(reply, e);
+        // the reply is well formed: none of its entries is without a name
+        let TextRead::Good(s) = reply_read::name_lists::domain_at(reply, e) else {
+            return names;
+        };
         names = add_once(reply, names, s);
         e = reply_read::referral::next_entry(reply, e);
         i += 1;
@@ -146,8 +150,8 @@ fn put_domains(cache: &mut [u16], reply: &[u8], kept: [Span; 33], count: usize)
 // A well-formed domain reply into a cache, if it has places enough. Nothing is written before its different names are counted.
 fn replace(reply: &[u8], cache: &mut [u16]) -> DomainsRead
     requires { ⌜ WellFormed (now reply) × (rightSize (now cache) ≡ true) ⌝ }
-    ensures answer { λ v. ⌜ domainsRefusal v ≡ namesNumber (placeCount (now (cache .entry))) (says (map (domainAt (now (reply .entry))) (entries (now (reply .entry))))) ⌝ }
-    ensures cache { λ v. ⌜ now (cache .exit) ≡ cacheAfter (domainsRefusal v) (map (domainAt (now (reply .entry))) (entries (now (reply .entry)))) (now (cache .entry)) ⌝ }
+    ensures answer { λ v. ⌜ domainsRefusal v ≡ namesNumber (placeCount (now (cache .entry))) (says (map (domainName (now (reply .entry))) (entries (now (reply .entry))))) ⌝ }
+    ensures cache { λ v. ⌜ now (cache .exit) ≡ cacheAfter (domainsRefusal v) (map (domainName (now (reply .entry))) (entries (now (reply .entry)))) (now (cache .entry)) ⌝ }
 {
     let names = gather(reply);
     let kept = names.kept;

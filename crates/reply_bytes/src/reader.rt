@@ -37,7 +37,7 @@ pub fn word<'a>(r: Reader<'a>) -> u32
 
 // The text at the position.
 pub fn text<'a>(r: Reader<'a>) -> Read
-    ensures { λ v. ⌜ v ≡ textEnd 0 (textAt (now (r .entry .src)) (r .entry .at)) ⌝ }
+    ensures { λ v. ⌜ v ≡ textEnd (r .entry .at) 0 (textAt (now (r .entry .src)) (r .entry .at)) ⌝ }
 {
     crate::texts::read_text(r.src, r.at)
 }
@@ -142,7 +142,7 @@ pub fn read_unit(src: &[u8], at: usize) -> u16
 
 // The text that starts at a byte.
 pub fn read_text(src: &[u8], at: usize) -> Read
-    ensures { λ v. ⌜ v ≡ textEnd 0 (textAt (now (src .entry)) at) ⌝ }
+    ensures { λ v. ⌜ v ≡ textEnd at 0 (textAt (now (src .entry)) at) ⌝ }
 {
     let r = new(src, at);
     text(r)

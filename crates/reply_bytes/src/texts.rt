@@ -24,7 +24,7 @@ pub struct Span {
 // What reading a text answers.
 pub enum Read {
     // the units before its unit 0
-    Ended { units: usize },
+    Ended(Span),
     Unended,
 }
 
@@ -46,7 +46,7 @@ pub fn word_at(r: &[u8], at: usize) -> u32
 
 // The text that starts at a byte: it ends with a unit 0 inside the bytes, or there is none.
 pub fn read_text(r: &[u8], at: usize) -> Read
-    ensures { λ v. ⌜ v ≡ textEnd 0 (textAt (now (r .entry)) at) ⌝ }
+    ensures { λ v. ⌜ v ≡ textEnd at 0 (textAt (now (r .entry)) at) ⌝ }
 {
     let mut i = at;
     let mut n = 0;
@@ -55,7 +55,7 @@ pub fn read_text(r: &[u8], at: usize) -> Read
             return Read::Unended;
         }
         if unit_at(r, i) == 0 {
-            return Read::Ended { units: n };
+            return Read::Ended(Span { from: at, units: n });
         }
         n += 1;
         i += 2;

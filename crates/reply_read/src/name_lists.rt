@@ -7,11 +7,12 @@ ghost use lib.ListN.{length, take};
 ghost use Rattle.laws.specs.Lists.{every};
 ghost use Rattle.reply_bytes.specs.texts.Bytes.{terminated, textAt};
 ghost use Rattle.reply_bytes.specs.texts.Code.{spanned, Inside};
-ghost use Rattle.reply_read.specs.referral.Replies.{isRead, entries, says};
-ghost use Rattle.reply_read.specs.referral.Code.{isInside};
+ghost use Rattle.reply_read.specs.referral.Replies.{isRead, allRead, entries, readOr};
+ghost use Rattle.reply_read.specs.referral.Code.{isInside, textShown, textInside, unitsRead};
 ghost use Rattle.reply_read.specs.name_lists.NameLists.{bare, dcOf, domainOf, bytesPast, textsAt, dcNames, goodDcs, readDcs, domainAt, goodDomain, readDomains};
-ghost use Rattle.reply_read.specs.name_lists.Code.{denotedDcs, DcsInside, noDcs, answerOf};
+ghost use Rattle.reply_read.specs.name_lists.Code.{dcShown, dcPlaced, denotedDcs, DcsInside, noDcs, answerOf};
 use crate::referral::Answer;
+use crate::referral::TextRead;
 use reply_bytes::texts::Read;
 use reply_bytes::texts::Span;
 
@@ -40,75 +41,73 @@ fn bare(r: &[u8], s: Span) -> Span
     reply_bytes::texts::part(s, 1, n)
 }
 
-// The DC name in a text; no units where it is not one.
-fn dc_span(r: &[u8], s: Span) -> Span
+// The DC name in a text.
+fn dc_span(r: &[u8], s: Span) -> TextRead
     requires { ⌜ Inside (now r) s ⌝ }
-    ensures name { λ v. ⌜ spanned (now (r .entry)) v ≡ dcOf (terminated (spanned (now (r .entry)) s)) ⌝ }
-    ensures inside { λ v. ⌜ Inside (now (r .entry)) v ⌝ }
+    ensures name { λ v. ⌜ textShown (now (r .entry)) v ≡ dcOf (terminated (spanned (now (r .entry)) s)) ⌝ }
+    ensures inside { λ v. ⌜ textInside (now (r .entry)) v ≡ true ⌝ }
 {
     let b = bare(r, s);
     if reply_bytes::texts::good_name(r, b) {
-        return b;
+        return TextRead::Good(b);
     }
-    Span { from: 0, units: 0 }
+    TextRead::Bad
 }
 
-// The domain name in a text "\domain"; no units where it is not one.
-fn domain_span(r: &[u8], s: Span) -> Span
+// The domain name in a text "\domain".
+fn domain_span(r: &[u8], s: Span) -> TextRead
     requires { ⌜ Inside (now r) s ⌝ }
-    ensures name { λ v. ⌜ spanned (now (r .entry)) v ≡ domainOf (terminated (spanned (now (r .entry)) s)) ⌝ }
-    ensures inside { λ v. ⌜ Inside (now (r .entry)) v ⌝ }
+    ensures name { λ v. ⌜ textShown (now (r .entry)) v ≡ domainOf (terminated (spanned (now (r .entry)) s)) ⌝ }
+    ensures inside { λ v. ⌜ textInside (now (r .entry)) v ≡ true ⌝ }
 {
     let n = s.units;
     if n == 0 {
-        return Span { from: 0, units: 0 };
+        return TextRead::Bad;
     }
     if reply_bytes::texts::unit_of(r, s, 0) != BACKSLASH {
-        return Span { from: 0, units: 0 };
+        return TextRead::Bad;
     }
     let b = reply_bytes::texts::part(s, 1, n);
     if reply_bytes::texts::good_name(r, b) {
-        return b;
+        return TextRead::Good(b);
     }
-    Span { from: 0, units: 0 }
+    TextRead::Bad
 }
 
 // The domain name of the entry at e.
-pub fn domain_at(r: &[u8], e: usize) -> Span
+pub fn domain_at(r: &[u8], e: usize) -> TextRead
     requires { ⌜ (e + 13 < length (now r)) × (length (now r) < 4294967296) ⌝ }
-    ensures name { λ v. ⌜ spanned (now (r .entry)) v ≡ domainAt (now (r .entry)) e ⌝ }
-    ensures inside { λ v. ⌜ Inside (now (r .entry)) v ⌝ }
+    ensures name { λ v. ⌜ textShown (now (r .entry)) v ≡ domainAt (now (r .entry)) e ⌝ }
+    ensures inside { λ v. ⌜ textInside (now (r .entry)) v ≡ true ⌝ }
 {
     let o = reply_bytes::reader::read_unit(r, e + 12) as usize;
-    let at = e + o;
-    let Read::Ended { units } = reply_bytes::reader::read_text(r, at) else {
-        return Span { from: 0, units: 0 };
+    let Read::Ended(s) = reply_bytes::reader::read_text(r, e + o) else {
+        return TextRead::Bad;
     };
-    domain_span(r, Span { from: at, units })
+    domain_span(r, s)
 }
 
-// A DC name, and where the text after it starts.
-struct Dc {
-    name: Span,
-    next: usize,
+// What reading a DC name answers.
+enum DcRead {
+    // where its units stand, and where the text after it starts
+    Name { name: Span, next: usize },
+    NoName,
 }
 
-// The DC name at a byte; no units where there is none.
-fn dc_at(r: &[u8], at: usize) -> Dc
-    ensures name { λ v. ⌜ spanned (now (r .entry)) (v .name) ≡ dcOf (textAt (now (r .entry)) at) ⌝ }
-    ensures next { λ v. ⌜ v .next ≡ at + bytesPast (textAt (now (r .entry)) at) ⌝ }
-    ensures inside { λ v. ⌜ Inside (now (r .entry)) (v .name) ⌝ }
+// The DC name at a byte.
+fn dc_at(r: &[u8], at: usize) -> DcRead
+    ensures name { λ v. ⌜ dcShown (now (r .entry)) v ≡ dcOf (textAt (now (r .entry)) at) ⌝ }
+    ensures placed { λ v. ⌜ dcPlaced (now (r .entry)) (at + bytesPast (textAt (now (r .entry)) at)) v ≡ true ⌝ }
 {
-    let Read::Ended { units } = reply_bytes::reader::read_text(r, at) else {
-        return Dc {
-            name: Span { from: 0, units: 0 },
-            next: at,
-        };
+    let Read::Ended(s) = reply_bytes::reader::read_text(r, at) else {
+        return DcRead::NoName;
     };
-    let name = dc_span(r, Span { from: at, units });
-    Dc {
+    let TextRead::Good(name) = dc_span(r, s) else {
+        return DcRead::NoName;
+    };
+    DcRead::Name {
         name,
-        next: at + 2 * (units + 1),
+        next: at + 2 * (s.units + 1),
     }
 }
 
@@ -119,20 +118,19 @@ fn good_names(r: &[u8], n: usize, from: usize) -> bool
     let mut at = from;
     let mut i = 0;
     while i < n {
-        let d = dc_at(r, at);
-        let s = d.name;
-        if s.units == 0 {
+        let DcRead::Name { name: _, next } = dc_at(r, at) else {
             return false;
-        }
-        at = d.next;
+        };
+        at = next;
         i += 1;
     }
     true
 }
 
-// The first 8 of the n DC names from a byte on.
+// The first 8 of the n DC names from a byte on, all of them good.
 fn names(r: &[u8], n: usize, from: usize) -> [Span; 8]
-    ensures names { λ v. ⌜ map (spanned (now (r .entry))) (take (min n 8) v) ≡ take 8 (map dcOf (textsAt n from (now (r .entry)))) ⌝ }
+    requires { ⌜ every isRead (map dcOf (textsAt n from (now r))) ≡ true ⌝ }
+    ensures names { λ v. ⌜ map (spanned (now (r .entry))) (take (min n 8) v) ≡ map unitsRead (take 8 (map dcOf (textsAt n from (now (r .entry))))) ⌝ }
     ensures inside { λ v. ⌜ every (isInside (now (r .entry))) v ≡ true ⌝ }
 {
     let m = crate::referral::kept_of(n);
@@ -140,10 +138,12 @@ fn names(r: &[u8], n: usize, from: usize) -> [Span; 8]
     let mut at = from;
     let mut i = 0;
     while i < m {
-        let d = dc_at(r, at);
-        let s = d.name;
-        kept[i] = s;
-        at = d.next;
+        // none of the names is bad
+        let DcRead::Name { name, next } = dc_at(r, at) else {
+            return kept;
+        };
+        kept[i] = name;
+        at = next;
         i += 1;
     }
     kept
@@ -176,8 +176,8 @@ fn good_dcs(r: &[u8]) -> bool
 
 // What a good DC reply says.
 fn dcs_in(r: &[u8]) -> DcsFound
-    requires { ⌜ 26 ≤ length (now r) ⌝ }
-    ensures found { λ v. ⌜ denotedDcs (now (r .entry)) v ≡ says (take 8 (dcNames (now (r .entry)))) ⌝ }
+    requires { ⌜ goodDcs (now r) ≡ true ⌝ }
+    ensures found { λ v. ⌜ denotedDcs (now (r .entry)) v ≡ readOr (allRead (take 8 (dcNames (now (r .entry))))) ⌝ }
     ensures within { λ v. ⌜ DcsInside (now (r .entry)) v ⌝ }
 {
     let f = reply_bytes::reader::read_offsets(r, 8);
@@ -239,8 +239,10 @@ fn good_domain(r: &[u8], e: usize) -> bool
     if !crate::referral::has_flag(2, m.flags as u32) {
         return false;
     }
-    let d = domain_at(r, e);
-    d.units != 0
+    let TextRead::Good(_) = domain_at(r, e) else {
+        return false;
+    };
+    true
 }
 
 // All entries of a domain reply.

@@ -10,9 +10,8 @@ ghost use Rattle.reply_bytes.specs.texts.Bytes.{flag, terminated, textAt};
 ghost use Rattle.reply_bytes.specs.texts.Code.{spanned, Inside};
 ghost use Rattle.reply_read.specs.referral.Replies.{pathOf};
 ghost use Rattle.reply_read.specs.referral.Replies.{referralCount, versionAt, sizeAt, serverTypeAt, entries, fits, readable};
-ghost use Rattle.reply_read.specs.referral.Replies.{goodFields, goodEntry, keptTargets, prefixAt, targetAt, referralIn, readReferral};
-ghost use Rattle.reply_read.specs.referral.Replies.{says};
-ghost use Rattle.reply_read.specs.referral.Code.{FirstEntry, GoodReply, ReferralInside, noReferral, opensAt, keptInside, targetShown, denoted, asked};
+ghost use Rattle.reply_read.specs.referral.Replies.{goodFields, goodEntry, prefixAt, targetAt, referralIn, readOr, readReferral};
+ghost use Rattle.reply_read.specs.referral.Code.{textShown, textInside, FirstEntry, GoodReply, ReferralInside, noReferral, opensAt, keptFrom, keptInside, targetShown, denoted, asked};
 use reply_bytes::texts::Read;
 use reply_bytes::texts::Span;
 
@@ -24,6 +23,14 @@ pub enum Answer {
     Malformed,
     Nothing,
     Says,
+}
+
+// What reading a path or a name answers.
+pub enum TextRead {
+    // where its units stand
+    Good(Span),
+    // bad, too long or without an end
+    Bad,
 }
 
 // A kept target, and whether a target set opens before it.
@@ -61,53 +68,53 @@ pub fn has_flag(m: u32, f: u32) -> bool
     f / m % 2 == 1
 }
 
-// The path in a text, normalised; no units where it is bad, too long or has less than 2 components.
-fn path_span(r: &[u8], s: Span) -> Span
+// The path in a text, normalised; bad too where it has less than 2 components.
+fn path_span(r: &[u8], s: Span) -> TextRead
     requires { ⌜ Inside (now r) s ⌝ }
-    ensures path { λ v. ⌜ spanned (now (r .entry)) v ≡ pathOf (terminated (spanned (now (r .entry)) s)) ⌝ }
-    ensures inside { λ v. ⌜ Inside (now (r .entry)) v ⌝ }
+    ensures path { λ v. ⌜ textShown (now (r .entry)) v ≡ pathOf (terminated (spanned (now (r .entry)) s)) ⌝ }
+    ensures inside { λ v. ⌜ textInside (now (r .entry)) v ≡ true ⌝ }
 {
     let from = reply_bytes::texts::lead(r, s);
     if from == 0 {
-        return Span { from: 0, units: 0 };
+        return TextRead::Bad;
     }
     let to = reply_bytes::texts::trail(r, s, from);
     let n = reply_bytes::texts::good_count(r, reply_bytes::texts::part(s, from, to));
     if n < 2 {
-        return Span { from: 0, units: 0 };
+        return TextRead::Bad;
     }
     if PATH_UNITS < to - from + 1 {
-        return Span { from: 0, units: 0 };
+        return TextRead::Bad;
     }
-    reply_bytes::texts::part(s, from - 1, to)
+    TextRead::Good(reply_bytes::texts::part(s, from - 1, to))
 }
 
-// The path at a byte; no units where there is none.
-fn path_at(r: &[u8], at: usize) -> Span
-    ensures path { λ v. ⌜ spanned (now (r .entry)) v ≡ pathOf (textAt (now (r .entry)) at) ⌝ }
-    ensures inside { λ v. ⌜ Inside (now (r .entry)) v ⌝ }
+// The path at a byte.
+fn path_at(r: &[u8], at: usize) -> TextRead
+    ensures path { λ v. ⌜ textShown (now (r .entry)) v ≡ pathOf (textAt (now (r .entry)) at) ⌝ }
+    ensures inside { λ v. ⌜ textInside (now (r .entry)) v ≡ true ⌝ }
 {
-    let Read::Ended { units } = reply_bytes::reader::read_text(r, at) else {
-        return Span { from: 0, units: 0 };
+    let Read::Ended(s) = reply_bytes::reader::read_text(r, at) else {
+        return TextRead::Bad;
     };
-    path_span(r, Span { from: at, units })
+    path_span(r, s)
 }
 
 // The DFSPath of the entry at e.
-fn prefix_of(r: &[u8], e: usize) -> Span
+fn prefix_of(r: &[u8], e: usize) -> TextRead
     requires { ⌜ (e + 17 < length (now r)) × (length (now r) < 4294967296) ⌝ }
-    ensures path { λ v. ⌜ spanned (now (r .entry)) v ≡ prefixAt (now (r .entry)) e ⌝ }
-    ensures inside { λ v. ⌜ Inside (now (r .entry)) v ⌝ }
+    ensures path { λ v. ⌜ textShown (now (r .entry)) v ≡ prefixAt (now (r .entry)) e ⌝ }
+    ensures inside { λ v. ⌜ textInside (now (r .entry)) v ≡ true ⌝ }
 {
     let o = reply_bytes::reader::read_offsets(r, e);
     path_at(r, e + o.first as usize)
 }
 
 // The target of the entry at e.
-fn target_of(r: &[u8], e: usize) -> Span
+fn target_of(r: &[u8], e: usize) -> TextRead
     requires { ⌜ (e + 17 < length (now r)) × (length (now r) < 4294967296) ⌝ }
-    ensures path { λ v. ⌜ spanned (now (r .entry)) v ≡ targetAt (now (r .entry)) e ⌝ }
-    ensures inside { λ v. ⌜ Inside (now (r .entry)) v ⌝ }
+    ensures path { λ v. ⌜ textShown (now (r .entry)) v ≡ targetAt (now (r .entry)) e ⌝ }
+    ensures inside { λ v. ⌜ textInside (now (r .entry)) v ≡ true ⌝ }
 {
     let o = reply_bytes::reader::read_offsets(r, e);
     path_at(r, e + o.third as usize)
@@ -184,15 +191,16 @@ fn good_entry(r: &[u8], e: usize, version: u16, kind: u16, first: Span) -> bool
     if !good_fields(r, e, version, kind) {
         return false;
     }
-    let p = prefix_of(r, e);
-    if p.units == 0 {
+    let TextRead::Good(p) = prefix_of(r, e) else {
         return false;
-    }
+    };
     if !reply_bytes::texts::same_spans(r, p, first) {
         return false;
     }
-    let t = target_of(r, e);
-    t.units != 0
+    let TextRead::Good(_) = target_of(r, e) else {
+        return false;
+    };
+    true
 }
 
 // All entries of a reply that has some.
@@ -209,7 +217,9 @@ fn good_entries(r: &[u8]) -> bool
     let version = s.version;
     let m = reply_bytes::reader::read_marks(r, 8);
     let kind = m.kind;
-    let first = prefix_of(r, 8);
+    let TextRead::Good(first) = prefix_of(r, 8) else {
+        return false;
+    };
     let mut e = 8;
     let mut i = 0;
     while i < n {
@@ -248,7 +258,7 @@ pub fn kept_of(n: usize) -> usize
 // The first 8 targets of a reply whose entries are good.
 fn targets(r: &[u8]) -> [Kept; 8]
     requires { ⌜ (8 ≤ length (now r)) × ((length (now r) < 4294967296) × (every (goodEntry (now r)) (entries (now r)) ≡ true)) ⌝ }
-    ensures targets { λ v. ⌜ map (targetShown (now (r .entry))) (take (min (referralCount (now (r .entry))) 8) v) ≡ keptTargets (now (r .entry)) (take 8 (entries (now (r .entry)))) ⌝ }
+    ensures targets { λ v. ⌜ map (targetShown (now (r .entry))) (take (min (referralCount (now (r .entry))) 8) v) ≡ keptFrom 0 (now (r .entry)) (take 8 (entries (now (r .entry)))) ⌝ }
     ensures inside { λ v. ⌜ every (keptInside (now (r .entry))) v ≡ true ⌝ }
 {
     let h = reply_bytes::reader::read_header(r);
@@ -261,7 +271,10 @@ fn targets(r: &[u8]) -> [Kept; 8]
     let mut e = 8;
     let mut i = 0;
     while i < m {
-        let path = target_of(r, e);
+        // the entries are good: none is without a target
+        let TextRead::Good(path) = target_of(r, e) else {
+            return kept;
+        };
         let opens = opens_at(r, e, i);
         kept[i] = Kept { path, opens };
         e = next_entry(r, e);
@@ -283,7 +296,7 @@ fn failback_in(version: u16, flags: u32) -> bool
 // What a reply says whose entries are good.
 fn referral_in(r: &[u8], prefix: Span) -> ReferralFound
     requires { ⌜ GoodReply (now r) prefix ⌝ }
-    ensures found { λ v. ⌜ denoted (now (r .entry)) v ≡ says (referralIn (now (r .entry))) ⌝ }
+    ensures found { λ v. ⌜ denoted (now (r .entry)) v ≡ readOr (referralIn (now (r .entry))) ⌝ }
     ensures within { λ v. ⌜ ReferralInside (now (r .entry)) v ⌝ }
 {
     let h = reply_bytes::reader::read_header(r);
@@ -349,7 +362,9 @@ pub fn read_referral(r: &[u8], size: u32, asked: &[u16]) -> ReferralFound
     if !good_entries(r) {
         return no_referral(Answer::Malformed);
     }
-    let prefix = prefix_of(r, 8);
+    let TextRead::Good(prefix) = prefix_of(r, 8) else {
+        return no_referral(Answer::Malformed);
+    };
     if !reply_bytes::texts::span_matches(r, prefix, asked) {
         return no_referral(Answer::Malformed);
     }

@@ -10,6 +10,7 @@ ghost use Rattle.reply_read.specs.declared.referral.Answer.the-variants.{Says};
 use reply_read::referral::Answer;
 use reply_read::referral::Kept;
 use reply_read::referral::ReferralFound;
+use reply_read::referral::TextRead;
 
 fn bit(b: bool) -> u64
     ensures { λ v. ⌜ v ≡ bitOf b ⌝ }
@@ -171,7 +172,10 @@ fn domain_number(r: &[u8], i: usize, k: usize) -> u64
     ensures { λ v. ⌜ DomainNumber (now (r .entry)) i k v ⌝ }
 {
     let e = entry_at(r, i);
-    let s = reply_read::name_lists::domain_at(r, e);
+    // the reply is good: none of its entries is without a name
+    let TextRead::Good(s) = reply_read::name_lists::domain_at(r, e) else {
+        return 0;
+    };
     if k == 0 {
         return s.from as u64;
     }

@@ -19,12 +19,13 @@ use Rattle.unc.specs.names.Names.{goodName}
 use Rattle.cache.specs.places.Layout.{placeCount}
 use Rattle.cache.specs.order.Memory.{domains, rightSize, encode, inOrder}
 use Rattle.cache.proofs.order.MemoryLaws.{RightSize, size-told}
-use Rattle.reply_read.specs.referral.Replies.{Reply, malformed, nothing, says, entries, versionAt, entryFlag, fits}
+use Rattle.reply_read.specs.referral.Replies.{Reply, malformed, nothing, says, entries}
 use Rattle.reply_read.specs.declared.referral.Answer.{Answer}
 use Rattle.reply_read.specs.declared.referral.Answer.the-variants.{Says}
 use Rattle.reply_read.proofs.referral.Answer.{the-type}
 use Rattle.reply_read.specs.name_lists.NameLists.{readDomains, domainAt, goodDomain}
-use Rattle.reply_read.specs.name_lists.Code.{answerOf}
+use Rattle.reply_read.specs.name_lists.Code.{domainName, answerOf}
+use Rattle.reply_read.proofs.name_lists.ListLaws.{domain-read}
 use Rattle.reply_read.proofs.name_lists.SaysLaws.{SoundDomains, says-domains, domain-name-good}
 use Rattle.cache_store.specs.entry_after_reply.Stored.{once, domainPlaces}
 use Rattle.cache_store.specs.domain_cache.Code.{domainsRefusal, shown, WellFormed, Gathered}
@@ -60,7 +61,7 @@ size-fine size h k = and-both {a = leb 1024 size} (le-leb 1024 size h) (le-leb s
 -- a well-formed reply, its names gathered
 module _ (r : List ℕ) (v : Names) (g : Gathered r v) (raw : List ℕ) (right : rightSize raw ≡ true) where
   names : List (List ℕ)
-  names = map (domainAt r) (entries r)
+  names = map (domainName r) (entries r)
 
   counted : v .count ≡ min 33 (length (once names))
   unfolding names
@@ -71,14 +72,14 @@ module _ (r : List ℕ) (v : Names) (g : Gathered r v) (raw : List ℕ) (right :
       sym l ∙ (ap length (g .are) ∙ length-take 33 (once names))
 
   pub too-many : placeCount raw < v .count
-      → (domainsRefusal TooMany ≡ namesNumber (placeCount raw) (says (map (domainAt r) (entries r)))) × (raw ≡ cacheAfter (domainsRefusal TooMany) (map (domainAt r) (entries r)) raw)
+      → (domainsRefusal TooMany ≡ namesNumber (placeCount raw) (says (map (domainName r) (entries r)))) × (raw ≡ cacheAfter (domainsRefusal TooMany) (map (domainName r) (entries r)) raw)
   unfolding names namesNumber domainsRefusal
   too-many h =
       let u : placeCount raw < length (once names) = omega (arith, counted) in
       (sym (choose-no 0 6 (lt-leb (length (once names)) (placeCount raw) u)), unchanged 6 names raw (λ z. omega arith))
 
   pub all-placed : v .count ≤ placeCount raw → {o : List ℕ} → o ≡ encode domains (domainPlaces (placeCount raw) (shown r v))
-      → (domainsRefusal Done ≡ namesNumber (placeCount raw) (says (map (domainAt r) (entries r)))) × (o ≡ cacheAfter (domainsRefusal Done) (map (domainAt r) (entries r)) raw)
+      → (domainsRefusal Done ≡ namesNumber (placeCount raw) (says (map (domainName r) (entries r)))) × (o ≡ cacheAfter (domainsRefusal Done) (map (domainName r) (entries r)) raw)
   unfolding names namesNumber domainsRefusal
   all-placed h e =
       let most : placeCount raw ≤ 32 = size-told raw right .most in
@@ -126,8 +127,8 @@ module _ (size : ℕ) (r raw : List ℕ) where
             let l : length r ≤ size = sound .within in
             record { header = sound .header; short = omega arith; good = sound .good }
 
-        pub was-read : (v : DomainsRead) {o : List ℕ} → domainsRefusal v ≡ namesNumber (placeCount raw) (says (map (domainAt r) (entries r)))
-            → o ≡ cacheAfter (domainsRefusal v) (map (domainAt r) (entries r)) raw → (domainsRefusal v ≡ domainsNumber size r raw) × (o ≡ domainsAfter size r raw)
+        pub was-read : (v : DomainsRead) {o : List ℕ} → domainsRefusal v ≡ namesNumber (placeCount raw) (says (map (domainName r) (entries r)))
+            → o ≡ cacheAfter (domainsRefusal v) (map (domainName r) (entries r)) raw → (domainsRefusal v ≡ domainsNumber size r raw) × (o ≡ domainsAfter size r raw)
         unfolding domainsAfter namesIn
         was-read v p q =
             let n : domainsRefusal v ≡ domainsNumber size r raw = p ∙ (ap (namesNumber (placeCount raw)) (sym (sound .is)) ∙ sym number-is) in
@@ -139,13 +140,11 @@ not-says a (inl p) h = let t : tagOf the-type a ≡ 2 = ap (tagOf the-type) h in
 not-says a (inr p) h = let t : tagOf the-type a ≡ 2 = ap (tagOf the-type) h in omega arith
 
 -- a domain reply that was read: its names are good
-names-good : (r : List ℕ) (es : List ℕ) → every (goodDomain r) es ≡ true → every goodName (map (domainAt r) es) ≡ true
-unfolding every goodDomain domainAt
+names-good : (r : List ℕ) (es : List ℕ) → every (goodDomain r) es ≡ true → every goodName (map (domainName r) es) ≡ true
+unfolding every domainName domainAt
 names-good r [] h = refl
 names-good r (e ∷ es) h =
-    and-both
-    (domain-name-good _
-    (and-right (entryFlag 2 r e) _ (and-right (fits 18 r e) _ (and-right (eqb (versionAt r e) 3) _ (and-left (goodDomain r e) _ h)))))
+    and-both (domain-name-good _ (domain-read r e (and-left (goodDomain r e) _ h)))
     (names-good r es (and-right (goodDomain r e) _ h))
 
 few-names : (c : ℕ) (ns : List (List ℕ)) → _≡_ {A = ℕ} (choose (leb (length (once ns)) c) 0 6) 0 → leb (length (once ns)) c ≡ true
@@ -170,7 +169,7 @@ module _ (size : ℕ) (r raw : List ℕ) (h : domainsNumber size r raw ≡ 0) wh
       read t nothing e k = absurd (let z : _≡_ {A = ℕ} 7 0 = k in omega arith)
       read t (says ns) e k =
           let w : SoundDomains size r = says-domains size r (sym (ap answerOf e)) in
-          let n : map (domainAt r) (entries r) ≡ namesIn (readDomains size r) = sym (ap namesIn (w .is)) in
+          let n : map (domainName r) (entries r) ≡ namesIn (readDomains size r) = sym (ap namesIn (w .is)) in
           record {
             right = t;
             few = leb-true (length (once (namesIn (readDomains size r)))) (placeCount raw) (ap (λ (x : Reply (List (List ℕ))). leb (length (once (namesIn x))) (placeCount raw)) e ∙ few-names (placeCount raw) ns k);

@@ -18,7 +18,8 @@ use Rattle.reply_read.specs.declared.referral.Asked.{Asked}
 use Rattle.reply_read.specs.declared.referral.Asked.the-variants.{Bytes, TooShort}
 use Rattle.reply_read.specs.referral.Replies.{entries}
 use Rattle.reply_read.specs.declared.name_lists.DcsFound.{DcsFound}
-use Rattle.reply_read.specs.name_lists.NameLists.{goodDomain, domainAt}
+use Rattle.reply_read.specs.name_lists.NameLists.{goodDomain}
+use Rattle.reply_read.specs.name_lists.Code.{domainName}
 use Rattle.cache_store.specs.entry_after_reply.Stored.{once}
 use Rattle.cache_store.specs.declared.domain_cache.DomainsRead.{DomainsRead}
 use Rattle.cache_store.specs.declared.domain_cache.DomainsRead.the-variants.{Done, NotInOrder, BadSize, TooMany, Unreadable}
@@ -86,4 +87,4 @@ pub record WellFormed (r : List ℕ) : Type 0 where
 -- its different names, 33 at most
 pub record Gathered (r : List ℕ) (v : Names) : Type 0 where
   pub fit : Fit r v
-  pub are : shown r v ≡ take 33 (once (map (domainAt r) (entries r)))
+  pub are : shown r v ≡ take 33 (once (map (domainName r) (entries r)))

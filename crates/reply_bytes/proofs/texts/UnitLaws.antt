@@ -81,27 +81,27 @@ two-bytes r i h =
     ∙ ap (λ (x : List ℕ). getD r i 0 ∷ x)
     (ap (λ (j : ℕ). drop j r) (sym (add-one i)) ∙ (drop-cons r (i + 1) 0 h ∙ ap (λ (j : ℕ). getD r (i + 1) 0 ∷ drop j r) e))
 
-text-longer : (n u : ℕ) (t : Text) → textEnd n (longer u t) ≡ textEnd (n + 1) t
+text-longer : (at n u : ℕ) (t : Text) → textEnd at n (longer u t) ≡ textEnd at (n + 1) t
 unfolding textEnd longer
-text-longer n u (terminated s) = let q : n + suc (length s) ≡ n + 1 + length s = omega arith in λ j. Ended (q j)
-text-longer n u unterminated = refl
+text-longer at n u (terminated s) = let q : n + suc (length s) ≡ n + 1 + length s = omega arith in λ j. Ended (record { from = at; units = q j })
+text-longer at n u unterminated = refl
 
-module _ (r : List ℕ) (i n : ℕ) where
-  pub text-over : length r ≤ i → Unended ≡ textEnd n (textAt r i)
+module _ (r : List ℕ) (at i n : ℕ) where
+  pub text-over : length r ≤ i → Unended ≡ textEnd at n (textAt r i)
   unfolding textAt text textEnd
   text-over h = rw (drop-of-length-le r h)
 
-  pub text-half : i < length r → length r - i < 2 → Unended ≡ textEnd n (textAt r i)
+  pub text-half : i < length r → length r - i < 2 → Unended ≡ textEnd at n (textAt r i)
   unfolding textAt text textEnd
   text-half h k = rw (drop-cons r i 0 h, drop-of-length-le r {i = suc i} (omega arith))
 
-  pub text-zero : {u : ℕ} → i + 1 < length r → u ≡ u16At r i → u ≡ 0 → Ended n ≡ textEnd n (textAt r i)
+  pub text-zero : {u : ℕ} → i + 1 < length r → u ≡ u16At r i → u ≡ 0 → Ended (record { from = at; units = n }) ≡ textEnd at n (textAt r i)
   unfolding textAt text textEnd u16At choose
-  text-zero h e k = rw (two-bytes r i h, eq-eqb _ _ (sym e ∙ k)) (λ j. Ended (sym (add-zero n) j))
+  text-zero h e k = rw (two-bytes r i h, eq-eqb _ _ (sym e ∙ k)) (λ j. Ended (record { from = at; units = sym (add-zero n) j }))
 
-  pub text-more : {u : ℕ} → i + 1 < length r → u ≡ u16At r i → (u ≡ 0 → ⊥) → textEnd n (textAt r i) ≡ textEnd (n + 1) (textAt r (i + 2))
+  pub text-more : {u : ℕ} → i + 1 < length r → u ≡ u16At r i → (u ≡ 0 → ⊥) → textEnd at n (textAt r i) ≡ textEnd at (n + 1) (textAt r (i + 2))
   unfolding textAt text u16At choose
-  text-more h e k = rw (two-bytes r i h, ne-eqb _ _ (λ z. k (e ∙ z))) (text-longer n _ (text (drop (i + 2) r)))
+  text-more h e k = rw (two-bytes r i h, ne-eqb _ _ (λ z. k (e ∙ z))) (text-longer at n _ (text (drop (i + 2) r)))
 
 -- A text that is ended is the units before its unit 0, which lies inside the bytes.
 unit-drop : (r : List ℕ) (i k : ℕ) → u16At (drop i r) k ≡ u16At r (i + k)
@@ -152,34 +152,38 @@ begins [] t h = absurd (never-ended t h)
 begins (a ∷ []) t h = absurd (never-ended t h)
 begins (a ∷ (b ∷ s)) t h = first a b s t (begins s) (told (eqb (a + 256 * b) 0)) h
 
-unended-text : (x : Text) → Unended ≡ textEnd 0 x → x ≡ unterminated
+unended-text : (i : ℕ) (x : Text) → Unended ≡ textEnd i 0 x → x ≡ unterminated
 unfolding textEnd
-unended-text unterminated h = refl
-unended-text (terminated s) h = absurd (let z : _≡_ {A = ℕ} 0 1 = cc in omega arith)
+unended-text i unterminated h = refl
+unended-text i (terminated s) h = absurd (let z : _≡_ {A = ℕ} 0 1 = cc in omega arith)
 
-pub record EndedAt (r : List ℕ) (i n : ℕ) : Type 0 where
-  pub is : textAt r i ≡ terminated (spanned r (record { from = i; units = n }))
-  pub within : i + (2 * n + 2) ≤ length r
+pub record EndedAt (r : List ℕ) (i : ℕ) (s : Span) : Type 0 where
+  pub is : textAt r i ≡ terminated (spanned r s)
+  pub from-is : s .from ≡ i
+  pub within : s .from + (2 * s .units + 2) ≤ length r
 
-ended-text : (r : List ℕ) (i n : ℕ) (x : Text) → ((y : List ℕ) → x ≡ terminated y → Begins (drop i r) y) → Ended n ≡ textEnd 0 x → textAt r i ≡ x → EndedAt r i n
+ended-text : (r : List ℕ) (i : ℕ) (s : Span) (x : Text) → ((y : List ℕ) → x ≡ terminated y → Begins (drop i r) y) → Ended s ≡ textEnd i 0 x → textAt r i ≡ x → EndedAt r i s
 unfolding textEnd spanned
-ended-text r i n unterminated f h e = absurd (let z : _≡_ {A = ℕ} 0 1 = cc in omega arith)
-ended-text r i n (terminated y) f h e =
-    let p : n ≡ 0 + length y = cc in
-    let q : length y ≡ n = omega arith in
+ended-text r i s unterminated f h e = absurd (let z : _≡_ {A = ℕ} 0 1 = cc in omega arith)
+ended-text r i s (terminated y) f h e =
+    let p : s ≡ record { from = i; units = 0 + length y } = cc in
+    let a : s .from ≡ i = ap (λ (t : Span). t .from) p in
+    let b : s .units ≡ 0 + length y = ap (λ (t : Span). t .units) p in
+    let q : length y ≡ s .units = omega arith in
     let g : Begins (drop i r) y = f y refl in
-    let w : 2 * n + 2 ≤ length (drop i r) = omega (arith, g .within) in
+    let w : 2 * s .units + 2 ≤ length (drop i r) = omega (arith, g .within) in
     record {
-      is = e ∙ (λ j. terminated ((g .units ∙ (units-drop (length y) r i 0 ∙ (λ k. unitsAt (q k) (add-zero i k) r))) j));
+      is = e ∙ (λ j. terminated ((g .units ∙ (units-drop (length y) r i 0 ∙ (λ k. unitsAt (q k) ((add-zero i ∙ sym a) k) r))) j));
+      from-is = a;
       within = omega (arith, w, length-drop i r);
     }
 
-pub ended-at : (r : List ℕ) (i n : ℕ) → Ended n ≡ textEnd 0 (textAt r i) → EndedAt r i n
+pub ended-at : (r : List ℕ) (i : ℕ) (s : Span) → Ended s ≡ textEnd i 0 (textAt r i) → EndedAt r i s
 unfolding textAt
-ended-at r i n h = ended-text r i n (text (drop i r)) (begins (drop i r)) h refl
+ended-at r i s h = ended-text r i s (text (drop i r)) (begins (drop i r)) h refl
 
-pub unended-at : (r : List ℕ) (i : ℕ) → Unended ≡ textEnd 0 (textAt r i) → textAt r i ≡ unterminated
-unended-at r i h = unended-text (textAt r i) h
+pub unended-at : (r : List ℕ) (i : ℕ) → Unended ≡ textEnd i 0 (textAt r i) → textAt r i ≡ unterminated
+unended-at r i h = unended-text i (textAt r i) h
 
 -- a unit of each of two lists, compared
 pub units-told : (s t : List ℕ) (i : ℕ) {x y : ℕ} {r : Bool} → r ≡ sameUnit x y → x ≡ getD s i 0 → y ≡ getD t i 0

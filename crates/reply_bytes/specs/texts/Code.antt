@@ -26,7 +26,7 @@ Inside r s = s .from + 2 * s .units ≤ length r
 abbrev pub partOf : Span → ℕ → ℕ → Span
 partOf s a e = record { from = s .from + 2 * a; units = e - a }
 
--- what reading a text answers, n units of it read already
-unfoldable pub textEnd : ℕ → Text → Read
-textEnd n (terminated s) = Ended (n + length s)
-textEnd n unterminated = Unended
+-- what reading a text that starts at byte i answers, n units of it read already
+unfoldable pub textEnd : ℕ → ℕ → Text → Read
+textEnd i n (terminated s) = Ended (record { from = i; units = n + length s })
+textEnd i n unterminated = Unended

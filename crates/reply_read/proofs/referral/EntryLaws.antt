@@ -1,22 +1,21 @@
 -- Laws of an entry's numbers.
 use mathlib.Core.Path.{_≡_, refl, sym, ap, _∙_}
-use mathlib.Core.Bool.{Bool, true, false, _&&_, not}
-use mathlib.Core.List.{List, [], _∷_}
+use mathlib.Core.Bool.{Bool, true, false, _&&_, not, true≢false}
+use mathlib.Core.List.{List, [], _∷_, map}
+use mathlib.Core.Option.{Option, none, some}
 use mathlib.Core.Logic.{_⊎_, inl, inr}
 use Prim.Native.Nat.{ℕ, suc, _+_, _-_, _/_, _%_, _≤_, _<_}
 use native.Mathlib.Omega.{arith}
 use lib.Dec.{leb, eqb}
 use lib.ListN.{length}
-use borrow.Author.Tests.{eq-eqb, ne-eqb, eqb-true, eqb-false, le-leb, lt-leb, leb-true}
+use borrow.Author.Tests.{eq-eqb, ne-eqb, le-leb, lt-leb, leb-true}
 use Rattle.laws.proofs.Choices.{and-left, and-right, and-both, and-no-left, and-no-right}
-use Rattle.laws.proofs.Orders.{told, lt-or-le}
+use Rattle.laws.proofs.Orders.{lt-or-le}
 use Rattle.laws.specs.Lists.{every}
 use Rattle.unc.specs.names.Names.{sameName}
 use Rattle.reply_bytes.specs.texts.Bytes.{u16At, flag}
-use Rattle.reply_bytes.specs.texts.Code.{spanned}
-use Rattle.reply_bytes.specs.declared.texts.Span.{Span}
-use Rattle.reply_bytes.proofs.texts.UnitLaws.{length-spanned}
-use Rattle.reply_read.specs.referral.Replies.{versionAt, sizeAt, serverTypeAt, entryFlag, fits, readable, fixedLength, goodFields, goodEntry, isRead, prefixAt, targetAt, starts, entries, referralCount}
+use Rattle.reply_read.specs.referral.Replies.{versionAt, sizeAt, serverTypeAt, entryFlag, fits, readable, fixedLength, goodFields, goodEntry, isRead, sameRead, withFirst, allRead, prefixAt, targetAt, starts, entries, referralCount}
+use Rattle.reply_read.specs.referral.Code.{unitsRead}
 
 pub flag-is : (m f : ℕ) → eqb (f / m % 2) 1 ≡ flag m f
 unfolding flag
@@ -108,30 +107,26 @@ module _ (r : List ℕ) (e : ℕ) where
   fields-fit h =
       and-left _ _ (and-right (eqb (versionAt r e) (versionAt r 8)) _ (and-right (readable (versionAt r e)) _ h))
 
--- a span is read where it has units
-module _ (r : List ℕ) (s : Span) {x : List ℕ} (e : spanned r s ≡ x) where
-  pub unread-spanned : s .units ≡ 0 → isRead x ≡ false
-  unfolding isRead
-  unread-spanned h = go x (sym (ap length e) ∙ (length-spanned r s ∙ h))
-    where
-      go : (y : List ℕ) → length y ≡ 0 → isRead y ≡ false
-      go [] z = refl
-      go (u ∷ y) z = absurd (omega arith)
+-- a path or name that is read
+pub read-some : (x : Option (List ℕ)) → isRead x ≡ true → x ≡ some (unitsRead x)
+unfolding isRead unitsRead
+read-some none h = absurd (true≢false (sym h))
+read-some (some s) h = refl
 
-  pub read-spanned : (s .units ≡ 0 → ⊥) → isRead x ≡ true
-  unfolding isRead
-  read-spanned h = go x (sym (ap length e) ∙ length-spanned r s)
-    where
-      go : (y : List ℕ) → length y ≡ s .units → isRead y ≡ true
-      go [] z = absurd (h (sym z))
-      go (u ∷ y) z = refl
+pub unread : {x : Option (List ℕ)} → x ≡ none → isRead x ≡ true → ⊥
+unfolding isRead
+unread e h = true≢false (sym h ∙ ap isRead e)
 
-  pub read-test : not (eqb (s .units) 0) ≡ isRead x
-  read-test = go (told (eqb (s .units) 0))
-    where
-      go : (eqb (s .units) 0 ≡ true) ⊎ (eqb (s .units) 0 ≡ false) → not (eqb (s .units) 0) ≡ isRead x
-      go (inl h) = ap not h ∙ sym (unread-spanned (eqb-true (s .units) 0 h))
-      go (inr h) = ap not h ∙ sym (read-spanned (eqb-false (s .units) 0 h))
+pub same-read : (p q : Option (List ℕ)) → sameRead p q ≡ true → isRead p ≡ true
+unfolding sameRead isRead
+same-read none q h = absurd (true≢false (sym h))
+same-read (some p) q h = refl
+
+pub all-read : (xs : List (Option (List ℕ))) → every isRead xs ≡ true → allRead xs ≡ some (map unitsRead xs)
+unfolding every isRead allRead withFirst unitsRead
+all-read [] h = refl
+all-read (none ∷ xs) h = absurd (true≢false (sym h))
+all-read (some s ∷ xs) h = ap (withFirst s) (all-read xs h)
 
 -- the ways of `goodEntry`, in the order of the tests
 module _ (r : List ℕ) (e : ℕ) where
@@ -146,25 +141,30 @@ module _ (r : List ℕ) (e : ℕ) where
   unfolding goodEntry
   entry-fit f h = entry-room refl (and-left _ _ (sym f ∙ h))
 
-  module _ (p : Span) (a : spanned r p ≡ prefixAt r e) where
-    pub entry-prefix : p .units ≡ 0 → false ≡ goodEntry r e
+  pub entry-prefix : prefixAt r e ≡ none → false ≡ goodEntry r e
+  unfolding goodEntry sameRead
+  entry-prefix h = sym (and-no-right (goodFields r e) (and-no-left _ (ap (λ (x : Option (List ℕ)). sameRead x (prefixAt r 8)) h)))
+
+  pub entry-target : targetAt r e ≡ none → false ≡ goodEntry r e
+  unfolding goodEntry isRead
+  entry-target h = sym (and-no-right (goodFields r e) (and-no-right (sameRead (prefixAt r e) (prefixAt r 8)) (ap isRead h)))
+
+  module _ {p q : List ℕ} (a : prefixAt r e ≡ some p) (b : prefixAt r 8 ≡ some q) where
+    same-is : sameRead (prefixAt r e) (prefixAt r 8) ≡ sameName p q
+    unfolding sameRead
+    same-is = λ i. sameRead (a i) (b i)
+
+    pub entry-unlike : {t : Bool} → t ≡ sameName p q → t ≡ false → false ≡ goodEntry r e
     unfolding goodEntry
-    entry-prefix h = sym (and-no-right (goodFields r e) (and-no-left _ (unread-spanned r p a h)))
+    entry-unlike f h = sym (and-no-right (goodFields r e) (and-no-left _ (same-is ∙ (sym f ∙ h))))
 
-    module _ (q : Span) (b : spanned r q ≡ prefixAt r 8) where
-      pub entry-unlike : {t : Bool} → t ≡ sameName (spanned r p) (spanned r q) → t ≡ false → false ≡ goodEntry r e
-      unfolding goodEntry
-      entry-unlike f h =
-          sym (and-no-right (goodFields r e) (and-no-right (isRead (prefixAt r e)) (and-no-left _ (sym (f ∙ (λ i. sameName (a i) (b i))) ∙ h))))
+    pub entry-good : {s t : Bool} → s ≡ goodFields r e → s ≡ true → t ≡ sameName p q → t ≡ true → {w : List ℕ} → targetAt r e ≡ some w → true ≡ goodEntry r e
+    unfolding goodEntry isRead
+    entry-good c d f h g = sym (and-both (sym c ∙ d) (and-both (same-is ∙ (sym f ∙ h)) (ap isRead g)))
 
-      pub entry-good : {s t : Bool} → s ≡ goodFields r e → s ≡ true → (p .units ≡ 0 → ⊥) → t ≡ sameName (spanned r p) (spanned r q) → t ≡ true
-          → (w : Span) → spanned r w ≡ targetAt r e → not (eqb (w .units) 0) ≡ goodEntry r e
-      unfolding goodEntry
-      entry-good c d g f h w i =
-          let x : goodFields r e ≡ true = sym c ∙ d in
-          let y : isRead (prefixAt r e) ≡ true = read-spanned r p a g in
-          let z : sameName (prefixAt r e) (prefixAt r 8) ≡ true = sym (f ∙ (λ j. sameName (a j) (b j))) ∙ h in
-          rw (x, y, z) (read-test r w i)
+  pub entry-read : goodEntry r e ≡ true → isRead (targetAt r e) ≡ true
+  unfolding goodEntry
+  entry-read h = and-right (sameRead (prefixAt r e) (prefixAt r 8)) _ (and-right (goodFields r e) _ h)
 
 -- Entries one after another, i of n passed.
 module _ (f : ℕ → Bool) (r : List ℕ) (n i e : ℕ) where

@@ -3,6 +3,7 @@ use mathlib.Core.Path.{_≡_, sym, ap, _∙_}
 use mathlib.Core.Bool.{Bool, true, false, _&&_, true≢false}
 use mathlib.Core.Logic.{_⊎_, inl, inr}
 use mathlib.Core.List.{List}
+use mathlib.Core.Option.{Option, none, some}
 use Prim.Native.Nat.{ℕ, _≤_, _<_}
 use native.Mathlib.Omega.{arith}
 use lib.Dec.{leb, eqb}
@@ -11,8 +12,9 @@ use borrow.Author.Tests.{eq-eqb, ne-eqb, le-leb, lt-leb}
 use Rattle.laws.specs.Choice.{choose}
 use Rattle.laws.specs.Lists.{every}
 use Rattle.laws.proofs.Choices.{choose-yes, choose-no, and-both, and-no-left, and-no-right}
+use Rattle.unc.specs.names.Paths.{matches}
 use Rattle.reply_bytes.specs.texts.Bytes.{u16At, flag}
-use Rattle.reply_read.specs.referral.Replies.{goodEntry, malformed, nothing, says, readAs, referralCount, entries}
+use Rattle.reply_read.specs.referral.Replies.{goodEntry, matchesRead, malformed, nothing, readOr, readAs, referralCount, entries}
 use Rattle.reply_read.specs.referral.Code.{replyOf, denoted, noReferral, ReferralInside}
 use Rattle.reply_read.specs.declared.referral.ReferralFound.{ReferralFound}
 use Rattle.reply_read.specs.declared.referral.Answer.{Answer}
@@ -22,7 +24,7 @@ use Rattle.reply_read.proofs.referral.EntryLaws.{entries-short, entry-s
 use Rattle.reply_read.proofs.referral.TargetLaws.{none-kept}
 
 -- the ways of `readAs`, in the order of its tests
-module _ {A : Type 0} (size : ℕ) (r : List ℕ) (good : Bool) (a : A) where
+module _ {A : Type 0} (size : ℕ) (r : List ℕ) (good : Bool) (a : Option A) where
   pub read-short : length r < 8 → malformed ≡ readAs size r good a
   unfolding readAs
   read-short h = sym (choose-no _ malformed (and-no-left _ (lt-leb 8 (length r) h)))
@@ -32,7 +34,7 @@ module _ {A : Type 0} (size : ℕ) (r : List ℕ) (good : Bool) (a : A) where
   read-long h = sym (choose-no _ malformed (and-no-right (leb 8 (length r)) (lt-leb (length r) size h)))
 
   module _ (h : 8 ≤ length r) (k : length r ≤ size) {n : ℕ} (e : n ≡ u16At r 2) where
-    rest : readAs size r good a ≡ choose (eqb (u16At r 2) 0) nothing (choose good (says a) malformed)
+    rest : readAs size r good a ≡ choose (eqb (u16At r 2) 0) nothing (choose good (readOr a) malformed)
     unfolding readAs referralCount
     rest = choose-yes _ malformed (and-both (le-leb 8 (length r) h) (le-leb (length r) size k))
 
@@ -40,10 +42,20 @@ module _ {A : Type 0} (size : ℕ) (r : List ℕ) (good : Bool) (a : A) where
     read-none f = sym (rest ∙ choose-yes nothing _ (eq-eqb (u16At r 2) 0 (sym e ∙ f)))
 
     pub read-bad : (n ≡ 0 → ⊥) → good ≡ false → malformed ≡ readAs size r good a
-    read-bad f g = sym (rest ∙ (choose-no nothing _ (ne-eqb (u16At r 2) 0 (λ q. f (e ∙ q))) ∙ choose-no (says a) malformed g))
+    read-bad f g = sym (rest ∙ (choose-no nothing _ (ne-eqb (u16At r 2) 0 (λ q. f (e ∙ q))) ∙ choose-no (readOr a) malformed g))
 
-    pub read-good : (n ≡ 0 → ⊥) → good ≡ true → says a ≡ readAs size r good a
-    read-good f g = sym (rest ∙ (choose-no nothing _ (ne-eqb (u16At r 2) 0 (λ q. f (e ∙ q))) ∙ choose-yes (says a) malformed g))
+    pub read-good : (n ≡ 0 → ⊥) → good ≡ true → readOr a ≡ readAs size r good a
+    read-good f g = sym (rest ∙ (choose-no nothing _ (ne-eqb (u16At r 2) 0 (λ q. f (e ∙ q))) ∙ choose-yes (readOr a) malformed g))
+
+-- a prefix that is read, and one that is not
+module _ (asked : List ℕ) where
+  pub unread-matches : {x : Option (List ℕ)} → x ≡ none → matchesRead x asked ≡ false
+  unfolding matchesRead
+  unread-matches e = ap (λ (x : Option (List ℕ)). matchesRead x asked) e
+
+  pub read-matches : {x : Option (List ℕ)} {p : List ℕ} {t : Bool} → x ≡ some p → t ≡ matches p asked → matchesRead x asked ≡ t
+  unfolding matchesRead
+  read-matches e f = ap (λ (x : Option (List ℕ)). matchesRead x asked) e ∙ sym f
 
 -- a reply that says nothing hands on nothing
 module _ (r : List ℕ) {f : ReferralFound} where

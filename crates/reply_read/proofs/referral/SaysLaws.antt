@@ -1,7 +1,8 @@
 -- What is known of a reply that says something: for the crates above.
 use mathlib.Core.Path.{_≡_, refl, sym, ap, _∙_, subst}
 use mathlib.Core.Bool.{Bool, true, false, _&&_, not, true≢false}
-use mathlib.Core.List.{List, [], _∷_, map}
+use mathlib.Core.List.{List, [], _∷_}
+use mathlib.Core.Option.{Option, none, some}
 use mathlib.Core.Logic.{_⊎_, inl, inr}
 use Prim.Native.Nat.{ℕ, zero, suc, _-_, _≤_, _<_, min}
 use native.Mathlib.Omega.{arith}
@@ -13,14 +14,16 @@ use Rattle.laws.specs.Lists.{every}
 use Rattle.laws.proofs.Choices.{choose-yes, choose-no, and-left, and-right, and-both, eqb-refl}
 use Rattle.laws.proofs.Orders.{told}
 use Rattle.laws.proofs.Every.{every-take}
-use Rattle.unc.specs.names.Names.{goodComponent, sameName}
+use Rattle.unc.specs.names.Names.{goodComponent}
 use Rattle.unc.specs.names.Paths.{leads, pieces, body, goodPath, normalised, isNormalised, normalisedCount, componentCount, matches}
 use Rattle.reply_bytes.specs.texts.Bytes.{Text, terminated, unterminated}
-use Rattle.reply_read.specs.referral.Replies.{referralCount, starts, entries, pathOf, isRead, prefixAt, targetAt, goodFields, goodEntry, Target, laterTarget, keptTargets, Referral, referralIn, malformed, nothing, says, readAs, readReferral}
-use Rattle.reply_read.specs.referral.Code.{replyOf, denoted, referralShown}
+use Rattle.reply_read.specs.referral.Replies.{referralCount, starts, entries, pathOf, isRead, sameRead, matchesRead, prefixAt, targetAt, goodFields, goodEntry, Target, Referral, referralSaid, referralIn, malformed, nothing, says, readOr, readAs, readReferral}
+use Rattle.reply_read.specs.referral.Code.{unitsRead, opensAt, keptHere, keptFrom, replyOf, denoted, referralShown}
 use Rattle.reply_read.specs.declared.referral.ReferralFound.{ReferralFound}
 use Rattle.reply_read.specs.declared.referral.Answer.{Answer}
 use Rattle.reply_read.specs.declared.referral.Answer.the-variants.{Says}
+use Rattle.reply_read.proofs.referral.EntryLaws.{read-some, same-read, unread, entry-read}
+use Rattle.reply_read.proofs.referral.TargetLaws.{referral-read}
 
 never-says-bad : {A : Type 0} {a : A} → malformed ≡ says a → ⊥
 never-says-bad h = let z : _≡_ {A = ℕ} 0 1 = cc in omega arith
@@ -29,39 +32,43 @@ never-says-none : {A : Type 0} {a : A} → nothing ≡ says a → ⊥
 never-says-none h = let z : _≡_ {A = ℕ} 0 1 = cc in omega arith
 
 -- a reply that is read as saying b: its length, its count, its test, and b
-pub record Read {A : Type 0} (size : ℕ) (r : List ℕ) (good : Bool) (a b : A) : Type 0 where
+pub record Read {A : Type 0} (size : ℕ) (r : List ℕ) (good : Bool) (a : Option A) (b : A) : Type 0 where
   pub header : 8 ≤ length r
   pub within : length r ≤ size
-  pub some : 0 < referralCount r
+  pub counted : 0 < referralCount r
   pub passed : good ≡ true
-  pub same : b ≡ a
+  pub same : a ≡ some b
 
-pub read-says : {A : Type 0} (size : ℕ) (r : List ℕ) (good : Bool) (a b : A) → readAs size r good a ≡ says b → Read size r good a b
+pub some-is : {A : Type 0} (a b : A) → some a ≡ some b → a ≡ b
+some-is a b h = cc
+
+or-says : {A : Type 0} (a : Option A) (b : A) → readOr a ≡ says b → a ≡ some b
+unfolding readOr
+or-says none b h = absurd (never-says-bad h)
+or-says (some x) b h = let p : x ≡ b = cc in λ i. some (p i)
+
+pub read-says : {A : Type 0} (size : ℕ) (r : List ℕ) (good : Bool) (a : Option A) (b : A) → readAs size r good a ≡ says b → Read size r good a b
 unfolding readAs
 read-says size r good a b h = go (leb 8 (length r) && leb (length r) size) refl (eqb (referralCount r) 0) refl good refl h
   where
     go : (x : Bool) → (leb 8 (length r) && leb (length r) size) ≡ x → (y : Bool) → eqb (referralCount r) 0 ≡ y → (z : Bool) → good ≡ z
-        → choose (leb 8 (length r) && leb (length r) size) (choose (eqb (referralCount r) 0) nothing (choose good (says a) malformed)) malformed ≡ says b
+        → choose (leb 8 (length r) && leb (length r) size) (choose (eqb (referralCount r) 0) nothing (choose good (readOr a) malformed)) malformed ≡ says b
         → Read size r good a b
     go false e y f z g k = absurd (never-says-bad (sym (choose-no _ malformed e) ∙ k))
     go true e true f z g k = absurd (never-says-none (sym (choose-yes _ malformed e ∙ choose-yes nothing _ f) ∙ k))
-    go true e false f false g k = absurd (never-says-bad (sym (choose-yes _ malformed e ∙ (choose-no nothing _ f ∙ choose-no (says a) malformed g)) ∙ k))
+    go true e false f false g k = absurd (never-says-bad (sym (choose-yes _ malformed e ∙ (choose-no nothing _ f ∙ choose-no (readOr a) malformed g)) ∙ k))
     go true e false f true g k =
-        let q : says a ≡ says b = sym (choose-yes _ malformed e ∙ (choose-no nothing _ f ∙ choose-yes (says a) malformed g)) ∙ k in
+        let q : readOr a ≡ says b = sym (choose-yes _ malformed e ∙ (choose-no nothing _ f ∙ choose-yes (readOr a) malformed g)) ∙ k in
         let p : referralCount r ≡ 0 → ⊥ = eqb-false (referralCount r) 0 f in
         record {
           header = leb-true 8 (length r) (and-left _ _ e);
           within = leb-true (length r) size (and-right (leb 8 (length r)) _ e);
-          some = omega arith;
+          counted = omega arith;
           passed = g;
-          same = cc;
+          same = or-says a b q;
         }
 
 -- a path that is read is normalised, with 2 components or more and at most 256 units
-unread : isRead [] ≡ true → ⊥
-unfolding isRead
-unread h = true≢false (sym h)
-
 good-parts : (s : List ℕ) → goodPath s ≡ true → every goodComponent (pieces (body s)) ≡ true
 unfolding goodPath
 good-parts s h = and-right (not (eqb (leads s) 0)) _ h
@@ -72,51 +79,40 @@ normal-is s h k =
     choose-yes (componentCount (92 ∷ body s)) 0
     (and-both (le-leb (length (92 ∷ body s)) 256 k) (and-both (eqb-refl 92) (good-parts s h)))
 
-pub path-normal : (t : Text) → isRead (pathOf t) ≡ true → 2 ≤ normalisedCount (pathOf t)
-unfolding pathOf
-path-normal unterminated h = absurd (unread h)
+pub path-normal : (t : Text) → isRead (pathOf t) ≡ true → 2 ≤ normalisedCount (unitsRead (pathOf t))
+unfolding pathOf unitsRead
+path-normal unterminated h = absurd (unread refl h)
 path-normal (terminated s) h = go (told (goodPath s && (leb (length (normalised s)) 256 && leb 2 (componentCount (normalised s)))))
   where
     go : ((goodPath s && (leb (length (normalised s)) 256 && leb 2 (componentCount (normalised s)))) ≡ true)
         ⊎ ((goodPath s && (leb (length (normalised s)) 256 && leb 2 (componentCount (normalised s)))) ≡ false)
-        → 2 ≤ normalisedCount (choose (goodPath s && (leb (length (normalised s)) 256 && leb 2 (componentCount (normalised s)))) (normalised s) [])
+        → 2 ≤ normalisedCount (unitsRead (choose (goodPath s && (leb (length (normalised s)) 256 && leb 2 (componentCount (normalised s)))) (some (normalised s)) none))
     go (inl e) =
         let q : (leb (length (normalised s)) 256 && leb 2 (componentCount (normalised s))) ≡ true = and-right (goodPath s) _ e in
         let l : length (normalised s) ≤ 256 = leb-true (length (normalised s)) 256 (and-left _ _ q) in
         let n : 2 ≤ componentCount (normalised s) = leb-true 2 (componentCount (normalised s)) (and-right (leb (length (normalised s)) 256) _ q) in
-        subst (λ (x : List ℕ). 2 ≤ normalisedCount x) (sym (choose-yes (normalised s) [] e))
+        subst (λ (x : Option (List ℕ)). 2 ≤ normalisedCount (unitsRead x)) (sym (choose-yes (some (normalised s)) none e))
         (subst (λ (k : ℕ). 2 ≤ k) (sym (normal-is s (and-left _ _ e) l)) n)
-    go (inr e) = absurd (unread (sym (ap isRead (choose-no (normalised s) [] e)) ∙ h))
+    go (inr e) = absurd (unread (choose-no (some (normalised s)) none e) h)
 
 -- a kept target is normalised likewise
 unfoldable pub goodTarget : Target → Bool
 goodTarget t = leb 2 (normalisedCount (t .path))
 
-target-good : (r : List ℕ) (e : ℕ) (t : Target) → t .path ≡ targetAt r e → goodEntry r e ≡ true → goodTarget t ≡ true
-unfolding goodTarget goodEntry targetAt
+target-good : (r : List ℕ) (e : ℕ) (t : Target) → t .path ≡ unitsRead (targetAt r e) → goodEntry r e ≡ true → goodTarget t ≡ true
+unfolding goodTarget targetAt
 target-good r e t p h =
-    let q : isRead (targetAt r e) ≡ true =
-    and-right (sameName (prefixAt r e) (prefixAt r 8)) _ (and-right (isRead (prefixAt r e)) _ (and-right (goodFields r e) _ h)) in
-    le-leb 2 (normalisedCount (t .path)) (subst (λ (x : List ℕ). 2 ≤ normalisedCount x) (sym p) (path-normal _ q))
+    le-leb 2 (normalisedCount (t .path)) (subst (λ (x : List ℕ). 2 ≤ normalisedCount x) (sym p) (path-normal _ (entry-read r e h)))
 
-later-good : (r : List ℕ) (es : List ℕ) → every (goodEntry r) es ≡ true → every goodTarget (map (laterTarget r) es) ≡ true
-unfolding every laterTarget
-later-good r [] h = refl
-later-good r (e ∷ es) h = and-both (target-good r e _ refl (and-left _ _ h)) (later-good r es (and-right (goodEntry r e) _ h))
+kept-good : (i : ℕ) (r es : List ℕ) → every (goodEntry r) es ≡ true → every goodTarget (keptFrom i r es) ≡ true
+unfolding every keptFrom keptHere
+kept-good i r [] h = refl
+kept-good i r (e ∷ es) h = and-both (target-good r e _ refl (and-left _ _ h)) (kept-good (suc i) r es (and-right (goodEntry r e) _ h))
 
-kept-good : (r : List ℕ) (es : List ℕ) → every (goodEntry r) es ≡ true → every goodTarget (keptTargets r es) ≡ true
-unfolding every keptTargets
-kept-good r [] h = refl
-kept-good r (e ∷ es) h = and-both (target-good r e _ refl (and-left _ _ h)) (later-good r es (and-right (goodEntry r e) _ h))
-
-length-map : {A B : Type 0} (f : A → B) (l : List A) → length (map f l) ≡ length l
-length-map f [] = refl
-length-map f (x ∷ l) = ap suc (length-map f l)
-
-length-kept : (r : List ℕ) (es : List ℕ) → length (keptTargets r es) ≡ length es
-unfolding keptTargets
-length-kept r [] = refl
-length-kept r (e ∷ es) = ap suc (length-map (laterTarget r) es)
+length-kept : (i : ℕ) (r es : List ℕ) → length (keptFrom i r es) ≡ length es
+unfolding keptFrom
+length-kept i r [] = refl
+length-kept i r (e ∷ es) = ap suc (length-kept (suc i) r es)
 
 pub length-starts : (n e : ℕ) (r : List ℕ) → length (starts n e r) ≡ n
 unfolding starts
@@ -127,10 +123,10 @@ pub length-entries : (r : List ℕ) → length (entries r) ≡ referralCount r
 unfolding entries
 length-entries r = length-starts (referralCount r) 8 r
 
-first-kept : (r : List ℕ) (es : List ℕ) (t : Target) (ts : List Target) → keptTargets r es ≡ t ∷ ts → t .opens ≡ false
-unfolding keptTargets
+first-kept : (r : List ℕ) (es : List ℕ) (t : Target) (ts : List Target) → keptFrom 0 r es ≡ t ∷ ts → t .opens ≡ false
+unfolding keptFrom keptHere opensAt
 first-kept r [] t ts h = absurd (let q : length {A = Target} [] ≡ length (t ∷ ts) = ap length h in omega arith)
-first-kept r (e ∷ es) t ts h = let q : record { path = targetAt r e; opens = false } ≡ t = cc in sym (ap (λ (x : Target). x .opens) q)
+first-kept r (e ∷ es) t ts h = let q : record { path = unitsRead (targetAt r e); opens = false } ≡ t = cc in sym (ap (λ (x : Target). x .opens) q)
 
 -- What a reply says: a prefix that matches the name asked and 1 to 8 targets, all of them normalised paths of 2 components or more and at
 -- most 256 units; no boundary is held for the first.
@@ -147,28 +143,39 @@ unfolding entries starts every goodEntry
 first-read r h g =
     let q : referralCount r ≡ suc (referralCount r - 1) = omega arith in
     let w : every (goodEntry r) (starts (suc (referralCount r - 1)) 8 r) ≡ true = ap (λ (n : ℕ). every (goodEntry r) (starts n 8 r)) (sym q) ∙ g in
-    and-left _ _ (and-right (goodFields r 8) _ (and-left (goodEntry r 8) _ w))
+    same-read (prefixAt r 8) (prefixAt r 8) (and-left _ _ (and-right (goodFields r 8) _ (and-left (goodEntry r 8) _ w)))
+
+read-matches : (x : Option (List ℕ)) (asked : List ℕ) → matchesRead x asked ≡ true → matches (unitsRead x) asked ≡ true
+unfolding matchesRead unitsRead
+read-matches none asked h = absurd (true≢false (sym h))
+read-matches (some p) asked h = h
 
 pub says-sound : (size : ℕ) (asked r : List ℕ) (x : Referral) → readReferral size asked r ≡ says x → Sound asked x
-unfolding readReferral referralIn prefixAt
-says-sound size asked r x h = subst (Sound asked) (sym (w .same)) sound
+unfolding readReferral referralSaid prefixAt
+says-sound size asked r x h = subst (Sound asked) is sound
   where
-    w : Read size r (every (goodEntry r) (entries r) && matches (prefixAt r 8) asked) (referralIn r) x
+    w : Read size r (every (goodEntry r) (entries r) && matchesRead (prefixAt r 8) asked) (referralIn r) x
     w = read-says size r _ (referralIn r) x h
 
     good : every (goodEntry r) (entries r) ≡ true
     good = and-left _ _ (w .passed)
 
-    count : length (keptTargets r (take 8 (entries r))) ≡ min 8 (referralCount r)
-    count = length-kept r (take 8 (entries r)) ∙ (length-take 8 (entries r) ∙ ap (min 8) (length-entries r))
+    first : isRead (prefixAt r 8) ≡ true
+    first = first-read r (w .counted) good
 
-    sound : Sound asked (referralIn r)
+    is : referralSaid r (unitsRead (prefixAt r 8)) (keptFrom 0 r (take 8 (entries r))) ≡ x
+    is = some-is _ x (sym (referral-read r _ (read-some (prefixAt r 8) first) good) ∙ w .same)
+
+    count : length (keptFrom 0 r (take 8 (entries r))) ≡ min 8 (referralCount r)
+    count = length-kept 0 r (take 8 (entries r)) ∙ (length-take 8 (entries r) ∙ ap (min 8) (length-entries r))
+
+    sound : Sound asked (referralSaid r (unitsRead (prefixAt r 8)) (keptFrom 0 r (take 8 (entries r))))
     sound = record {
-      some = omega (arith, count, w .some);
+      some = omega (arith, count, w .counted);
       most = omega (arith, count);
-      targets-normal = kept-good r (take 8 (entries r)) (every-take (goodEntry r) 8 (entries r) good);
-      prefix-normal = path-normal _ (first-read r (w .some) good);
-      prefix-matches = and-right (every (goodEntry r) (entries r)) _ (w .passed);
+      targets-normal = kept-good 0 r (take 8 (entries r)) (every-take (goodEntry r) 8 (entries r) good);
+      prefix-normal = path-normal _ first;
+      prefix-matches = read-matches (prefixAt r 8) asked (and-right (every (goodEntry r) (entries r)) _ (w .passed));
       first-shut = λ t ts e. first-kept r (take 8 (entries r)) t ts e;
     }
 

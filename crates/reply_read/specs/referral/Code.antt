@@ -2,7 +2,8 @@
 use Prim.Native.Nat.{ℕ, zero, suc, _+_, _*_, _≤_, _<_}
 use mathlib.Core.Path.{_≡_}
 use mathlib.Core.Bool.{Bool, true, false, _&&_}
-use mathlib.Core.List.{List, map}
+use mathlib.Core.List.{List, [], _∷_, map}
+use mathlib.Core.Option.{Option, none, some}
 use lib.ListN.{length, take, replicate}
 use lib.Dec.{leb, eqb}
 use Rattle.laws.specs.Choice.{choose}
@@ -10,8 +11,10 @@ use Rattle.laws.specs.Lists.{every}
 use Rattle.reply_bytes.specs.texts.Code.{spanned, Inside}
 use Rattle.reply_bytes.specs.declared.texts.Span.{Span}
 use Rattle.reply_read.specs.referral.Request.{request}
-use Rattle.reply_read.specs.referral.Replies.{versionAt, serverTypeAt, entryFlag, goodEntry, entries, prefixAt, Target, Referral, Reply, malformed, nothing, says}
+use Rattle.reply_read.specs.referral.Replies.{versionAt, serverTypeAt, entryFlag, goodEntry, entries, prefixAt, targetAt, Target, Referral, Reply, malformed, nothing, says}
 use Rattle.reply_read.specs.declared.referral.Kept.{Kept}
+use Rattle.reply_read.specs.declared.referral.TextRead.{TextRead}
+use Rattle.reply_read.specs.declared.referral.TextRead.the-variants.{Good, Bad}
 use Rattle.reply_read.specs.declared.referral.ReferralFound.{ReferralFound}
 use Rattle.reply_read.specs.declared.referral.Answer.{Answer}
 use Rattle.reply_read.specs.declared.referral.Answer.the-variants.{Malformed, Nothing, Says}
@@ -22,11 +25,26 @@ use Rattle.reply_read.specs.declared.referral.Asked.the-variants.{Bytes,
 unfoldable pub isInside : List ℕ → Span → Bool
 isInside r s = leb (s .from + 2 * s .units) (length r)
 
+-- the path or name that a reader found
+unfoldable pub textShown : List ℕ → TextRead → Option (List ℕ)
+textShown r (Good s) = some (spanned r s)
+textShown r Bad = none
+
+-- it lies inside the reply
+unfoldable pub textInside : List ℕ → TextRead → Bool
+textInside r (Good s) = isInside r s
+textInside r Bad = true
+
+-- the units of a path or name that is read
+unfoldable pub unitsRead : Option (List ℕ) → List ℕ
+unitsRead none = []
+unitsRead (some s) = s
+
 -- the first entry's version, ServerType and DFSPath, which all others are held to
 pub record FirstEntry (r : List ℕ) (version kind : ℕ) (first : Span) : Type 0 where
   pub version-is : version ≡ versionAt r 8
   pub kind-is : kind ≡ serverTypeAt r 8
-  pub first-is : spanned r first ≡ prefixAt r 8
+  pub first-is : prefixAt r 8 ≡ some (spanned r first)
   pub first-inside : Inside r first
 
 unfoldable pub keptInside : List ℕ → Kept → Bool
@@ -37,7 +55,7 @@ pub record GoodReply (r : List ℕ) (prefix : Span) : Type 0 where
   pub short : length r < 4294967296
   pub long : 42 ≤ length r
   pub good : every (goodEntry r) (entries r) ≡ true
-  pub prefix-is : spanned r prefix ≡ prefixAt r 8
+  pub prefix-is : prefixAt r 8 ≡ some (spanned r prefix)
   pub prefix-inside : Inside r prefix
 
 -- every span that a reader hands on lies inside the reply, and at most 8 are handed on
@@ -66,6 +84,14 @@ noReferral a = record {
 unfoldable pub opensAt : ℕ → List ℕ → ℕ → Bool
 opensAt zero r e = false
 opensAt (suc i) r e = eqb (versionAt r e) 4 && entryFlag 4 r e
+
+-- the targets of the entries es, all of them read, i being before them
+unfoldable pub keptHere : ℕ → List ℕ → ℕ → Target
+keptHere i r e = record { path = unitsRead (targetAt r e); opens = opensAt i r e }
+
+unfoldable pub keptFrom : ℕ → List ℕ → List ℕ → List Target
+keptFrom i r [] = []
+keptFrom i r (e ∷ es) = keptHere i r e ∷ keptFrom (suc i) r es
 
 -- a kept target
 unfoldable pub targetShown : List ℕ → Kept → Target

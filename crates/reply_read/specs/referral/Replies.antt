@@ -2,6 +2,7 @@
 use Prim.Native.Nat.{ℕ, zero, suc, _+_}
 use mathlib.Core.Bool.{Bool, true, false, _&&_, _||_, not}
 use mathlib.Core.List.{List, [], _∷_, map}
+use mathlib.Core.Option.{Option, none, some}
 use lib.ListN.{length, take}
 use lib.Dec.{leb, eqb}
 use Rattle.laws.specs.Choice.{choose}
@@ -47,15 +48,37 @@ entries r = starts (referralCount r) 8 r
 unfoldable pub fits : ℕ → List ℕ → ℕ → Bool
 fits fixed r e = leb fixed (sizeAt r e) && leb (e + sizeAt r e) (length r)
 
--- A path that is read, normalised: good, at most 256 units, 2 components or more; [] of any other text.
-unfoldable pub pathOf : Text → List ℕ
-pathOf unterminated = []
+-- A path that is read, normalised: good, at most 256 units, 2 components or more; none of any other text.
+unfoldable pub pathOf : Text → Option (List ℕ)
+pathOf unterminated = none
 pathOf (terminated s) =
-    choose (goodPath s && (leb (length (normalised s)) pathUnits && leb 2 (componentCount (normalised s)))) (normalised s) []
+    choose (goodPath s && (leb (length (normalised s)) pathUnits && leb 2 (componentCount (normalised s)))) (some (normalised s)) none
 
-unfoldable pub isRead : List ℕ → Bool
-isRead [] = false
-isRead (u ∷ s) = true
+-- a path or name is read
+unfoldable pub isRead : Option (List ℕ) → Bool
+isRead none = false
+isRead (some s) = true
+
+-- two paths are read, and are equal names
+unfoldable pub sameRead : Option (List ℕ) → Option (List ℕ) → Bool
+sameRead none q = false
+sameRead (some p) none = false
+sameRead (some p) (some q) = sameName p q
+
+-- a prefix is read, and matches
+unfoldable pub matchesRead : Option (List ℕ) → List ℕ → Bool
+matchesRead none path = false
+matchesRead (some p) path = matches p path
+
+-- what is read of each, where every one is read
+unfoldable pub withFirst : {A : Type 0} → A → Option (List A) → Option (List A)
+withFirst a none = none
+withFirst a (some rest) = some (a ∷ rest)
+
+unfoldable pub allRead : {A : Type 0} → List (Option A) → Option (List A)
+allRead [] = some []
+allRead (none ∷ xs) = none
+allRead (some a ∷ xs) = withFirst a (allRead xs)
 
 -- Root, link and SYSVOL replies. Fixed length and TTL go by the version.
 unfoldable pub readable : ℕ → Bool
@@ -67,10 +90,10 @@ fixedLength v = 34
 unfoldable pub ttlAt : ℕ → List ℕ → ℕ → ℕ
 ttlAt v r e = u32At r (e + 8)
 
-unfoldable pub prefixAt : List ℕ → ℕ → List ℕ
+unfoldable pub prefixAt : List ℕ → ℕ → Option (List ℕ)
 prefixAt r e = pathOf (textOf 12 r e)
 
-unfoldable pub targetAt : List ℕ → ℕ → List ℕ
+unfoldable pub targetAt : List ℕ → ℕ → Option (List ℕ)
 targetAt r e = pathOf (textOf 16 r e)
 
 -- the numbers of one entry, held to the first one (at 8): a known version, ServerType 1 or 0, NameListReferral clear, one version and one ServerType
@@ -83,8 +106,7 @@ goodFields r e =
 
 -- one entry: its numbers, one DFSPath, and its target
 unfoldable pub goodEntry : List ℕ → ℕ → Bool
-goodEntry r e =
-    goodFields r e && (isRead (prefixAt r e) && (sameName (prefixAt r e) (prefixAt r 8) && isRead (targetAt r e)))
+goodEntry r e = goodFields r e && (sameRead (prefixAt r e) (prefixAt r 8) && isRead (targetAt r e))
 
 -- A kept target: its path, and whether a target set opens before it.
 pub record Target : Type 0 where
@@ -103,17 +125,23 @@ pub record Referral : Type 0 where
   pub prefix : List ℕ
   pub targets : List Target
 
+-- a target whose path is read
+unfoldable pub targetRead : Option (List ℕ) → Bool → Option Target
+targetRead none opens = none
+targetRead (some path) opens = some (record { path = path; opens = opens })
+
 -- "a boundary bit on a later one opens the next; version 3 has one set"
-unfoldable pub laterTarget : List ℕ → ℕ → Target
-laterTarget r e = record { path = targetAt r e; opens = eqb (versionAt r e) 4 && entryFlag 4 r e }
+unfoldable pub laterTarget : List ℕ → ℕ → Option Target
+laterTarget r e = targetRead (targetAt r e) (eqb (versionAt r e) 4 && entryFlag 4 r e)
 
 -- "The first target opens set one": no boundary is held for it
-unfoldable pub keptTargets : List ℕ → List ℕ → List Target
+unfoldable pub keptTargets : List ℕ → List ℕ → List (Option Target)
 keptTargets r [] = []
-keptTargets r (e ∷ es) = record { path = targetAt r e; opens = false } ∷ map (laterTarget r) es
+keptTargets r (e ∷ es) = targetRead (targetAt r e) false ∷ map (laterTarget r) es
 
-unfoldable pub referralIn : List ℕ → Referral
-referralIn r = record {
+-- what a reply says, with its prefix and its first 8 targets
+unfoldable pub referralSaid : List ℕ → List ℕ → List Target → Referral
+referralSaid r prefix targets = record {
   version = versionAt r 8;
   root = eqb (serverTypeAt r 8) 1;
   referralServers = headerFlag 1 r;
@@ -121,9 +149,18 @@ referralIn r = record {
   failback = eqb (versionAt r 8) 4 && headerFlag 4 r;
   count = referralCount r;
   ttl = ttlAt (versionAt r 8) r 8;
-  prefix = prefixAt r 8;
-  targets = keptTargets r (take 8 (entries r));
+  prefix = prefix;
+  targets = targets;
 }
+
+-- the same, where these are read
+unfoldable pub referralWith : List ℕ → Option (List ℕ) → Option (List Target) → Option Referral
+referralWith r none targets = none
+referralWith r (some prefix) none = none
+referralWith r (some prefix) (some targets) = some (referralSaid r prefix targets)
+
+unfoldable pub referralIn : List ℕ → Option Referral
+referralIn r = referralWith r (prefixAt r 8) (allRead (keptTargets r (take 8 (entries r))))
 
 -- What a reply is read as: malformed, without an entry, or what it says.
 pub data Reply (A : Type 0) : Type 0 where
@@ -131,12 +168,17 @@ pub data Reply (A : Type 0) : Type 0 where
   nothing : Reply A
   says : A → Reply A
 
+-- what is read, or that the reply is malformed
+unfoldable pub readOr : {A : Type 0} → Option A → Reply A
+readOr none = malformed
+readOr (some a) = says a
+
 -- "A reply longer than the size asked for, or under 8 bytes, is malformed; next NumberOfReferrals 0 is tested, then the rest."
-unfoldable pub readAs : {A : Type 0} → ℕ → List ℕ → Bool → A → Reply A
+unfoldable pub readAs : {A : Type 0} → ℕ → List ℕ → Bool → Option A → Reply A
 readAs size r good a =
-    choose (leb 8 (length r) && leb (length r) size) (choose (eqb (referralCount r) 0) nothing (choose good (says a) malformed)) malformed
+    choose (leb 8 (length r) && leb (length r) size) (choose (eqb (referralCount r) 0) nothing (choose good (readOr a) malformed)) malformed
 
 -- a reply to a root, link or SYSVOL request for the name asked
 unfoldable pub readReferral : ℕ → List ℕ → List ℕ → Reply Referral
 readReferral size asked r =
-    readAs size r (every (goodEntry r) (entries r) && matches (prefixAt r 8) asked) (referralIn r)
+    readAs size r (every (goodEntry r) (entries r) && matchesRead (prefixAt r 8) asked) (referralIn r)

@@ -5,11 +5,19 @@ use mathlib.Core.List.{List, _∷_}
 use Prim.Native.Nat.{ℕ, suc, _+_, _-_, _≤_, _<_}
 use native.Mathlib.Omega.{arith}
 use lib.ListN.{length, getD, List·getD-eq-default}
+use Rattle.laws.proofs.Every.{every-at}
 use Rattle.reply_read.specs.referral.Replies.{referralCount, sizeAt, starts, entries}
+use Rattle.reply_read.specs.referral.Code.{textShown}
+use Rattle.reply_read.specs.declared.referral.TextRead.{TextRead}
+use Rattle.reply_read.specs.declared.referral.TextRead.the-variants.{Bad}
+use Rattle.reply_read.specs.name_lists.NameLists.{domainAt, goodDomain}
 use Rattle.reply_read.specs.declared.referral.Answer.{Answer}
 use Rattle.reply_read.specs.declared.referral.Answer.the-variants.{Malformed, Nothing, Says}
-use Rattle.reply_read.proofs.referral.EntryLaws.{starts-cons}
-use Rattle.testing.specs.layouts.Code.{answerNumber, bitOf}
+use Rattle.reply_read.proofs.referral.TextLaws.{text-bad}
+use Rattle.reply_read.proofs.referral.EntryLaws.{unread, starts-cons}
+use Rattle.reply_read.proofs.referral.SaysLaws.{length-entries}
+use Rattle.reply_read.proofs.name_lists.ListLaws.{domain-read}
+use Rattle.testing.specs.layouts.Code.{answerNumber, bitOf, GoodDomains}
 
 pub bit-yes : {b : Bool} → b ≡ true → 1 ≡ bitOf b
 unfolding bitOf
@@ -32,6 +40,12 @@ number-past l k h = sym (List·getD-eq-default l 0 h)
 
 pub four-past : (b k : ℕ) → b ≤ k → (k ≡ b → ⊥) → (k ≡ b + 1 → ⊥) → (k ≡ b + 2 → ⊥) → (k ≡ b + 3 → ⊥) → b + 4 ≤ k
 four-past b k h p q r s = omega arith
+
+-- a good domain reply has a name in each of its entries
+pub domain-there : (r : List ℕ) (i : ℕ) → GoodDomains r i → (e : ℕ) → e ≡ getD (entries r) i 0 → {v : TextRead} → textShown r v ≡ domainAt r e → v ≡ Bad → ⊥
+domain-there r i g e p f h =
+    unread (text-bad r h f)
+    (domain-read r e (ap (goodDomain r) p ∙ every-at (goodDomain r) (entries r) (g .good) i 0 (omega (arith, g .there, length-entries r))))
 
 -- A reply that says something, by its number.
 pub says-two : (a : Answer) → answerNumber a ≡ 2 → Says ≡ a

@@ -4,6 +4,7 @@ use Prim.Native.Nat.{ℕ, _+_, _*_, _≤_, _<_}
 use mathlib.Core.Path.{_≡_}
 use mathlib.Core.Bool.{Bool, true, false}
 use mathlib.Core.List.{List, [], _∷_}
+use mathlib.Core.Option.{some}
 use lib.ListN.{length, getD}
 use Rattle.laws.specs.Lists.{every}
 use Rattle.reply_bytes.specs.declared.texts.Span.{Span}
@@ -77,5 +78,5 @@ pub record GoodDomains (r : List ℕ) (i : ℕ) : Type 0 where
 -- number k of its domain i
 pub record DomainNumber (r : List ℕ) (i k v : ℕ) : Type 0 where
   pub span : Span
-  pub is : spanned r span ≡ domainAt r (getD (entries r) i 0)
+  pub is : domainAt r (getD (entries r) i 0) ≡ some (spanned r span)
   pub number : v ≡ getD (spanOf span) k 0

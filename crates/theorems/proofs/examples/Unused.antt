@@ -2,6 +2,7 @@
 use mathlib.Core.Path.{_≡_, refl, ap, _∙_}
 use mathlib.Core.Bool.{false, _&&_}
 use mathlib.Core.List.{List, _∷_, map}
+use mathlib.Core.Option.{Option, none, some}
 use Prim.Native.Nat.{ℕ, zero, suc, _+_, _≤_}
 use native.Mathlib.Numerals.{add-one}
 use native.Mathlib.Omega.{arith}
@@ -9,7 +10,7 @@ use lib.ListN.{take}
 use Rattle.laws.specs.Lists.{every}
 use Rattle.reply_bytes.specs.texts.Bytes.{u16At, u32At, Text, textAt}
 use Rattle.reply_read.specs.name_lists.NameLists.{domainOf, bytesPast, textsAt, dcNames, goodDcs, readDcs, domainAt, goodDomain, readDomains}
-use Rattle.reply_read.specs.referral.Replies.{referralCount, headerFlag, versionAt, sizeAt, serverTypeAt, entryFlag, textOf, starts, entries, fits, pathOf, fixedLength, ttlAt, prefixAt, targetAt, goodFields, goodEntry, laterTarget, keptTargets, referralIn, readAs, readReferral}
+use Rattle.reply_read.specs.referral.Replies.{referralCount, headerFlag, versionAt, sizeAt, serverTypeAt, entryFlag, textOf, starts, entries, fits, pathOf, fixedLength, ttlAt, prefixAt, targetAt, goodFields, goodEntry, allRead, Target, targetRead, laterTarget, keptTargets, referralSaid, referralWith, referralIn, readAs, readReferral}
 
 module _ (a b c d : ℕ) (s : List ℕ) where
   abbrev one : List ℕ
@@ -98,7 +99,7 @@ module _ (a b c d : ℕ) (s : List ℕ) where
   unfolding keptTargets starts
   kept zero n e h = refl
   kept (suc k) zero e h = refl
-  kept (suc k) (suc n) e h = λ i. record { path = targets e h i; opens = false } ∷ later-all k n (e + sizeAt two e) (omega arith) i
+  kept (suc k) (suc n) e h = λ i. targetRead (targets e h i) false ∷ later-all k n (e + sizeAt two e) (omega arith) i
 
   count : referralCount one ≡ referralCount two
   unfolding referralCount
@@ -124,10 +125,15 @@ module _ (a b c d : ℕ) (s : List ℕ) where
   unfolding ttlAt u32At
   ttls v e h = rw (units (e + 8) (omega arith), units (e + 8 + 2) (omega arith))
 
+  said : (p : Option (List ℕ)) (ts : Option (List Target)) → referralWith one p ts ≡ referralWith two p ts
+  unfolding referralWith referralSaid
+  said none ts = refl
+  said (some p) none = refl
+  said (some p) (some ts) = rw (versions 8 first, types 8 first, header 1, header 2, header 4, count, ttls (versionAt two 8) 8 first)
+
   same : referralIn one ≡ referralIn two
   unfolding referralIn
-  same =
-      rw (versions 8 first, types 8 first, header 1, header 2, header 4, count, ttls (versionAt two 8) 8 first, prefixes 8 first, targets-kept)
+  same = said _ _ ∙ (λ i. referralWith two (prefixes 8 first i) (allRead (targets-kept i)))
 
   -- a root, link or SYSVOL reply
   pub path-consumed-unused : (size : ℕ) (asked : List ℕ) → readReferral size asked one ≡ readReferral size asked two

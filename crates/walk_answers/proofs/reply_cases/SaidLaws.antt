@@ -21,12 +21,13 @@ use Rattle.cache.specs.order.Entries.{Target}
 use Rattle.cache.specs.order.Order.{goodPrefix, goodTarget, firstOpensNone, goodReferral}
 use Rattle.cache.proofs.order.KindLaws.{prefix-short, good-referral}
 use Rattle.reply_read.specs.referral.Replies as replies
-use Rattle.reply_read.specs.referral.Replies.{entries, prefixAt, targetAt, isRead, goodFields, goodEntry, laterTarget, keptTargets, referralIn, readReferral, says}
+use Rattle.reply_read.specs.referral.Replies.{readReferral}
 use Rattle.reply_read.specs.referral.Code.{ReferralInside, keptInside, isInside, targetShown, referralShown, denoted}
 use Rattle.reply_read.specs.declared.referral.Kept.{Kept}
 use Rattle.reply_read.specs.declared.referral.ReferralFound.{ReferralFound}
 use Rattle.reply_read.specs.declared.referral.Answer.the-variants.{Says}
-use Rattle.reply_read.proofs.referral.SaysLaws.{Read, read-says, path-normal, Sound, says-sound, denoted-says}
+use Rattle.reply_read.proofs.referral.SaysLaws as said
+use Rattle.reply_read.proofs.referral.SaysLaws.{Sound, says-sound, denoted-says}
 use Rattle.cache_store.specs.write_entry.Code.{keptFits}
 use Rattle.cache_store.specs.entry_after_reply.Stored.{targetsIn, fresh}
 use Rattle.cache_store.specs.entry_after_reply.Code.{Storable}
@@ -84,27 +85,10 @@ first-whole k s p h =
 pathGood : replies.Target → Bool
 pathGood t = goodPrefix (t .path)
 
-target-good : (r : List ℕ) (e : ℕ) → goodEntry r e ≡ true → goodPrefix (targetAt r e) ≡ true
-unfolding goodEntry targetAt goodPrefix
-target-good r e h =
-    le-leb 2 _ (path-normal _ (and-right (sameName (prefixAt r e) (prefixAt r 8)) _ (and-right (isRead (prefixAt r e)) _ (and-right (goodFields r e) _ h))))
-
-later-good : (r es : List ℕ) → every (goodEntry r) es ≡ true → every pathGood (map (laterTarget r) es) ≡ true
-unfolding every laterTarget pathGood
-later-good r [] h = refl
-later-good r (e ∷ es) h = and-both (target-good r e (and-left _ _ h)) (later-good r es (and-right (goodEntry r e) _ h))
-
-kept-good : (r es : List ℕ) → every (goodEntry r) es ≡ true → every pathGood (keptTargets r es) ≡ true
-unfolding every keptTargets pathGood
-kept-good r [] h = refl
-kept-good r (e ∷ es) h = and-both (target-good r e (and-left _ _ h)) (later-good r es (and-right (goodEntry r e) _ h))
-
-targets-good : (size : ℕ) (asked r : List ℕ) (x : replies.Referral) → readReferral size asked r ≡ says x → every pathGood (x .targets) ≡ true
-unfolding readReferral referralIn
-targets-good size asked r x h =
-    let w : Read size r (every (goodEntry r) (entries r) && matches (prefixAt r 8) asked) (referralIn r) x = read-says size r _ (referralIn r) x h in
-    subst (λ (y : replies.Referral). every pathGood (y .targets) ≡ true) (sym (w .same))
-    (kept-good r (take 8 (entries r)) (every-take (goodEntry r) 8 (entries r) (and-left _ _ (w .passed))))
+targets-good : (ts : List replies.Target) → every said.goodTarget ts ≡ true → every pathGood ts ≡ true
+unfolding every said.goodTarget pathGood goodPrefix
+targets-good [] h = refl
+targets-good (t ∷ ts) h = and-both (and-left (said.goodTarget t) _ h) (targets-good ts (and-right (said.goodTarget t) _ h))
 
 -- every kept target fits its place
 one : (r : List ℕ) (k : Kept) → keptInside r k ≡ true → pathGood (targetShown r k) ≡ true → keptFits r k ≡ true
@@ -150,7 +134,7 @@ module _ (size : ℕ) (asked r : List ℕ) (f : ReferralFound) (e : denoted r f 
   sound = says-sound size asked r (referralShown r f) (sym e ∙ denoted-says r f h)
 
   good-targets : every pathGood (referralShown r f .targets) ≡ true
-  good-targets = targets-good size asked r (referralShown r f) (sym e ∙ denoted-says r f h)
+  good-targets = targets-good (referralShown r f .targets) (sound .targets-normal)
 
   pub said-storable : ReferralInside r f → Storable r f
   unfolding referralShown

@@ -65,7 +65,7 @@ module _ {M : Type 1} (𝓤 : URA M) (H : Heap 𝓤) (A : Atoms 𝓤) (W : Given
   at = (spelt s ∷ [], (vint w64 n ∷ [], tt))
 
   abbrev found : Read
-  found = textEnd 0 (textAt (now s) n)
+  found = textEnd n 0 (textAt (now s) n)
 
   abbrev Post : Val → SProp 𝓤
   Post = walkOf 𝓤 H A here.ended stayed (here.clauses 𝓤 H A mem run) .post (((κ, tt), (q, tt), tt, (s, (n, tt)), at), tt)

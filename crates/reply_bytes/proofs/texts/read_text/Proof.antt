@@ -12,7 +12,7 @@ use Rattle.reply_bytes.proofs.texts.read_text.Statement.{statement}
 use Rattle.reply_bytes.proofs.texts.read_text.Tie as tie
 
 abbrev Inv-loop : tie.InvT-loop
-Inv-loop r at i₀ n₀ i n = (n ≤ i) × (textEnd 0 (textAt r at) ≡ textEnd n (textAt r i))
+Inv-loop r at i₀ n₀ i n = (n ≤ i) × (textEnd at 0 (textAt r at) ≡ textEnd at n (textAt r i))
 
 abbrev μ-loop : tie.MeasureT-loop
 μ-loop r at i₀ n₀ i n = length r - i
@@ -24,13 +24,13 @@ sub-if1 : tie.Need-sub-if1 Inv-loop μ-loop
 sub-if1 c = search needs
 
 returns : tie.Need-returns Inv-loop μ-loop
-returns c = text-half (now (c .before .before .before .before .args .r)) (c .before .before .loop .i) (c .before .before .loop .n) (omega arith) (omega arith) ∙ sym (c .before .before .loop .inv .1)
+returns c = text-half (now (c .before .before .before .before .args .r)) (c .before .before .before .before .args .at) (c .before .before .loop .i) (c .before .before .loop .n) (omega arith) (omega arith) ∙ sym (c .before .before .loop .inv .1)
 
 unit-at-requires : tie.Need-unit-at-requires Inv-loop μ-loop
 unit-at-requires c κs = search needs
 
 returns-2 : tie.Need-returns-2 Inv-loop μ-loop
-returns-2 c = text-zero (now (c .before .before .before .before .before .before .args .r)) (c .before .before .before .before .loop .i) (c .before .before .before .before .loop .n) (omega arith) (c .before .unit-at .ensures) (c .if2 .taken) ∙ sym (c .before .before .before .before .loop .inv .1)
+returns-2 c = text-zero (now (c .before .before .before .before .before .before .args .r)) (c .before .before .before .before .before .before .args .at) (c .before .before .before .before .loop .i) (c .before .before .before .before .loop .n) (omega arith) (c .before .unit-at .ensures) (c .if2 .taken) ∙ sym (c .before .before .before .before .loop .inv .1)
 
 add-n : tie.Need-add-n Inv-loop μ-loop
 add-n c = search needs
@@ -42,10 +42,10 @@ loop-less : tie.Need-loop-less Inv-loop μ-loop
 loop-less c = search needs
 
 loop-again : tie.Need-loop-again Inv-loop μ-loop
-loop-again c = (search needs, c .before .before .before .before .loop .inv .1 ∙ text-more (now (c .before .before .before .before .before .before .args .r)) (c .before .before .before .before .loop .i) (c .before .before .before .before .loop .n) (omega arith) (c .before .unit-at .ensures) (c .if2 .left))
+loop-again c = (search needs, c .before .before .before .before .loop .inv .1 ∙ text-more (now (c .before .before .before .before .before .before .args .r)) (c .before .before .before .before .before .before .args .at) (c .before .before .before .before .loop .i) (c .before .before .before .before .loop .n) (omega arith) (c .before .unit-at .ensures) (c .if2 .left))
 
 returns-3 : tie.Need-returns-3 Inv-loop μ-loop
-returns-3 c = text-over (now (c .before .before .before .args .r)) (c .before .loop .i) (c .before .loop .n) (omega arith) ∙ sym (c .before .loop .inv .1)
+returns-3 c = text-over (now (c .before .before .before .args .r)) (c .before .before .before .args .at) (c .before .loop .i) (c .before .loop .n) (omega arith) ∙ sym (c .before .loop .inv .1)
 
 pub read-text-spec : {M : Type 1} → statement M
 read-text-spec =

@@ -6,7 +6,8 @@ use Rattle.reply_bytes.specs.declared.reader.Marks.{Marks}
 use Rattle.reply_bytes.specs.declared.reader.Start.{Start}
 use Rattle.reply_read.proofs.referral.EntryLaws.{fits-room}
 use borrow.Author.Tests.{not-true, not-false}
-use Rattle.reply_read.proofs.name_lists.ListLaws.{domain-unfit, domain-version, domain-flag, domain-good}
+use Rattle.reply_read.proofs.name_lists.ListLaws.{domain-unfit, domain-version, domain-flag, domain-bad, domain-good}
+use Rattle.reply_read.proofs.referral.TextLaws.{text-bad, text-good}
 use borrow.Author.Needs.{needs}
 use Rattle.reply_read.proofs.name_lists.good_domain.Statement.{statement}
 use Rattle.reply_read.proofs.name_lists.good_domain.Tie as tie
@@ -36,9 +37,17 @@ domain-at-requires c κs =
     (omega (arith, w .0, w .1), omega arith)
 
 returns-4 : tie.Need-returns-4
-returns-4 c = let p12 = c .before .before .before .before .before .before .before .before .before .before .before .before in domain-good (now (p12 .args .r)) (p12 .args .e) (c .before .before .before .before .before .before .before .before .before .before .entry-fits .ensures) (not-false _ (c .before .before .before .before .before .before .before .before .before .if1 .left)) (ap (λ (z : Start). z .version) (c .before .before .before .before .before .before .before .before .read-start .ensures)) (c .before .before .before .before .before .before .if2 .left) (ap (λ (z : Marks). z .flags) (c .before .before .before .before .before .read-marks .ensures)) (c .before .before .before .has-flag .ensures) (not-false _ (c .before .before .if3 .left)) (c .before .domain-at .result) (c .before .domain-at .ensures .0)
+returns-4 c =
+    let a = c .before .before .before .before .before .before .before .before .before .before .before .before .before .args in
+    domain-bad (now (a .r)) (a .e) (text-bad (now (a .r)) (c .enum-told2 .given .1) (c .before .before .domain-at .ensures .0))
+
+returns-5 : tie.Need-returns-5
+returns-5 c =
+    let a = c .before .before .before .before .before .before .before .before .before .before .before .before .before .args in
+    domain-good (now (a .r)) (a .e) (c .before .before .before .before .before .before .before .before .before .before .before .entry-fits .ensures) (not-false _ (c .before .before .before .before .before .before .before .before .before .before .if1 .left)) (ap (λ (z : Start). z .version) (c .before .before .before .before .before .before .before .before .before .read-start .ensures)) (c .before .before .before .before .before .before .before .if2 .left)
+    (ap (λ (z : Marks). z .flags) (c .before .before .before .before .before .before .read-marks .ensures)) (c .before .before .before .before .has-flag .ensures) (not-false _ (c .before .before .before .if3 .left)) (text-good (now (a .r)) _ (c .enum-told .given .1) (c .before .before .domain-at .ensures .0))
 
 pub good-domain-spec : {M : Type 1} → statement M
 good-domain-spec =
     tie.close
-    (tie.spec (λ c κs. search needs) returns read-start-requires returns-2 read-marks-requires (λ c. search needs) (λ c κs. search needs) returns-3 domain-at-requires returns-4)
+    (tie.spec (λ c κs. search needs) returns read-start-requires returns-2 read-marks-requires (λ c. search needs) (λ c κs. search needs) returns-3 domain-at-requires (λ c. search needs) (λ c. search needs) returns-4 returns-5)

@@ -1,14 +1,15 @@
 -- The DC names are tested one after another.
 use denote.Ref.{now}
 use mathlib.Core.Path.{_≡_, sym, _∙_}
-use Prim.Native.Nat.{_-_, _≤_}
+use Prim.Native.Nat.{_+_, _-_, _≤_}
 use native.Mathlib.Omega.{arith}
 use Rattle.reply_read.specs.name_lists.NameLists.{dcOf}
 use Rattle.laws.specs.Lists.{every}
 use mathlib.Core.List.{map}
-use Rattle.reply_read.specs.name_lists.NameLists.{textsAt}
+use Rattle.reply_bytes.specs.texts.Bytes.{textAt}
+use Rattle.reply_read.specs.name_lists.NameLists.{bytesPast, textsAt}
 use Rattle.reply_read.specs.referral.Replies.{isRead}
-use Rattle.reply_read.proofs.name_lists.ListLaws.{names-hit, names-miss, names-end, names-start}
+use Rattle.reply_read.proofs.name_lists.ListLaws.{dc-bad, dc-good, dc-next, names-hit, names-miss, names-end, names-start}
 use borrow.Author.Needs.{needs}
 use Rattle.reply_read.proofs.name_lists.good_names.Statement.{statement}
 use Rattle.reply_read.proofs.name_lists.good_names.Tie as tie
@@ -26,7 +27,10 @@ dc-at-requires : tie.Need-dc-at-requires Inv-loop μ-loop
 dc-at-requires c κs = search needs
 
 returns : tie.Need-returns Inv-loop μ-loop
-returns c = sym (c .before .before .before .before .before .loop .inv .1 ∙ names-miss (now (c .before .before .before .before .before .before .before .args .r)) (c .before .before .before .before .before .before .before .args .n) (c .before .before .before .before .before .loop .i) (c .before .before .before .before .before .loop .at) (c .before .before .before .dc-at .result .name) (c .before .before .before .dc-at .ensures .0) (c .before .before .before .dc-at .ensures .1 .0) (omega arith) (c .if1 .taken))
+returns c =
+    let a = c .before .before .before .before .before .before .args in
+    let l = c .before .before .before .before .loop in
+    sym (l .inv .1 ∙ names-miss (now (a .r)) (a .n) (l .i) (l .at) (omega arith) (dc-bad (now (a .r)) (c .enum-told .given .1) (c .before .before .dc-at .ensures .0)))
 
 add-i : tie.Need-add-i Inv-loop μ-loop
 add-i c = search needs
@@ -35,7 +39,12 @@ loop-less : tie.Need-loop-less Inv-loop μ-loop
 loop-less c = search needs
 
 loop-again : tie.Need-loop-again Inv-loop μ-loop
-loop-again c = (search needs, c .before .before .before .before .before .loop .inv .1 ∙ names-hit (now (c .before .before .before .before .before .before .before .args .r)) (c .before .before .before .before .before .before .before .args .n) (c .before .before .before .before .before .loop .i) (c .before .before .before .before .before .loop .at) (c .before .before .before .dc-at .result .name) (c .before .before .before .dc-at .ensures .0) (c .before .before .before .dc-at .ensures .1 .0) (omega arith) (c .if1 .left))
+loop-again c =
+    let a = c .before .before .before .before .before .before .before .args in
+    let l = c .before .before .before .before .before .loop in
+    let e = c .before .next .given .1 in
+    let d = c .before .before .before .dc-at .ensures in
+    (search needs, l .inv .1 ∙ names-hit (now (a .r)) (a .n) (l .i) (l .at) _ (dc-good (now (a .r)) _ _ e (d .0)) (dc-next (now (a .r)) _ _ e (l .at + bytesPast (textAt (now (a .r)) (l .at))) (d .1)) (omega arith))
 
 returns-2 : tie.Need-returns-2 Inv-loop μ-loop
 returns-2 c = sym (c .before .loop .inv .1 ∙ names-end (now (c .before .before .before .args .r)) (c .before .before .before .args .n) (c .before .loop .i) (c .before .loop .at) (omega arith))
@@ -48,6 +57,8 @@ good-names-spec =
     μ-loop
     loop-holds
     dc-at-requires
+    (λ c. search needs)
+    (λ c. search needs)
     returns
     add-i
     loop-less

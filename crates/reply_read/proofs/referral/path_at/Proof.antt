@@ -4,22 +4,26 @@ use mathlib.Core.Path.{sym, ap, _∙_}
 use native.Mathlib.Omega.{arith}
 use Rattle.reply_bytes.proofs.texts.UnitLaws.{ended-at, unended-at}
 use Rattle.reply_read.specs.referral.Replies.{pathOf}
-use Rattle.reply_read.proofs.referral.TextLaws.{none-spanned, path-unended}
+use Rattle.reply_read.proofs.referral.TextLaws.{bad-text, path-unended}
 use borrow.Author.Needs.{needs}
 use Rattle.reply_read.proofs.referral.path_at.Statement.{statement}
 use Rattle.reply_read.proofs.referral.path_at.Tie as tie
 
 returns : tie.Need-returns
-returns c = (none-spanned (now (c .before .before .before .before .args .r)) (path-unended (unended-at (now (c .before .before .before .before .args .r)) (c .before .before .before .before .args .at) (sym (c .enum-told .given .1) ∙ c .before .before .read-text .ensures))), omega arith)
+returns c =
+    let a = c .before .before .before .before .args in
+    bad-text (now (a .r)) (path-unended (unended-at (now (a .r)) (a .at) (sym (c .enum-told .given .1) ∙ c .before .before .read-text .ensures)))
 
 path-span-requires : tie.Need-path-span-requires
 path-span-requires c κs =
-    let w = ended-at (now (c .before .before .before .before .before .args .r)) (c .before .before .before .before .before .args .at) _ (sym (c .before .units .given .1) ∙ c .before .before .before .read-text .ensures) in
+    let a = c .before .before .before .before .before .args in
+    let w = ended-at (now (a .r)) (a .at) _ (sym (c .before .s .given .1) ∙ c .before .before .before .read-text .ensures) in
     omega (arith, w .within)
 
 returns-2 : tie.Need-returns-2
 returns-2 c =
-    let w = ended-at (now (c .before .before .before .before .before .before .args .r)) (c .before .before .before .before .before .before .args .at) _ (sym (c .before .before .units .given .1) ∙ c .before .before .before .before .read-text .ensures) in
+    let a = c .before .before .before .before .before .before .args in
+    let w = ended-at (now (a .r)) (a .at) _ (sym (c .before .before .s .given .1) ∙ c .before .before .before .before .read-text .ensures) in
     (c .path-span .ensures .0 ∙ sym (ap pathOf (w .is)), c .path-span .ensures .1)
 
 pub path-at-spec : {M : Type 1} → statement M

@@ -1,12 +1,13 @@
 -- The path in a text: its body is found by its ends and its components are counted in one scan.
 use denote.Ref.{now}
 use mathlib.Core.Path.{sym, ap, _∙_}
+use mathlib.Core.Option.{some}
 use Prim.Native.Nat.{_-_}
 use native.Mathlib.Omega.{arith}
 use Rattle.reply_bytes.specs.texts.Code.{spanned, partOf}
 use Rattle.reply_bytes.specs.declared.texts.Span.{Span}
 use Rattle.reply_bytes.proofs.texts.UnitLaws.{length-spanned, part-spanned, inside-is}
-use Rattle.reply_read.proofs.referral.TextLaws.{none-spanned, path-unled-at, path-over, path-few, path-found}
+use Rattle.reply_read.proofs.referral.TextLaws.{bad-text, good-text, path-unled-at, path-over, path-few, path-found}
 use Rattle.unc.proofs.names.FormLaws.{body-within}
 use Rattle.unc.specs.names.Code.{goodCount}
 use borrow.Author.Needs.{needs}
@@ -14,7 +15,7 @@ use Rattle.reply_read.proofs.referral.path_span.Statement.{statement}
 use Rattle.reply_read.proofs.referral.path_span.Tie as tie
 
 returns : tie.Need-returns
-returns c = (none-spanned (now (c .before .before .before .args .r)) (path-unled-at (spanned (now (c .before .before .before .args .r)) (c .before .before .before .args .s)) (sym (c .before .lead .ensures) ∙ c .if1 .taken)), omega arith)
+returns c = bad-text (now (c .before .before .before .args .r)) (path-unled-at (spanned (now (c .before .before .before .args .r)) (c .before .before .before .args .s)) (sym (c .before .lead .ensures) ∙ c .if1 .taken))
 
 part-requires : tie.Need-part-requires
 part-requires c κs =
@@ -33,10 +34,10 @@ returns-2 c =
     let w = body-within (spanned (now (c .before .before .before .before .before .before .before .args .r)) (c .before .before .before .before .before .before .before .args .s)) (c .before .before .before .before .before .lead .result) (c .before .before .before .trail .result) 0 (c .before .before .before .before .before .lead .ensures) (c .before .before .before .trail .ensures) in
     let l = length-spanned (now (c .before .before .before .before .before .before .before .args .r)) (c .before .before .before .before .before .before .before .args .s) in
     let e = ap (λ (x : Span). goodCount 0 (spanned (now (c .before .before .before .before .before .before .before .args .r)) x)) (c .before .before .part .ensures) ∙ ap (goodCount 0) (part-spanned (now (c .before .before .before .before .before .before .before .args .r)) (c .before .before .before .before .before .before .before .args .s) (c .before .before .before .before .before .lead .result) (c .before .before .before .trail .result) (omega arith) (omega arith)) in
-    (none-spanned (now (c .before .before .before .before .before .before .before .args .r)) (path-few (spanned (now (c .before .before .before .before .before .before .before .args .r)) (c .before .before .before .before .before .before .before .args .s)) (c .before .before .before .before .before .lead .result) (c .before .before .before .trail .result) (c .before .good-count .result) (c .before .before .before .before .before .lead .ensures) (c .before .before .before .trail .ensures) (c .before .good-count .ensures ∙ e) (c .if2 .taken)), omega arith)
+    bad-text (now (c .before .before .before .before .before .before .before .args .r)) (path-few (spanned (now (c .before .before .before .before .before .before .before .args .r)) (c .before .before .before .before .before .before .before .args .s)) (c .before .before .before .before .before .lead .result) (c .before .before .before .trail .result) (c .before .good-count .result) (c .before .before .before .before .before .lead .ensures) (c .before .before .before .trail .ensures) (c .before .good-count .ensures ∙ e) (c .if2 .taken))
 
 returns-3 : tie.Need-returns-3
-returns-3 c = (none-spanned (now (c .before .before .before .before .before .before .before .before .args .r)) (path-over (spanned (now (c .before .before .before .before .before .before .before .before .args .r)) (c .before .before .before .before .before .before .before .before .args .s)) (c .before .before .before .before .before .before .lead .result) (c .before .before .before .before .trail .result) 0 (c .before .before .before .before .before .before .lead .ensures) (c .before .before .before .before .trail .ensures) (c .if3 .taken)), omega arith)
+returns-3 c = bad-text (now (c .before .before .before .before .before .before .before .before .args .r)) (path-over (spanned (now (c .before .before .before .before .before .before .before .before .args .r)) (c .before .before .before .before .before .before .before .before .args .s)) (c .before .before .before .before .before .before .lead .result) (c .before .before .before .before .trail .result) 0 (c .before .before .before .before .before .before .lead .ensures) (c .before .before .before .before .trail .ensures) (c .if3 .taken))
 
 part-requires-2 : tie.Need-part-requires-2
 part-requires-2 c κs =
@@ -50,7 +51,7 @@ returns-4 c =
     let l = length-spanned (now (c .before .before .before .before .before .before .before .before .before .args .r)) (c .before .before .before .before .before .before .before .before .before .args .s) in
     let e = ap (λ (x : Span). goodCount 0 (spanned (now (c .before .before .before .before .before .before .before .before .before .args .r)) x)) (c .before .before .before .before .part .ensures) ∙ ap (goodCount 0) (part-spanned (now (c .before .before .before .before .before .before .before .before .before .args .r)) (c .before .before .before .before .before .before .before .before .before .args .s) (c .before .before .before .before .before .before .before .lead .result) (c .before .before .before .before .before .trail .result) (omega arith) (omega arith)) in
     let f = ap (spanned (now (c .before .before .before .before .before .before .before .before .before .args .r))) (c .part2 .ensures) ∙ part-spanned (now (c .before .before .before .before .before .before .before .before .before .args .r)) (c .before .before .before .before .before .before .before .before .before .args .s) (c .before .before .before .before .before .before .before .lead .result - 1) (c .before .before .before .before .before .trail .result) (omega arith) (omega arith) in
-    (f ∙ path-found (spanned (now (c .before .before .before .before .before .before .before .before .before .args .r)) (c .before .before .before .before .before .before .before .before .before .args .s)) (c .before .before .before .before .before .before .before .lead .result) (c .before .before .before .before .before .trail .result) (c .before .before .before .good-count .result) (c .before .before .before .before .before .before .before .lead .ensures) (c .before .before .before .before .before .trail .ensures) (c .before .before .before .good-count .ensures ∙ e) (c .before .before .before .before .before .before .if1 .left) (omega arith) (omega arith), inside-is (now (c .before .before .before .before .before .before .before .before .before .args .r)) (c .part2 .result) (partOf (c .before .before .before .before .before .before .before .before .before .args .s) (c .before .before .before .before .before .before .before .lead .result - 1) (c .before .before .before .before .before .trail .result)) (c .part2 .ensures) (omega arith))
+    good-text (now (c .before .before .before .before .before .before .before .before .before .args .r)) (c .part2 .result) ((λ i. some (f i)) ∙ path-found (spanned (now (c .before .before .before .before .before .before .before .before .before .args .r)) (c .before .before .before .before .before .before .before .before .before .args .s)) (c .before .before .before .before .before .before .before .lead .result) (c .before .before .before .before .before .trail .result) (c .before .before .before .good-count .result) (c .before .before .before .before .before .before .before .lead .ensures) (c .before .before .before .before .before .trail .ensures) (c .before .before .before .good-count .ensures ∙ e) (c .before .before .before .before .before .before .if1 .left) (omega arith) (omega arith)) (inside-is (now (c .before .before .before .before .before .before .before .before .before .args .r)) (c .part2 .result) (partOf (c .before .before .before .before .before .before .before .before .before .args .s) (c .before .before .before .before .before .before .before .lead .result - 1) (c .before .before .before .before .before .trail .result)) (c .part2 .ensures) (omega arith))
 
 pub path-span-spec : {M : Type 1} → statement M
 path-span-spec =

@@ -2,16 +2,17 @@
 ghost use mathlib.Core.Path.{_≡_};
 ghost use mathlib.Core.Bool.{true, _&&_, not};
 ghost use mathlib.Core.List.{map};
-ghost use Prim.Native.Nat.{_-_, _≤_, _<_};
+ghost use Prim.Native.Nat.{_-_, _^_, _≤_, _<_};
 ghost use lib.ListN.{take};
 ghost use Rattle.laws.specs.Lists.{every, part};
 ghost use Rattle.unc.specs.names.Names.{sameName};
-ghost use Rattle.reply_bytes.specs.texts.Code.{Inside};
+ghost use Rattle.reply_bytes.specs.texts.Code.{spanned, Inside};
 ghost use Rattle.reply_read.specs.referral.Code.{keptInside};
 ghost use Rattle.cache.specs.places.Layout.{placeCount, placeAt, listCount};
 ghost use Rattle.cache_store.specs.equivalent_targets.Equivalence.{sameTargets, paths, sets, sameSets, equivalent};
-ghost use Rattle.cache_store.specs.equivalent_targets.Code.{matched, unmarked, firstPlace};
+ghost use Rattle.cache_store.specs.equivalent_targets.Code.{matched, unmarked, firstPlace, marksIn, startOf, sizeOf, namesAt, Spans};
 ghost use Rattle.cache_store.specs.equivalent_targets.Code.{heldTargets, givenPath, givenTargets, boundaries, givenBoundaries, setEnd};
+use reply_bytes::texts::Span;
 use reply_read::referral::Kept;
 
 // The most targets of an entry.
@@ -20,54 +21,104 @@ const TARGETS: u16 = 8;
 // The version whose replies have target sets.
 const SETS: u16 = 4;
 
-// Whether a kept target is not marked and equal to x.
-fn is_match(x: &[u16], reply: &[u8], target: Kept, marked: bool) -> bool
-    requires { ⌜ Inside (now reply) (target .path) ⌝ }
-    ensures { λ r. ⌜ r ≡ (not marked && sameName (now (x .entry)) (givenPath (now (reply .entry)) target)) ⌝ }
+// The marks of the reply's targets are the bits of one number, the lowest that of the first target compared: 0 where it is taken.
+const UNMARKED: u32 = 255;
+
+const MARKS: [u32; 8] = [1, 2, 4, 8, 16, 32, 64, 128];
+
+fn mark(n: usize) -> u32
+    requires { ⌜ n < 8 ⌝ }
+    ensures { λ r. ⌜ r ≡ 2 ^ n ⌝ }
+{
+    MARKS[n]
+}
+
+// Where the texts of the kept targets start in the reply.
+fn starts_of(kept: [Kept; 8]) -> [usize; 8]
+    ensures { λ r. ⌜ r ≡ map startOf kept ⌝ }
+{
+    let mut starts = [0; 8];
+    let mut n = 0;
+    while n < 8 {
+        let k = kept[n];
+        let s = k.path;
+        starts[n] = s.from;
+        n += 1;
+    }
+    starts
+}
+
+// How many units they have.
+fn sizes_of(kept: [Kept; 8]) -> [usize; 8]
+    ensures { λ r. ⌜ r ≡ map sizeOf kept ⌝ }
+{
+    let mut sizes = [0; 8];
+    let mut n = 0;
+    while n < 8 {
+        let k = kept[n];
+        let s = k.path;
+        sizes[n] = s.units;
+        n += 1;
+    }
+    sizes
+}
+
+// Whether a target of the reply is not marked and equal to x.
+fn is_match(x: &[u16], reply: &[u8], target: Span, marked: bool) -> bool
+    requires { ⌜ Inside (now reply) target ⌝ }
+    ensures { λ r. ⌜ r ≡ (not marked && sameName (now (x .entry)) (spanned (now (reply .entry)) target)) ⌝ }
 {
     if marked {
         return false;
     }
-    let path = target.path;
-    reply_bytes::texts::same_span(reply, path, x)
+    reply_bytes::texts::same_span(reply, target, x)
 }
 
-// The place of the first of the kept targets from..to that is not marked and equal to x, else `to`.
+// The place of the first of the reply's targets from..to that is not marked and equal to x, else `to`.
 fn first_unmarked(
     x: &[u16],
     reply: &[u8],
-    kept: [Kept; 8],
+    starts: &[usize],
+    sizes: &[usize],
     from: usize,
     to: usize,
-    marks: [bool; 8],
+    marks: u32,
 ) -> usize
-    requires { ⌜ (from ≤ to) × ((to ≤ 8) × (every (keptInside (now reply)) (take to kept) ≡ true)) ⌝ }
-    ensures { λ r. ⌜ r ≡ firstPlace from (now (x .entry)) (part from (to - from) marks) (part from (to - from) (map (givenPath (now (reply .entry))) kept)) ⌝ }
+    requires { ⌜ (from ≤ to) × Spans (now reply) (now starts) (now sizes) to ⌝ }
+    ensures { λ r. ⌜ r ≡ firstPlace from (now (x .entry)) (marksIn (to - from) marks) (part from (to - from) (namesAt (now (reply .entry)) (now (starts .entry)) (now (sizes .entry)))) ⌝ }
 {
+    let mut left = marks;
     let mut j = from;
     while j < to {
-        if is_match(x, reply, kept[j], marks[j]) {
+        let target = Span {
+            from: starts[j],
+            units: sizes[j],
+        };
+        if is_match(x, reply, target, left % 2 == 0) {
             return j;
         }
+        left = left / 2;
         j += 1;
     }
     to
 }
 
 // Whether each of the entry's targets t..end is equal to one of the reply's unmarked targets from..to, each of these taken once: the one found is marked.
+// What it hands on to itself are numbers and what it was lent, so that its frame stays small.
 fn matched_from(
     cache: &[u16],
     i: usize,
     t: usize,
     end: usize,
     reply: &[u8],
-    kept: [Kept; 8],
+    starts: &[usize],
+    sizes: &[usize],
     from: usize,
     to: usize,
-    marks: [bool; 8],
+    marks: u32,
 ) -> bool
-    requires { ⌜ (i < placeCount (now cache)) × ((end ≤ listCount (placeAt i (now cache))) × ((from ≤ to) × ((to ≤ 8) × (every (keptInside (now reply)) (take to kept) ≡ true)))) ⌝ }
-    ensures { λ r. ⌜ r ≡ matched (part t (end - t) (paths (heldTargets i (now (cache .entry))))) (unmarked (part from (to - from) marks) (part from (to - from) (map (givenPath (now (reply .entry))) kept))) ⌝ }
+    requires { ⌜ (i < placeCount (now cache)) × ((end ≤ listCount (placeAt i (now cache))) × ((from ≤ to) × ((to ≤ 8) × Spans (now reply) (now starts) (now sizes) to))) ⌝ }
+    ensures { λ r. ⌜ r ≡ matched (part t (end - t) (paths (heldTargets i (now (cache .entry))))) (unmarked (marksIn (to - from) marks) (part from (to - from) (namesAt (now (reply .entry)) (now (starts .entry)) (now (sizes .entry))))) ⌝ }
 {
     if end <= t {
         return true;
@@ -75,7 +126,8 @@ fn matched_from(
     let j = first_unmarked(
         cache::places::text(cache, i, 1 + t),
         reply,
-        kept,
+        starts,
+        sizes,
         from,
         to,
         marks,
@@ -83,9 +135,19 @@ fn matched_from(
     if to <= j {
         return false;
     }
-    let mut next = marks;
-    next[j] = true;
-    matched_from(cache, i, t + 1, end, reply, kept, from, to, next)
+    let taken = mark(j - from);
+    matched_from(
+        cache,
+        i,
+        t + 1,
+        end,
+        reply,
+        starts,
+        sizes,
+        from,
+        to,
+        marks - taken,
+    )
 }
 
 // Whether the entry's targets start..end and the reply's targets from..to are the same.
@@ -105,7 +167,20 @@ fn same_set(
     if end - start != to - from {
         return false;
     }
-    matched_from(cache, i, start, end, reply, kept, from, to, [false; 8])
+    let starts = starts_of(kept);
+    let sizes = sizes_of(kept);
+    matched_from(
+        cache,
+        i,
+        start,
+        end,
+        reply,
+        &starts,
+        &sizes,
+        from,
+        to,
+        UNMARKED,
+    )
 }
 
 // How many targets the entry at place i has.

@@ -1,14 +1,17 @@
 -- Shapes of the code, proved equal to the rules; nothing here is to be believed.
-use Prim.Native.Nat.{ℕ, _+_, suc}
+use Prim.Native.Nat.{ℕ, _+_, _/_, _%_, _≤_, _<_, zero, suc}
 use mathlib.Core.Bool.{Bool, true, false, _&&_, _||_, not}
 use mathlib.Core.List.{List, [], _∷_, map}
-use lib.ListN.{drop}
+use lib.Dec.{eqb}
+use lib.ListN.{length, getD, drop}
 use Rattle.laws.specs.Choice.{choose}
+use Rattle.laws.specs.Listed.{listed}
 use Rattle.unc.specs.names.Names.{sameName}
 use Rattle.cache.specs.order.Entries.{Target}
 use Rattle.cache.specs.order.Memory.{referrals}
 use Rattle.cache_lookup.specs.Code.{entryAt}
-use Rattle.reply_bytes.specs.texts.Code.{spanned}
+use Rattle.reply_bytes.specs.texts.Code.{spanned, Inside}
+use Rattle.reply_bytes.specs.declared.texts.Span.{Span}
 use Rattle.reply_read.specs.declared.referral.Kept.{Kept}
 
 -- Matching one target at a time: each of the first list is equal to one of the second that was not taken before.
@@ -38,6 +41,31 @@ unfoldable pub firstPlace : ℕ → List ℕ → List Bool → List (List ℕ) �
 firstPlace n x ms [] = n
 firstPlace n x [] (y ∷ ys) = choose (sameName x y) n (firstPlace (suc n) x [] ys)
 firstPlace n x (m ∷ ms) (y ∷ ys) = choose (not m && sameName x y) n (firstPlace (suc n) x ms ys)
+
+-- the marks of n names, as the bits of a number, the lowest first: a name is marked where its bit is 0
+unfoldable pub marksIn : ℕ → ℕ → List Bool
+marksIn zero m = []
+marksIn (suc n) m = eqb (m % 2) 0 ∷ marksIn n (m / 2)
+
+-- where the text of a kept target starts in the reply, and its units
+unfoldable pub startOf : Kept → ℕ
+startOf k = k .path .from
+
+unfoldable pub sizeOf : Kept → ℕ
+sizeOf k = k .path .units
+
+-- the text of target j by its numbers, and all of them
+unfoldable pub spanIn : List ℕ → List ℕ → ℕ → Span
+spanIn starts sizes j = record { from = getD starts j 0; units = getD sizes j 0 }
+
+unfoldable pub namesAt : List ℕ → List ℕ → List ℕ → List (List ℕ)
+namesAt r starts sizes = listed (length starts) (λ j. spanned r (spanIn starts sizes j))
+
+-- the first n texts are there, inside the reply
+pub record Spans (r starts sizes : List ℕ) (n : ℕ) : Type 0 where
+  pub begun : n ≤ length starts
+  pub sized : n ≤ length sizes
+  pub within : (j : ℕ) → j < n → Inside r (spanIn starts sizes j)
 
 -- The two target lists that are compared: that of an entry, and that of a reply.
 

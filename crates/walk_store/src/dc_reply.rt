@@ -72,7 +72,7 @@ fn dcs_stored(
 }
 
 // The same with any buffer: with a shorter one the place is saved, all is done as with room for every request, and the place put back
-// where the request does not fit. It calls itself, so its frame, with the saved place, stands only while DCs are stored.
+// where the request does not fit. It calls itself, so that the compiler leaves it a function of its own: the saved place then stands in no other frame.
 fn dcs_put(
     refs: &[u16],
     doms: &mut [u16],
@@ -127,6 +127,54 @@ fn dcs_put(
     r
 }
 
+// The same, the place being saved only where the buffer is shorter than the longest request.
+fn dcs_taken(
+    refs: &[u16],
+    doms: &mut [u16],
+    rooms: &mut [u16],
+    len: usize,
+    left: u16,
+    size: u32,
+    clock: u32,
+    i: usize,
+    reply: &[u8],
+    found: DcsFound,
+    room: usize,
+) -> Rested
+    requires { ⌜ Ready (now refs) (now rooms) len × (DomainAt i (now doms) × StorableDcs (now reply) found) ⌝ }
+    ensures rest { λ r. ⌜ joined r (now (rooms .exit)) ≡ packed (dcsRest left (take len (now (rooms .entry))) size (dcsStored i (map (spanned (now (reply .entry))) (take (found .count) (found .kept))) (decode domains (now (doms .entry))))) ⌝ }
+    ensures cache { λ r. ⌜ now (doms .exit) ≡ dcsLeft room left (take len (now (rooms .entry))) size (dcsStored i (map (spanned (now (reply .entry))) (take (found .count) (found .kept))) (decode domains (now (doms .entry)))) (now (doms .entry)) ⌝ }
+{
+    if LONGEST <= room {
+        return dcs_stored(
+            refs,
+            doms,
+            rooms,
+            len,
+            left,
+            size,
+            clock,
+            i,
+            reply,
+            found,
+            room,
+        );
+    }
+    dcs_put(
+        refs,
+        doms,
+        rooms,
+        len,
+        left,
+        size,
+        clock,
+        i,
+        reply,
+        found,
+        room,
+    )
+}
+
 // The answer to a DC request: the reply's DCs into the entry at place i, that of the path's first component.
 pub fn dc_answer(
     refs: &[u16],
@@ -151,7 +199,7 @@ pub fn dc_answer(
     match answer {
         Answer::Malformed => walk_steps::steps::end_at(End::Malformed, 0, len, left, hit),
         Answer::Nothing => walk_steps::steps::end_at(End::NoDc, PATH_NOT_FOUND, len, left, hit),
-        Answer::Says => dcs_put(
+        Answer::Says => dcs_taken(
             refs,
             doms,
             rooms,

@@ -128,8 +128,8 @@ pub fn store_reply(
     ensures rest { λ r. ⌜ joined r (now (rooms .exit)) ≡ packed (storedRest left clock (take len (now (rooms .entry))) size sysvol (referralShown (now (reply .entry)) found) interlink (decode referrals (now (refs .entry))) (decode domains (now (doms .entry)))) ⌝ }
     ensures cache { λ r. ⌜ now (refs .exit) ≡ storedLeft room (storedRest left clock (take len (now (rooms .entry))) size sysvol (referralShown (now (reply .entry)) found) interlink (decode referrals (now (refs .entry))) (decode domains (now (doms .entry)))) (referralShown (now (reply .entry)) found) interlink clock (now (refs .entry)) ⌝ }
 {
-    if room < LONGEST {
-        return store_saved(
+    if LONGEST <= room {
+        return store_plain(
             refs,
             doms,
             rooms,
@@ -144,7 +144,24 @@ pub fn store_reply(
             room,
         );
     }
-    store_plain(
+    // Two calls, so that the compiler leaves `store_saved` a function of its own: the saved place then stands in no other frame.
+    if sysvol {
+        return store_saved(
+            refs,
+            doms,
+            rooms,
+            len,
+            left,
+            size,
+            clock,
+            reply,
+            found,
+            interlink,
+            true,
+            room,
+        );
+    }
+    store_saved(
         refs,
         doms,
         rooms,
@@ -155,7 +172,7 @@ pub fn store_reply(
         reply,
         found,
         interlink,
-        sysvol,
+        false,
         room,
     )
 }

@@ -16,10 +16,17 @@ const GONE: u32 = 27 << 16;
 struct Host {
     caches: Caches,
     walk: Vec<u16>,
+    // the limit of the walk, and the bytes of stack that its last measured call took
+    limit: u32,
+    took: usize,
 }
 
 /// What the walk waits for, or its end, as the vectors print it; or what is wrong with how it is shown.
 impl Host {
+    fn new(caches: &[&str]) -> Host {
+        Host { caches: Caches::read(caches), walk: vec![0; WALK], limit: 0, took: 0 }
+    }
+
     // A text that is shown: the whole of it, 10 with one unit less, and nothing written past it.
     fn text(&self, what: &str, ask: impl Fn(&mut [u16]) -> u32) -> Result<Vec<u16>, String> {
         let mut room = vec![FILL; 300];
@@ -64,6 +71,21 @@ impl Host {
         self.numbers("the question", |o| calls::question(&self.walk, o))
     }
 
+    // A start and a referral answer of a walk that is measured.
+    fn start(&mut self, path: &str, limit: u32, buffer: usize) -> u32 {
+        stack::most();
+        let n = calls::start(&self.caches.refs, &self.caches.doms, &mut self.walk, &units(path), &units("dc1"), limit, 8192, 100, &mut vec![0; buffer]);
+        self.took = stack::most()["dfsc_start"].any;
+        n
+    }
+
+    fn answer(&mut self, reply: &[u8], buffer: usize) -> u32 {
+        stack::most();
+        let n = calls::answer_referral(&mut self.caches.refs, &mut self.caches.doms, &mut self.walk, 0, reply, 100, &mut vec![0; buffer]);
+        self.took = stack::most()["dfsc_answer_referral"].any;
+        n
+    }
+
     // The walk is at rest as the vectors say.
     fn shows(&self, gives: &str) -> Result<(), String> {
         let same = |what: &str, is: Vec<u16>, key: &str| {
@@ -102,13 +124,18 @@ impl Host {
         let clock = number(c.line, "now");
         let before = (self.caches.clone(), self.walk.clone());
         let gone = self.party() == GONE;
-        let n = match c.line.split(' ').next().unwrap() {
+        let word = c.line.split(' ').next().unwrap();
+        let limit = if word == "start" { number(c.line, "limit") } else { self.limit };
+        let n = stack::boxed(limit <= BOX_LIMIT && out_len >= LONGEST, || match word {
             "start" => calls::start(&self.caches.refs, &self.caches.doms, &mut self.walk, &units(field(c.line, "path")), &units(field(c.line, "boot")),
                 number(c.line, "limit"), number(c.line, "size"), clock, &mut out),
             "referral" => calls::answer_referral(&mut self.caches.refs, &mut self.caches.doms, &mut self.walk, hex_number(c.line, "status"),
                 &bytes(field(c.line, "reply")), clock, &mut out),
             _ => calls::answer_io(&mut self.caches.refs, &self.caches.doms, &mut self.walk, hex_number(c.line, "status"), clock, &mut out),
-        };
+        });
+        if n == 0 {
+            self.limit = limit;
+        }
         if has(c.gives, "refused") {
             if n != number(c.gives, "refused") {
                 return Err(format!("the call gives {n}"));
@@ -198,7 +225,7 @@ struct Counts {
 }
 
 fn run(s: &Scenario, counts: &mut Counts) {
-    let mut host = Host { caches: Caches::read(&s.caches), walk: vec![0; WALK] };
+    let mut host = Host::new(&s.caches);
     for c in &s.calls {
         match host.call(c) {
             Ok(()) => counts.calls += 1,
@@ -211,9 +238,11 @@ fn run(s: &Scenario, counts: &mut Counts) {
     }
 }
 
-// The goals: the bytes of stack that a start of 64 moves round may take, and any call with any limit.
-const ROUND_GOAL: usize = 8192;
-const CALL_GOAL: usize = 16384;
+// The bytes of stack that any call may take: in a box of 8 KB, with a limit of 32 moves at most and a buffer for every request; and with any limit and buffer.
+const BOX: usize = 8192;
+const BOX_LIMIT: u32 = 32;
+const ANY: usize = 16384;
+const LONGEST: usize = 516;
 
 // A cache of two places, the first a link that leads to itself by Interlink, and a domain with a DC.
 const WARM: [&str; 6] = [
@@ -226,14 +255,12 @@ const WARM: [&str; 6] = [
 ];
 
 // A walk that goes round by interlinks in a warm cache: `limit` moves, no question, end 24. The bytes of stack that its start took.
-fn round(limit: u32) -> usize {
-    let mut host = Host { caches: Caches::read(&WARM), walk: vec![0; WALK] };
-    stack::most();
-    let n = calls::start(&host.caches.refs, &host.caches.doms, &mut host.walk, &units("\\a\\b\\c"), &units("dc1"), limit, 8192, 100, &mut [0; 516]);
-    let used = stack::most()["dfsc_start"];
+fn round(limit: u32, buffer: usize) -> usize {
+    let mut host = Host::new(&WARM);
+    let n = host.start("\\a\\b\\c", limit, buffer);
     assert_eq!(n, 0);
     host.shows(&format!("end=24 status=00000000 path=\\a\\b\\c moves={limit}")).unwrap();
-    used
+    host.took
 }
 
 // A reply of version 3, with an entry for each target; `kind` is 1 for a root, 0 for a link by Interlink.
@@ -249,38 +276,50 @@ fn reply(kind: u16, prefix: &str, targets: &[String]) -> Vec<u8> {
     numbers.iter().flat_map(|u| u.to_le_bytes()).chain(texts).collect()
 }
 
-// The same after an answer: a root request to a DC brings a link that leads into the round. The buffer is shorter than the longest
-// request, so the place is saved.
-fn round_after(limit: u32) -> usize {
-    let mut host = Host { caches: Caches::read(&WARM), walk: vec![0; WALK] };
-    let mut out = [0; 515];
-    assert_eq!(calls::start(&host.caches.refs, &host.caches.doms, &mut host.walk, &units("\\d\\x\\c"), &units("dc1"), limit, 8192, 100, &mut out), 0);
+// A DC reply of version 3 with these names.
+fn dc_reply(names: &[&str]) -> Vec<u8> {
+    let text = |s: &str| -> Vec<u8> { units(s).iter().chain(&[0]).flat_map(|u| u.to_le_bytes()).collect() };
+    let special = text("\\d");
+    let numbers = [0u16, 1, 0, 0, 3, 18, 0, 2, 300, 0, 18, names.len() as u16, 18 + special.len() as u16];
+    numbers.iter().flat_map(|u| u.to_le_bytes()).chain(special).chain(names.iter().flat_map(|n| text(n))).collect()
+}
+
+// The same after an answer: a root request to a DC brings a link that leads into the round.
+fn round_after(limit: u32, buffer: usize) -> usize {
+    let mut host = Host::new(&WARM);
+    assert_eq!(host.start("\\d\\x\\c", limit, buffer), 0);
     assert_eq!(host.waits().unwrap(), Some([2, 8192, 1]));
-    stack::most();
-    let n = calls::answer_referral(&mut host.caches.refs, &mut host.caches.doms, &mut host.walk, 0, &reply(0, "\\d\\x", &["\\a\\b".to_string()]), 100, &mut out);
-    let used = stack::most()["dfsc_answer_referral"];
-    assert_eq!(n, 0);
+    assert_eq!(host.answer(&reply(0, "\\d\\x", &["\\a\\b".to_string()]), buffer), 0);
+    let used = host.took;
     host.shows(&format!("end=24 status=00000000 path=\\a\\b\\c moves={limit}")).unwrap();
     used
 }
 
 // An answer that refreshes an expired root of eight targets by the same eight, which are compared one inside the other.
-fn refreshed() -> usize {
+fn refreshed(limit: u32, buffer: usize) -> usize {
     let targets: Vec<String> = (0..8).map(|i| format!("\\t{i}\\s")).collect();
     let entry: Vec<String> = targets.iter().map(|t| format!("target boundary=0 path={t}")).collect();
     let mut lines = vec!["referrals places=1", "entry place=0 prefix=\\d\\x kind=root interlink=0 failback=0 ttl=1 taken=1 hint=7"];
     lines.extend(entry.iter().map(String::as_str));
     lines.extend(&WARM[3..]);
-    let mut host = Host { caches: Caches::read(&lines), walk: vec![0; WALK] };
-    let mut out = [0; 515];
-    assert_eq!(calls::start(&host.caches.refs, &host.caches.doms, &mut host.walk, &units("\\d\\x\\c"), &units("dc1"), 64, 8192, 100, &mut out), 0);
+    let mut host = Host::new(&lines);
+    assert_eq!(host.start("\\d\\x\\c", limit, buffer), 0);
     assert_eq!(host.waits().unwrap(), Some([2, 8192, 1]));
-    stack::most();
-    let n = calls::answer_referral(&mut host.caches.refs, &mut host.caches.doms, &mut host.walk, 0, &reply(1, "\\d\\x", &targets), 100, &mut out);
-    let used = stack::most()["dfsc_answer_referral"];
-    assert_eq!(n, 0);
+    assert_eq!(host.answer(&reply(1, "\\d\\x", &targets), buffer), 0);
+    let used = host.took;
     // the hint is kept, so the targets were equivalent
     host.shows("ask=io to=\\t7\\s name=\\t7\\s\\c moves=2").unwrap();
+    used
+}
+
+// An answer that stores DCs and asks the first of them.
+fn dcs_stored(limit: u32, buffer: usize) -> usize {
+    let mut host = Host::new(&["referrals places=1", "domains places=1", "domain place=0 name=d hint=none"]);
+    assert_eq!(host.start("\\d\\x\\c", limit, buffer), 0);
+    assert_eq!(host.waits().unwrap(), Some([1, 8192, 1]));
+    assert_eq!(host.answer(&dc_reply(&["dc5", "dc6"]), buffer), 0);
+    let used = host.took;
+    host.shows("ask=root to=dc5 name=\\d\\x size=8192 moves=2").unwrap();
     used
 }
 
@@ -330,23 +369,31 @@ fn all() -> bool {
         run(s, &mut counts);
     }
     println!("walks: {} scenarios, {} calls equal", list.len(), counts.calls);
-    let mut within = |what: &str, n: usize, goal: usize| {
-        println!("stack: {what} {n} bytes");
-        if n >= goal {
+    let mut within = |what: &str, n: usize, bound: usize| {
+        println!("stack: {what} {n} bytes, of {bound}");
+        if n >= bound {
             counts.wrong += 1;
-            println!("stack: {what}: {goal} bytes or more");
+            println!("stack: {what}: {bound} bytes or more");
         }
     };
-    for (name, n) in stack::most() {
-        within(name, n, CALL_GOAL);
+    // a start and an answer go by the limit and the buffer, the other calls by neither
+    for (name, most) in stack::most() {
+        let walks = ["dfsc_start", "dfsc_answer_referral", "dfsc_answer_io"].contains(&name);
+        within(name, most.any, if walks { ANY } else { BOX });
+        if walks {
+            within(&format!("{name}, limit {BOX_LIMIT} at most, a buffer of {LONGEST} bytes at least"), most.boxed, BOX);
+        }
     }
-    for limit in [1, 5, 32, 64] {
-        within(&format!("a start of {limit} moves round"), round(limit), ROUND_GOAL);
+    for limit in [1, 5] {
+        within(&format!("a start of {limit} moves round"), round(limit, LONGEST), BOX);
     }
-    for limit in [2, 64] {
-        within(&format!("an answer after 1 of {limit} moves, the rest round"), round_after(limit), CALL_GOAL);
+    for (limit, buffer, bound) in [(BOX_LIMIT, LONGEST, BOX), (64, LONGEST, ANY), (64, LONGEST - 1, ANY)] {
+        let with = format!("limit {limit}, a buffer of {buffer} bytes");
+        within(&format!("{with}: a start, all moves round"), round(limit, buffer), bound);
+        within(&format!("{with}: an answer after 1 move, the others round"), round_after(limit, buffer), bound);
+        within(&format!("{with}: an answer that refreshes eight targets by the same eight"), refreshed(limit, buffer), bound);
+        within(&format!("{with}: an answer that stores DCs"), dcs_stored(limit, buffer), bound);
     }
-    within("an answer that refreshes eight targets", refreshed(), CALL_GOAL);
     counts.wrong == 0
 }
 

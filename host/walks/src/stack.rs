@@ -1,6 +1,6 @@
 //! The stack that a call takes: the memory below the caller's frame is filled with a pattern, the call made, and the lowest byte that changed looked for.
 //! It has to run on a thread whose stack is mapped as a whole, so not on the main one.
-use std::cell::RefCell;
+use std::cell::{Cell, RefCell};
 use std::collections::BTreeMap;
 use std::hint::black_box;
 
@@ -9,8 +9,24 @@ const PATTERN: u64 = 0xA5A5_5A5A_C3C3_3C3C;
 const DEPTH: usize = 64 * 1024;
 const GAP: usize = 512;
 
+/// The greatest figure of a call: of any, and of those in a box (limit 32 at most, a buffer for every request).
+#[derive(Clone, Copy, Default)]
+pub struct Most {
+    pub any: usize,
+    pub boxed: usize,
+}
+
 thread_local! {
-    static MOST: RefCell<BTreeMap<&'static str, usize>> = RefCell::new(BTreeMap::new());
+    static MOST: RefCell<BTreeMap<&'static str, Most>> = RefCell::new(BTreeMap::new());
+    static BOXED: Cell<bool> = const { Cell::new(true) };
+}
+
+/// What `call` measures is of a walk in a box, or not.
+pub fn boxed<T>(yes: bool, call: impl FnOnce() -> T) -> T {
+    BOXED.with(|b| b.set(yes));
+    let r = call();
+    BOXED.with(|b| b.set(true));
+    r
 }
 
 #[inline(never)]
@@ -43,13 +59,16 @@ pub fn measured<T>(name: &'static str, call: impl FnOnce() -> T) -> T {
     let n = depth(top, from);
     MOST.with(|m| {
         let mut m = m.borrow_mut();
-        let most = m.entry(name).or_insert(0);
-        *most = n.max(*most);
+        let most = m.entry(name).or_default();
+        most.any = n.max(most.any);
+        if BOXED.with(Cell::get) {
+            most.boxed = n.max(most.boxed);
+        }
     });
     r
 }
 
 /// The greatest figure of each call since the last time that this was asked.
-pub fn most() -> BTreeMap<&'static str, usize> {
+pub fn most() -> BTreeMap<&'static str, Most> {
     MOST.with(|m| std::mem::take(&mut *m.borrow_mut()))
 }

@@ -4,6 +4,15 @@
 -- I/O answer) changes the caches at most by what it stores and by one hint, and then the steps go on from there: they call for an
 -- end, for a question, or for a replacement of the path (step 11), after which they go on from step 2. The steps themselves change no
 -- cache. A question put and a replacement are moves (document 01's word).
+--
+-- Where a step of document 000 stands; a definition comes after those that it uses, so that the last steps come first.
+--   1 started            6 step6, step6Host; failures: failed, failedHost    11 step11
+--   2 step2              7 step7                                             12 step12
+--   3 step3              8 step8; its outcomes: ioAnswered, ioFails;         13 step13
+--   4 step4                8.1.2: coversNothing                              14 step14
+--   5 step5              9 step9, linkRequest
+--                       10 step10
+-- Replies: referralAnswered (3.1.5.4), referralAnswer and storedTurn (3.1.5.4.3, 3.1.5.4.4), dcAnswer (3.1.5.4.2). The limit: goes.
 use Prim.Native.Nat.{ℕ, zero, suc, _+_, _*_, _/_, min}
 use mathlib.Core.Bool.{Bool, true, false, _&&_, _||_, not}
 use mathlib.Core.List.{List, [], _∷_}
@@ -69,6 +78,16 @@ pub data Called : Type 0 where
 
 abbrev pub ends : End → ℕ → Called
 ends e status = stops e status []
+
+-- Step 12: the path is no DFS path. Step 13: no DC of its domain. Step 14: it is a DFS path, and the request or the I/O failed.
+abbrev pub step12 : Called
+step12 = ends NotDfs 0
+
+abbrev pub step13 : ℕ → Called
+step13 status = ends NoDc status
+
+abbrev pub step14 : ℕ → Called
+step14 status = ends Failed status
 
 -- the entry of the longest match; the domain of an equal name
 unfoldable pub longest : List ℕ → List (Place Referral) → Option Referral
@@ -195,7 +214,7 @@ fromStep2 c w clock = record { caches = c; core = withHit (hitAt c w) w; called 
 -- Step 1: a path of one component is no DFS path (step 12).
 unfoldable pub started : Caches → Core → ℕ → Turn
 started c w clock =
-    choose (eqb (componentCount (w .path)) 1) (record { caches = c; core = w; called = ends NotDfs 0 }) (fromStep2 c w clock)
+    choose (eqb (componentCount (w .path)) 1) (record { caches = c; core = w; called = step12 }) (fromStep2 c w clock)
 
 -- The name asked: "\domain" for a DC request, the first two components for root and SYSVOL, the whole path for a link; the path of an I/O try.
 unfoldable pub nameAsked : Core → Question → List ℕ
@@ -274,20 +293,21 @@ doubled q = record {
 -- "SYSVOL and DC requests try one party; its failure ends 22 with its status. DCs exhausted: end 22 with 0xC000003A. Targets exhausted: end 23 with
 -- the last status. A root request to a host that fails: end 21 if the walk has had no cache hit and no successful referral, else end 23."
 unfoldable pub failedHost : Core → ℕ → Called
-failedHost w status = choose (w .hit) (ends Failed status) (ends NotDfs 0)
+failedHost w status = choose (w .hit) (step14 status) step12
 
 unfoldable pub failed : Caches → Core → Question → ℕ → Called
 failed c w q status = failing (q .kind)
   where
     failing : Kind → Called
-    failing Dc = ends NoDc status
-    failing Sysvol = ends NoDc status
+    failing Dc = step13 status
+    failing Sysvol = step13 status
     failing Root =
         choose (eqb (q .entry) 0) (failedHost w status)
-        (onward (partyCount c w q) q (λ place. step6 w place (q .began)) (ends NoDc pathNotFound))
+        (onward (partyCount c w q) q (λ place. step6 w place (q .began)) (step13 pathNotFound))
     failing Link =
-        onward (partyCount c w q) q (λ place. linkRequest w (q .entry) place (q .began) (q .covered)) (ends Failed status)
-    failing Io = ends Failed status
+        onward (partyCount c w q) q (λ place. linkRequest w (q .entry) place (q .began) (q .covered)) (step14 status)
+    -- cannot come: an I/O try has an answer of its own
+    failing Io = step14 status
 
 unfoldable pub referralFails : Caches → Core → Question → ℕ → Called
 referralFails c w q status =
@@ -330,6 +350,7 @@ emptyEnd Dc = NoDc
 emptyEnd Root = Failed
 emptyEnd Link = Failed
 emptyEnd Sysvol = NoDc
+-- cannot come: an I/O try has no reply
 emptyEnd Io = Failed
 
 -- A DC reply: the DCs are stored, and step 5.2 goes on.
@@ -353,10 +374,11 @@ coversNothing q r = q .covered && (r .root || leb (length (r .prefix)) (q .entry
 -- A root, link or SYSVOL reply that is stored: the hint of the party that answered, then the entry. The entry just stored is the one in use:
 -- SYSVOL goes to step 3, root and link replies to step 3 or 4 by their kind.
 unfoldable pub afterStore : Kind → Core → Referral → Called
-afterStore Dc w e = step7 w e
 afterStore Root w e = step7 w e
 afterStore Link w e = step7 w e
 afterStore Sysvol w e = asks (step3 w e)
+-- cannot come: neither stores a referral
+afterStore Dc w e = step7 w e
 afterStore Io w e = step7 w e
 
 unfoldable pub storedTurn : Caches → Core → Question → replies.Referral → ℕ → Turn
@@ -372,7 +394,7 @@ referralAnswer c w q clock malformed = record { caches = c; core = w; called = e
 referralAnswer c w q clock nothing = record { caches = c; core = w; called = ends (emptyEnd (q .kind)) pathNotFound }
 referralAnswer c w q clock (says r) =
     choose (coversNothing q r)
-    (record { caches = c; core = w; called = ends Failed pathNotCovered })
+    (record { caches = c; core = w; called = step14 pathNotCovered })
     (storedTurn (hintSet c w q) w q r clock)
 
 unfoldable pub referralSucceeds : Caches → Core → Question → List ℕ → ℕ → Turn
@@ -383,6 +405,7 @@ referralSucceeds c w q reply clock = by (q .kind)
     by Root = referralAnswer c w q clock (readReferral (q .size) (nameAsked w q) reply)
     by Link = referralAnswer c w q clock (readReferral (q .size) (nameAsked w q) reply)
     by Sysvol = referralAnswer c w q clock (readReferral (q .size) (nameAsked w q) reply)
+    -- cannot come: an I/O try has no reply
     by Io = record { caches = c; core = w; called = ends Malformed 0 }
 
 -- The answer to a referral request. The entry in use is looked up before the answer is read.
@@ -405,12 +428,13 @@ isOneOf n (m ∷ ms) = eqb n m || isOneOf n ms
 unfoldable pub ioFails : Core → Question → ℕ → Referral → Called
 ioFails w q status e =
     choose (eqb status pathNotCovered)
-    (choose (e .root) (asks (linkRequest w (q .entry) (q .party) (q .party) true)) (ends Failed status))
+    (choose (e .root) (asks (linkRequest w (q .entry) (q .party) (q .party) true)) (step14 status))
     (choose (isOneOf status nextTargetStatuses)
-    (onward (length (e .targets)) q (λ place. step8 w e place (q .began)) (ends Failed status))
-    (ends Failed status))
+    (onward (length (e .targets)) q (λ place. step8 w e place (q .began)) (step14 status))
+    (step14 status))
 
 unfoldable pub ioWith : Caches → Core → Question → ℕ → Option Referral → Turn
+-- cannot come: the entry was found to be in use
 ioWith c w q status none = record { caches = c; core = w; called = ends Gone 0 }
 ioWith c w q status (some e) =
     choose (eqb (severity status) 3)

@@ -128,9 +128,17 @@ fn long_name(tag: usize) -> Vec<u16> {
     name
 }
 
-/// The domain reply that takes longest: 32 different names of 255 units, and then the last of them in as many entries as 57,344 bytes hold.
-pub fn slow_domains() -> Vec<u8> {
-    let strings: Vec<u8> = (0..32).flat_map(|i| [vec![92], long_name(i), vec![0]].concat()).flat_map(u16::to_le_bytes).collect();
+/// A domain reply that takes long: 32 different names of 255 units, which differ in the last two, or in the first two, and then the last of them in as many
+/// entries as 57,344 bytes hold.
+pub fn slow_domains(at_their_ends: bool) -> Vec<u8> {
+    let name = |i| {
+        let mut name = long_name(i);
+        if !at_their_ends {
+            name.reverse();
+        }
+        name
+    };
+    let strings: Vec<u8> = (0..32).flat_map(|i| [vec![92], name(i), vec![0]].concat()).flat_map(u16::to_le_bytes).collect();
     let n = (57_344 - 8 - strings.len()) / 18;
     let mut r = [[0, 0], (n as u16).to_le_bytes(), [0, 0], [0, 0]].concat();
     for i in 0..n {

@@ -368,13 +368,15 @@ fn replies(goals: &mut Goals) {
     }
 }
 
-// The domain reply that takes longest.
+// The domain replies that take longest.
 fn domain_replies() {
-    let r = data::slow_domains();
-    let mut doms = vec![0; 32 * dfsc::PLACE_UNITS];
-    let mut call = || assert_eq!(dfsc::calls::read_domains(black_box(&r), SIZE, black_box(&mut doms)), 0);
-    let ns = (0..20).map(|_| round(1, &mut call)).fold(f64::MAX, f64::min);
-    println!("reading a domain reply of 32 names of 255 units that differ at their ends, {} bytes: {}", r.len(), shown(ns));
+    for (at_their_ends, at) in [(true, "ends"), (false, "beginnings")] {
+        let r = data::slow_domains(at_their_ends);
+        let mut doms = vec![0; 32 * dfsc::PLACE_UNITS];
+        let mut call = || assert_eq!(dfsc::calls::read_domains(black_box(&r), SIZE, black_box(&mut doms)), 0);
+        let ns = (0..20).map(|_| round(1, &mut call)).fold(f64::MAX, f64::min);
+        println!("reading a domain reply of 32 names of 255 units that differ at their {at}, {} bytes: {}", r.len(), shown(ns));
+    }
 }
 
 fn main() {

@@ -32,8 +32,9 @@
  * a slice that a call may write (no const) overlaps no other slice of that call. Every content and every length is safe to lend: what is not
  * as it should be is refused by a number. A call that is refused changes nothing that was lent. Elements past what a call writes stay.
  *
- * STACK. Each call takes under 16,384 bytes; a test measures it. Figures on x86-64: dfsc_answer_referral 14,400; dfsc_start 1,900, and with 64 moves
- * round by interlinks in a warm cache 6,700; dfsc_answer_io and dfsc_read_domains 1,700; every other call under 1,000.
+ * STACK. Each call takes under 16,384 bytes, and under 8,192 with a limit of 32 at most and an output buffer of 516 bytes or more; a test measures it.
+ * Figures on x86-64: dfsc_answer_referral 15,200 at most, 7,500 in that box; dfsc_start 2,100, and with 64 moves round by interlinks in a warm cache
+ * 6,700; dfsc_answer_io and dfsc_read_domains 1,700; every other call under 1,000.
  *
  * TEXT is UTF-16 code units without a terminator. A path has one or two leading backslashes and at most 256 units once it is normalised to
  * one. Names are equal where they differ in the case of A to Z only.

@@ -53,7 +53,7 @@ class Network:
         return self.sessions[key]
 
     def call(self, server, share, command, data, flags=0):
-        """One request on a share: its status and its answer. A session that died while it was idle is opened once more."""
+        """One request on a share: its status and its answer. A connection that died while it was idle is opened once more."""
         for attempt in (1, 2):
             fresh = attempt == 2 or server.lower() not in self.sessions
             smb = self.session(server)

@@ -28,39 +28,39 @@ use Rattle.theorems.specs.limit.Limits.{MovesOf}
 use Rattle.theorems.proofs.limit.CallLaws.{started-caches}
 use Rattle.theorems.proofs.limit.Along.{none-earlier}
 use Rattle.theorems.proofs.limit.Theorem.{limit-only-cuts}
-use Rattle.theorems.specs.examples.Examples.{memory, begin, abc, turning}
+use Rattle.theorems.specs.examples.Examples.{memory, begin, abc, interlinked}
 
 abbrev core : Bool → Core
 core hit = record { path = abc; size = 8192; hit = hit }
 
 -- five replacements of the path by itself
-again : {ms : List Move} {v : Core} {a : Called} → Makes turning 0 (core true) (replaces abc) ms v a → Makes turning 0 (core true) (replaces abc) (replacement abc ∷ ms) v a
+again : {ms : List Move} {v : Core} {a : Called} → Makes interlinked 0 (core true) (replaces abc) ms v a → Makes interlinked 0 (core true) (replaces abc) (replacement abc ∷ ms) v a
 unfolding step2 step2With longest held heldAt longestMatch longestFrom longerMatch prefixUnits matches begins pieces before sameName sameUnit folded choose expired age step7 step4 isSysvol components componentCount step11 replaced targetPath hitAt isThere withHit withPath
 again m = goes-on {p = abc} (omega arith) m
 
 abbrev pub fives : List Move
 fives = replacement abc ∷ replacement abc ∷ replacement abc ∷ replacement abc ∷ replacement abc ∷ []
 
-first : record { caches = turning; core = core true; called = replaces abc } ≡ started turning (core false) 0
+first : record { caches = interlinked; core = core true; called = replaces abc } ≡ started interlinked (core false) 0
 unfolding started fromStep2 step2 step2With longest held heldAt longestMatch longestFrom longerMatch prefixUnits matches begins pieces before sameName sameUnit folded choose expired age step7 step4 isSysvol components componentCount step11 replaced targetPath hitAt isThere withHit withPath
 first = refl
 
-calls-more : CallsForMore (started turning (core false) 0) 0 fives (core true)
+calls-more : CallsForMore (started interlinked (core false) 0) 0 fives (core true)
 unfolding callsOne
 calls-more =
     subst (λ (t : Turn). CallsForMore t 0 fives (core true)) first
     (record { called = replaces abc; made = again (again (again (again (again here)))); move = refl })
 
 -- the caches are good, so that the memory that they write is in order and holds them
-good : GoodCaches turning
+good : GoodCaches interlinked
 unfolding goodCache goodPlace keys distinct goodReferral goodPrefix goodTarget firstOpensNone normalisedCount isNormalised goodPath componentCount components pieces before leads body withoutTrail goodComponent nothingOrDots plain every choose
 good = record { refs = refl; doms = refl }
 
 blank : (n : ℕ) → eqb (length (replicate {A = ℕ} n 0)) n ≡ true
 blank n = eq-eqb _ n (length-replicate {A = ℕ} n 0)
 
-caches-are : cachesOf (encode referrals (turning .referrals)) (encode domains (turning .domains)) ≡ turning
-caches-are = caches-back turning good
+caches-are : cachesOf (encode referrals (interlinked .referrals)) (encode domains (interlinked .domains)) ≡ interlinked
+caches-are = caches-back interlinked good
 
 path-good : goodPath abc ≡ true
 unfolding goodPath pieces before leads body withoutTrail goodComponent nothingOrDots plain every choose
@@ -78,19 +78,19 @@ unfolding goodSize goodName goodComponent nothingOrDots plain every
 settings-good = refl
 
 abbrev pub turn : Turn
-turn = started (cachesOf (encode referrals (turning .referrals)) (encode domains (turning .domains))) (core false) 0
+turn = started (cachesOf (encode referrals (interlinked .referrals)) (encode domains (interlinked .domains))) (core false) 0
 
-opening : startOpening (memory turning) (begin abc) ≡ opens turn
+opening : startOpening (memory interlinked) (begin abc) ≡ opens turn
 unfolding startOpening memory begin
 opening =
-    choose-yes _ _ (caches-order turning good)
+    choose-yes _ _ (caches-order interlinked good)
     ∙ (choose-yes _ _ path-good
     ∙ (choose-yes _ _ path-short
     ∙ (choose-yes _ _ settings-good
     ∙ (choose-yes _ _ (blank 768)
-    ∙ ap (λ (p : List ℕ). opens (started (cachesOf (encode referrals (turning .referrals)) (encode domains (turning .domains))) (coreOf p 8192 false) 0)) normal))))
+    ∙ ap (λ (p : List ℕ). opens (started (cachesOf (encode referrals (interlinked .referrals)) (encode domains (interlinked .domains))) (coreOf p 8192 false) 0)) normal))))
 
-calls : CallsFor (startOpening (memory turning) (begin abc)) 0 0 6
+calls : CallsFor (startOpening (memory interlinked) (begin abc)) 0 0 6
 calls = record {
   turn = turn;
   opening = opening;
@@ -100,11 +100,11 @@ calls = record {
   number = refl;
 }
 
-turn-is : turn .caches ≡ turning
+turn-is : turn .caches ≡ interlinked
 turn-is = started-caches _ _ _ ∙ caches-are
 
-pub five-moves : MovesOf 5 (memory turning) (begin abc) start (madeIn turning fives)
+pub five-moves : MovesOf 5 (memory interlinked) (begin abc) start (madeIn interlinked fives)
 unfolding clockOf calls begin
 five-moves =
-    subst (λ (c : Caches). MovesOf 5 (memory turning) (begin abc) start (madeIn c fives)) turn-is
-    (limit-only-cuts (memory turning) (begin abc) 5 5 (omega arith) (omega arith) (omega arith) .then-cut start to-start none-earlier calls .1 .1)
+    subst (λ (c : Caches). MovesOf 5 (memory interlinked) (begin abc) start (madeIn c fives)) turn-is
+    (limit-only-cuts (memory interlinked) (begin abc) 5 5 (omega arith) (omega arith) (omega arith) .then-cut start to-start none-earlier calls .1 .1)

@@ -29,7 +29,7 @@ use Rattle.walk_calls.specs.calls.Calls.{Answered, startRest, startCall, answer
 use Rattle.walk_calls.specs.declared.call_end.Verdict.{Verdict}
 use Rattle.walk_calls.specs.declared.call_end.Verdict.the-variants.{Taken, BadPath, LongPath, BadSettings, NotInOrder, OutOfForm, ShortBuffer}
 use Rattle.theorems.specs.limit.Unlimited.{Opening, opens, refuses, restsAt}
-use Rattle.theorems.specs.limit.Calls.{Held, Start, Answer, referral, io, start, run, answered, answerClock, answerOut, seen, startOpening, eventOf, eventOpening, answerOpening}
+use Rattle.theorems.specs.limit.Calls.{Held, Start, Answer, referral, io, start, run, afterAnswer, answerClock, answerOut, observed, startOpening, eventOf, eventOpening, answerOpening}
 use Rattle.theorems.proofs.limit.Classify.{Fine, Closed, Followed, CutOff, classified, turned-away}
 
 -- what is read back from the walk that a rest leaves
@@ -63,8 +63,8 @@ module _ (l : ℕ) (boot out : List ℕ) (t : Turn) (x : Resting) (b : Back l bo
   unfolding closes
   result-shut h = choose-no _ _ h
 
-  good-seen : seen good ≡ restsAt (t .caches) (x .core) (x .rest) (l - x .left)
-  unfolding seen restsAt walkOf
+  good-seen : observed good ≡ restsAt (t .caches) (x .core) (x .rest) (l - x .left)
+  unfolding observed restsAt walkOf
   good-seen = λ j. record { core = b .core j; rest = b .rest j; count = l - x .left; refs = er j; doms = ed j }
 
   good-fine : Fine l boot good
@@ -75,7 +75,7 @@ module _ (l : ℕ) (boot out : List ℕ) (t : Turn) (x : Resting) (b : Back l bo
   unfolding outAfter
   closed-result = record {
     fits = λ h. ap (λ (o : Answered). o .left .verdict) (result-good h);
-    sees = λ h. ap seen (result-good h) ∙ good-seen;
+    sees = λ h. ap observed (result-good h) ∙ good-seen;
     writes = λ h. ap (λ (o : Answered). o .left .out) (result-good h);
     fine = λ h. subst (Fine l boot) (sym (result-good h)) good-fine;
     shut = λ h. ap (λ (y : Left). y .verdict) (result-shut h);
@@ -85,7 +85,7 @@ through : {l : ℕ} {boot out : List ℕ} {t : Turn} {x : Resting} {a b : Answer
     → (restFits (length out) x ≡ false → b .left .verdict ≡ ShortBuffer) → Closed l boot out t x a → Closed l boot out t x b
 through {l} {boot} y n c = record {
   fits = λ h. ap (λ (o : Answered). o .left .verdict) (y h) ∙ c .fits h;
-  sees = λ h. ap seen (y h) ∙ c .sees h;
+  sees = λ h. ap observed (y h) ∙ c .sees h;
   writes = λ h. ap (λ (o : Answered). o .left .out) (y h) ∙ c .writes h;
   fine = λ h. subst (Fine l boot) (sym (y h)) (c .fine h);
   shut = n;
@@ -93,15 +93,15 @@ through {l} {boot} y n c = record {
 
 -- an answer
 called : (o : Answered) (a : Answer)
-    → answered o a ≡ answerCall (eventOf (seen o) a) (answerClock a) (o .left .walk) (o .left .texts) (answerOut a) (o .refs) (o .doms)
-unfolding answered eventOf answerClock answerOut seen referralCall ioCall
+    → afterAnswer o a ≡ answerCall (eventOf (observed o) a) (answerClock a) (o .left .walk) (o .left .texts) (answerOut a) (o .refs) (o .doms)
+unfolding afterAnswer eventOf answerClock answerOut observed referralCall ioCall
 called o (referral status reply clock out) = refl
 called o (io status clock out) = refl
 
 -- what is known of the rest after an answer
 abbrev pub BackAfter : Answered → Answer → Type 0
 BackAfter o a =
-    (t : Turn) → (inOrder referrals (o .refs) && inOrder domains (o .doms)) ≡ true → inForm (o .left .walk) (o .left .texts) ≡ true → eventOf (seen o) a ≡ some t
+    (t : Turn) → (inOrder referrals (o .refs) && inOrder domains (o .doms)) ≡ true → inForm (o .left .walk) (o .left .texts) ≡ true → eventOf (observed o) a ≡ some t
     → Back (o .left .walk .limit) (bootIn (o .left .walk) (o .left .texts)) (turned (o .left .walk .limit - o .left .walk .moves) (answerClock a) t)
 
 -- a number that the tests before the steps give
@@ -128,46 +128,46 @@ module _ (o : Answered) (a : Answer) (form : inForm (o .left .walk) (o .left .te
   texts = o .left .texts
 
   abbrev This : Opening → Type 0
-  This p = Either (walk .limit) (answerClock a) (bootIn walk texts) (answerOut a) (walk .moves) (answered o a) p
+  This p = Either (walk .limit) (answerClock a) (bootIn walk texts) (answerOut a) (walk .moves) (afterAnswer o a) p
 
   in-order : (inOrder referrals (o .refs) && inOrder domains (o .doms)) ≡ true
-      → answered o a ≡ answers (eventOf (seen o) a) (answerClock a) walk texts (answerOut a) (o .refs) (o .doms)
+      → afterAnswer o a ≡ answers (eventOf (observed o) a) (answerClock a) walk texts (answerOut a) (o .refs) (o .doms)
   unfolding answerCall
   in-order h = called o a ∙ (choose-yes _ _ h ∙ choose-yes _ _ form)
 
-  opening-order : (inOrder referrals (o .refs) && inOrder domains (o .doms)) ≡ true → answerOpening (seen o) a ≡ eventOpening (eventOf (seen o) a)
-  unfolding answerOpening seen
+  opening-order : (inOrder referrals (o .refs) && inOrder domains (o .doms)) ≡ true → answerOpening (observed o) a ≡ eventOpening (eventOf (observed o) a)
+  unfolding answerOpening observed
   opening-order h = choose-yes _ _ h
 
-  answer-no-order : (inOrder referrals (o .refs) && inOrder domains (o .doms)) ≡ false → This (answerOpening (seen o) a)
-  unfolding answerOpening seen answerCall
+  answer-no-order : (inOrder referrals (o .refs) && inOrder domains (o .doms)) ≡ false → This (answerOpening (observed o) a)
+  unfolding answerOpening observed answerCall
   answer-no-order h =
-      let v : answered o a .left .verdict ≡ NotInOrder = ap (λ (x : Answered). x .left .verdict) (called o a ∙ choose-no _ _ h) in
-      subst This (sym (choose-no (eventOpening (eventOf (seen o) a)) (refuses NotInOrder) h)) (inl (turned-early _ _ _ _ _ _ NotInOrder v refl))
+      let v : afterAnswer o a .left .verdict ≡ NotInOrder = ap (λ (x : Answered). x .left .verdict) (called o a ∙ choose-no _ _ h) in
+      subst This (sym (choose-no (eventOpening (eventOf (observed o) a)) (refuses NotInOrder) h)) (inl (turned-early _ _ _ _ _ _ NotInOrder v refl))
 
-  answer-none : (inOrder referrals (o .refs) && inOrder domains (o .doms)) ≡ true → eventOf (seen o) a ≡ none → This (answerOpening (seen o) a)
+  answer-none : (inOrder referrals (o .refs) && inOrder domains (o .doms)) ≡ true → eventOf (observed o) a ≡ none → This (answerOpening (observed o) a)
   unfolding eventOpening answers
   answer-none h e =
-      let v : answered o a .left .verdict ≡ OutOfForm =
+      let v : afterAnswer o a .left .verdict ≡ OutOfForm =
       ap (λ (x : Answered). x .left .verdict) (in-order h ∙ ap (λ (y : Option Turn). answers y (answerClock a) walk texts (answerOut a) (o .refs) (o .doms)) e) in
       subst This (sym (opening-order h ∙ ap eventOpening e)) (inl (turned-early _ _ _ _ _ _ OutOfForm v refl))
 
-  answer-some : (inOrder referrals (o .refs) && inOrder domains (o .doms)) ≡ true → (t : Turn) → eventOf (seen o) a ≡ some t → This (answerOpening (seen o) a)
+  answer-some : (inOrder referrals (o .refs) && inOrder domains (o .doms)) ≡ true → (t : Turn) → eventOf (observed o) a ≡ some t → This (answerOpening (observed o) a)
   unfolding eventOpening answers
   answer-some h t e =
-      let v : answered o a ≡ answers (some t) (answerClock a) walk texts (answerOut a) (o .refs) (o .doms) =
+      let v : afterAnswer o a ≡ answers (some t) (answerClock a) walk texts (answerOut a) (o .refs) (o .doms) =
       in-order h ∙ ap (λ (y : Option Turn). answers y (answerClock a) walk texts (answerOut a) (o .refs) (o .doms)) e in
       subst This (sym (opening-order h ∙ ap eventOpening e))
-      (classified (walk .limit) (answerClock a) (bootIn walk texts) (answerOut a) (walk .moves) few t (answered o a)
+      (classified (walk .limit) (answerClock a) (bootIn walk texts) (answerOut a) (walk .moves) few t (afterAnswer o a)
       (through (λ f. v ∙ choose-yes _ _ f) (λ f. ap (λ (x : Answered). x .left .verdict) (v ∙ choose-no _ _ f))
       (closed-result (walk .limit) (bootIn walk texts) (answerOut a) t (turned (walk .limit - walk .moves) (answerClock a) t) (back t h form e) walk texts
       (encode referrals (t .caches .referrals)) (encode domains (t .caches .domains)) refl refl)))
 
-  pub answer-either : This (answerOpening (seen o) a)
-  answer-either = go (told (inOrder referrals (o .refs) && inOrder domains (o .doms))) (eventOf (seen o) a) refl
+  pub answer-either : This (answerOpening (observed o) a)
+  answer-either = go (told (inOrder referrals (o .refs) && inOrder domains (o .doms))) (eventOf (observed o) a) refl
     where
       go : ((inOrder referrals (o .refs) && inOrder domains (o .doms)) ≡ true) ⊎ ((inOrder referrals (o .refs) && inOrder domains (o .doms)) ≡ false)
-          → (e : Option Turn) → eventOf (seen o) a ≡ e → This (answerOpening (seen o) a)
+          → (e : Option Turn) → eventOf (observed o) a ≡ e → This (answerOpening (observed o) a)
       go (inr h) e f = answer-no-order h
       go (inl h) none f = answer-none h f
       go (inl h) (some t) f = answer-some h t f

@@ -15,7 +15,7 @@ use Rattle.walk_calls.specs.calls.Calls.{Answered}
 use Rattle.walk_calls.specs.declared.call_end.Verdict.{Verdict}
 use Rattle.walk_calls.specs.declared.call_end.Verdict.the-variants.{Taken, ShortBuffer}
 use Rattle.theorems.specs.limit.Unlimited.{Move, Opening, opens, refuses, madeIn, restsAt, lastMove, Rests, CallsForMore, Brings, number, comes, Call, short, taken, refused, CallsFor, Within, rests as within-rests}
-use Rattle.theorems.specs.limit.Calls.{seen, Moved, no-move, to-rest, to-limit, Same, same-number, same-rest}
+use Rattle.theorems.specs.limit.Calls.{observed, Moved, no-move, to-rest, to-limit, Same, same-number, same-rest}
 use Rattle.theorems.proofs.limit.Goes.{ToRest, Cut, rests-or-cut}
 use Rattle.theorems.proofs.limit.Once.{behind}
 
@@ -29,7 +29,7 @@ pub record Fine (l : ℕ) (boot : List ℕ) (o : Answered) : Type 0 where
 -- a call whose steps rest so is taken, or refused by 10
 pub record Closed (l : ℕ) (boot out : List ℕ) (t : Turn) (x : Resting) (o : Answered) : Type 0 where
   pub fits : restFits (length out) x ≡ true → o .left .verdict ≡ Taken
-  pub sees : restFits (length out) x ≡ true → seen o ≡ restsAt (t .caches) (x .core) (x .rest) (l - x .left)
+  pub sees : restFits (length out) x ≡ true → observed o ≡ restsAt (t .caches) (x .core) (x .rest) (l - x .left)
   pub writes : restFits (length out) x ≡ true → o .left .out ≡ withRequest (requestName (x .core) (x .rest)) out
   pub fine : restFits (length out) x ≡ true → Fine l boot o
   pub shut : restFits (length out) x ≡ false → o .left .verdict ≡ ShortBuffer
@@ -46,7 +46,7 @@ pub record Followed (l clock : ℕ) (boot out : List ℕ) (n : ℕ) (o : Answere
 pub record CutOff (l clock : ℕ) (boot out : List ℕ) (n : ℕ) (o : Answered) (p : Opening) : Type 0 where
   pub calls : CallsFor p clock n (suc l)
   pub is-taken : o .left .verdict ≡ Taken
-  pub sees : seen o ≡ restsAt (calls .turn .caches) (calls .core) (ended LimitReached 0 []) l
+  pub sees : observed o ≡ restsAt (calls .turn .caches) (calls .core) (ended LimitReached 0 []) l
   pub writes : o .left .out ≡ out
   pub moves : Moved l clock boot n o p (madeIn (calls .turn .caches) (calls .moves))
   pub fine : Fine l boot o
@@ -96,7 +96,7 @@ module _ (l clock : ℕ) (boot out : List ℕ) (n : ℕ) (few : n ≤ l) (t : Tu
     unfolding restFits rests
     fit-is = ap (restFits (length out)) is
 
-    sees-is : nameFits (length out) (requestName (x .core) (x .rest)) ≡ true → seen o ≡ restsAt (t .caches) (x .core) (x .rest) (n + length made)
+    sees-is : nameFits (length out) (requestName (x .core) (x .rest)) ≡ true → observed o ≡ restsAt (t .caches) (x .core) (x .rest) (n + length made)
     unfolding rests
     sees-is h =
         z .sees (fit-is ∙ h)
@@ -150,7 +150,7 @@ module _ (l clock : ℕ) (boot out : List ℕ) (n : ℕ) (few : n ≤ l) (t : Tu
     unfolding restFits rests requestName nameFits
     cut-fits = ap (restFits (length out)) cut-is
 
-    cut-sees : seen o ≡ restsAt (t .caches) (x .core) (ended LimitReached 0 []) l
+    cut-sees : observed o ≡ restsAt (t .caches) (x .core) (ended LimitReached 0 []) l
     unfolding rests
     cut-sees = z .sees cut-fits ∙ ap (λ (y : Resting). restsAt (t .caches) (y .core) (y .rest) (l - y .left)) cut-is ∙ ap (λ (k : ℕ). restsAt (t .caches) (x .core) (ended LimitReached 0 []) k) (let y : l - 0 ≡ l = omega arith in y)
 

@@ -16,9 +16,9 @@ use Rattle.walk_calls.specs.calls.Calls.{Answered, refusalNumber, startCall, re
 use Rattle.walk_calls.specs.call_end.Closing.{Left, refused, closes}
 use Rattle.walk_steps.specs.steps.Steps.{Resting}
 use Rattle.dfsc_memory.specs.Units.{AnswerLeft, unitsLeft, heldIn, walkIn, headAfter, inUnits, startUnits, answerInUnits, referralAnswerUnits, ioAnswerUnits, noWalk, textsIn}
-use Rattle.theorems.specs.limit.Calls.{Held, Start, Answer, referral, io, Calls, start, then, run, answered}
+use Rattle.theorems.specs.limit.Calls.{Held, Start, Answer, referral, io, Calls, start, then, run, afterAnswer}
 use Rattle.theorems.proofs.limit.ListLaws.{answer-identity}
-use Rattle.theorems.specs.limit.Exported.{answeredUnits, unitsRun, unitsOf}
+use Rattle.theorems.specs.limit.Exported.{answeredUnits, unitsRun, packedAnswer}
 
 module _ (w : Walk) (t : List ℕ) where
   head : take 32 (packedWalk w ++ t) ≡ packedWalk w
@@ -61,15 +61,15 @@ head-after NotInOrder w u h = h not-order
 head-after OutOfForm w u h = h not-form
 head-after ShortBuffer w u h = h not-short
 
-units-left : (u : List ℕ) (o : Answered) → ((o .left .verdict ≡ Taken → ⊥) → take 32 u ≡ packedWalk (o .left .walk)) → answerInUnits u o ≡ unitsOf o
-unfolding answerInUnits inUnits unitsOf
+units-left : (u : List ℕ) (o : Answered) → ((o .left .verdict ≡ Taken → ⊥) → take 32 u ≡ packedWalk (o .left .walk)) → answerInUnits u o ≡ packedAnswer o
+unfolding answerInUnits inUnits packedAnswer
 units-left u o h =
     ap (λ (p : List ℕ). record { left = unitsLeft (refusalNumber (o .left .verdict)) (p ++ o .left .texts) (o .left .out); refs = o .refs; doms = o .doms })
     (head-after (o .left .verdict) (o .left .walk) u h)
 
 -- an answer to a walk that is held as units
-one-answer : (o : Answered) (a : Answer) → answeredUnits (unitsOf o) a ≡ answerInUnits (packedWalk (o .left .walk) ++ o .left .texts) (answered o a)
-unfolding answeredUnits unitsOf referralAnswerUnits ioAnswerUnits answered
+one-answer : (o : Answered) (a : Answer) → answeredUnits (packedAnswer o) a ≡ answerInUnits (packedWalk (o .left .walk) ++ o .left .texts) (afterAnswer o a)
+unfolding answeredUnits packedAnswer referralAnswerUnits ioAnswerUnits afterAnswer
 one-answer o (referral status reply clock out) =
     λ j. answerInUnits (packedWalk (o .left .walk) ++ o .left .texts) (referralCall (o .refs) (o .doms) (tail (o .left .walk) (o .left .texts) j) (walk-back (o .left .walk) (o .left .texts) j) status reply clock out)
 one-answer o (io status clock out) =
@@ -104,11 +104,11 @@ module _ (l : ℕ) (h : Held) (s : Start) (units : List ℕ) (e : textsIn units 
       ∙ sym (starts-alike (h .walk) noWalk (h .texts) (s .out) (h .refs) (h .doms) (s .path) (s .boot) l (s .size) (s .clock) v))
 
   -- along every list the exported calls are those of the list
-  pub exported : (cs : Calls) → unitsRun l h s units cs ≡ unitsOf (run l h s cs)
+  pub exported : (cs : Calls) → unitsRun l h s units cs ≡ packedAnswer (run l h s cs)
   unfolding unitsRun run
   exported start = first-units ∙ units-left units (run l h s start) (λ n. absurd (n v))
   exported (then cs a) =
       ap (λ (o : AnswerLeft). answeredUnits o a) (exported cs)
       ∙ (one-answer (run l h s cs) a
-      ∙ units-left (packedWalk (run l h s cs .left .walk) ++ run l h s cs .left .texts) (answered (run l h s cs) a)
+      ∙ units-left (packedWalk (run l h s cs .left .walk) ++ run l h s cs .left .texts) (afterAnswer (run l h s cs) a)
       (λ n. head (run l h s cs .left .walk) (run l h s cs .left .texts) ∙ ap (λ (o : Answered). packedWalk (o .left .walk)) (sym (answer-identity (run l h s cs) a n))))

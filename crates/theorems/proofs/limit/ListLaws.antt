@@ -32,7 +32,7 @@ use Rattle.theorems.proofs.keeps.EventLaws.{path-counted, started-prope
 use Rattle.theorems.proofs.keeps.BackLaws.{caches-good, form-proper, core-back, rest-back, boot-back, proper-form, form-settings}
 use Rattle.theorems.proofs.keeps.CallLaws.{start-keeps, referral-keeps, io-keeps}
 use Rattle.theorems.specs.limit.Unlimited.{Move, Opening, opens, refuses, Unlimited, Made, madeIn, restsAt, lastMove, Rests, CallsForMore, Brings, number, comes, Call, refused as call-refused, short, taken, CallsFor}
-use Rattle.theorems.specs.limit.Calls.{Held, Start, Answer, referral, io, Calls, start, then, run, answered, answerClock, answerOut, clockOf, outOf, seen, startOpening, eventOf, eventOpening, answerOpening, opening, before, Moved, Same, same-number, same-rest}
+use Rattle.theorems.specs.limit.Calls.{Held, Start, Answer, referral, io, Calls, start, then, run, afterAnswer, answerClock, answerOut, clockOf, outOf, observed, startOpening, eventOf, eventOpening, answerOpening, opening, countBefore, Moved, Same, same-number, same-rest}
 use Rattle.theorems.proofs.limit.Once.{as-many, cut-short}
 use Rattle.theorems.proofs.limit.Along.{one-walk, Tracks, tracks-start, tracks-refused, tracks-taken, Meets, meets-start, meets-answer}
 use Rattle.theorems.proofs.limit.Classify.{Fine, opens-same, not-refused}
@@ -51,8 +51,8 @@ back-start l h s g a =
     (path-counted (s .path) (a .path) (leb-true _ _ (a .short))) l (s .clock))
 
 pub good-event : (o : Answered) (a : Answer) (t : Turn) → (inOrder referrals (o .refs) && inOrder domains (o .doms)) ≡ true
-    → inForm (o .left .walk) (o .left .texts) ≡ true → eventOf (seen o) a ≡ some t → GoodTurn t
-unfolding eventOf seen
+    → inForm (o .left .walk) (o .left .texts) ≡ true → eventOf (observed o) a ≡ some t → GoodTurn t
+unfolding eventOf observed
 good-event o (referral status reply clock out) t h f e =
     referral-good (cachesOf (o .refs) (o .doms)) (caches-good (o .refs) (o .doms) h) (coreIn (o .left .walk) (o .left .texts)) (restIn (o .left .walk) (o .left .texts))
     (form-proper (o .left .walk) (o .left .texts) f) status reply clock t e
@@ -66,27 +66,27 @@ back-after o a t h f e =
     back-of (o .left .walk .limit) (bootIn (o .left .walk) (o .left .texts)) _ (s .0) (s .1) (turned-proper _ (answerClock a) t (good-event o a t h f e))
 
 -- an answer to a walk that shows u
-either-at : (l : ℕ) (boot : List ℕ) (o : Answered) (a : Answer) (u : Unlimited) → Fine l boot o → seen o ≡ u
-    → Either l (answerClock a) boot (answerOut a) (u .count) (answered o a) (answerOpening u a)
-unfolding seen
+either-at : (l : ℕ) (boot : List ℕ) (o : Answered) (a : Answer) (u : Unlimited) → Fine l boot o → observed o ≡ u
+    → Either l (answerClock a) boot (answerOut a) (u .count) (afterAnswer o a) (answerOpening u a)
+unfolding observed
 either-at l boot o a u f e =
-    subst (λ (v : Unlimited). Either l (answerClock a) boot (answerOut a) (v .count) (answered o a) (answerOpening v a)) e
-    (subst (λ (b : List ℕ). Either l (answerClock a) b (answerOut a) (o .left .walk .moves) (answered o a) (answerOpening (seen o) a)) (f .boot-is)
-    (subst (λ (k : ℕ). Either k (answerClock a) (bootIn (o .left .walk) (o .left .texts)) (answerOut a) (o .left .walk .moves) (answered o a) (answerOpening (seen o) a)) (f .limit)
+    subst (λ (v : Unlimited). Either l (answerClock a) boot (answerOut a) (v .count) (afterAnswer o a) (answerOpening v a)) e
+    (subst (λ (b : List ℕ). Either l (answerClock a) b (answerOut a) (o .left .walk .moves) (afterAnswer o a) (answerOpening (observed o) a)) (f .boot-is)
+    (subst (λ (k : ℕ). Either k (answerClock a) (bootIn (o .left .walk) (o .left .texts)) (answerOut a) (o .left .walk .moves) (afterAnswer o a) (answerOpening (observed o) a)) (f .limit)
     (answer-either o a (f .form) (omega (arith, f .few, f .limit)) (back-after o a))))
 
 -- a refused answer changes nothing
-pub answer-identity : (o : Answered) (a : Answer) → (answered o a .left .verdict ≡ Taken → ⊥)
-    → answered o a ≡ refusedAnswer (answered o a .left .verdict) (o .left .walk) (o .left .texts) (answerOut a) (o .refs) (o .doms)
-unfolding answered answerOut
+pub answer-identity : (o : Answered) (a : Answer) → (afterAnswer o a .left .verdict ≡ Taken → ⊥)
+    → afterAnswer o a ≡ refusedAnswer (afterAnswer o a .left .verdict) (o .left .walk) (o .left .texts) (answerOut a) (o .refs) (o .doms)
+unfolding afterAnswer answerOut
 answer-identity o (referral status reply clock out) n = referral-keeps (o .refs) (o .doms) (o .left .texts) (o .left .walk) status reply clock out .identity n
 answer-identity o (io status clock out) n = io-keeps (o .refs) (o .doms) (o .left .texts) (o .left .walk) status clock out .identity n
 
-pub seen-kept : (o : Answered) (a : Answer) → (answered o a .left .verdict ≡ Taken → ⊥) → seen (answered o a) ≡ seen o
-unfolding seen
-seen-kept o a n = ap seen (answer-identity o a n)
+pub seen-kept : (o : Answered) (a : Answer) → (afterAnswer o a .left .verdict ≡ Taken → ⊥) → observed (afterAnswer o a) ≡ observed o
+unfolding observed
+seen-kept o a n = ap observed (answer-identity o a n)
 
-pub fine-kept : (l : ℕ) (boot : List ℕ) (o : Answered) (a : Answer) → (answered o a .left .verdict ≡ Taken → ⊥) → Fine l boot o → Fine l boot (answered o a)
+pub fine-kept : (l : ℕ) (boot : List ℕ) (o : Answered) (a : Answer) → (afterAnswer o a .left .verdict ≡ Taken → ⊥) → Fine l boot o → Fine l boot (afterAnswer o a)
 fine-kept l boot o a n f =
     subst (Fine l boot) (sym (answer-identity o a n)) (record { form = f .form; limit = f .limit; boot-is = f .boot-is; few = f .few })
 
@@ -99,7 +99,7 @@ start-identity l h s n =
 
 -- what a call shows, taken apart
 module _ {l clock : ℕ} {boot out : List ℕ} {n : ℕ} {o : Answered} where
-  pub same-comes : {p : Opening} {ms : List Made} {u : Unlimited} → Same l clock boot out n o p (comes ms u) → (o .left .verdict ≡ Taken) × ((seen o ≡ u) × Moved l clock boot n o p ms)
+  pub same-comes : {p : Opening} {ms : List Made} {u : Unlimited} → Same l clock boot out n o p (comes ms u) → (o .left .verdict ≡ Taken) × ((observed o ≡ u) × Moved l clock boot n o p ms)
   same-comes (same-rest v e w m) = (v, (e, m))
 
   pub same-numbered : {p : Opening} {v : Verdict} → Same l clock boot out n o p (number v) → (o .left .verdict ≡ v) × ((v ≡ Taken → ⊥) × Moved l clock boot n o p [])
@@ -193,14 +193,14 @@ start-no h s t e =
 -- along a list
 module _ (l : ℕ) (good : goodLimit l ≡ true) (h : Held) (s : Start) where
   pub record Agrees (cs : Calls) (u : Unlimited) : Type 0 where
-    pub shows : seen (run l h s cs) ≡ u
+    pub shows : observed (run l h s cs) ≡ u
     pub fine : Fine l (s .boot) (run l h s cs)
 
   pub at-start : Either l (s .clock) (s .boot) (s .out) 0 (run l h s start) (startOpening h s)
   at-start = start-either l h s good (back-start l h s good)
 
   abbrev pub Later : Calls → Unlimited → Answer → Type 0
-  Later cs u a = Either l (answerClock a) (s .boot) (answerOut a) (u .count) (answered (run l h s cs) a) (answerOpening u a)
+  Later cs u a = Either l (answerClock a) (s .boot) (answerOut a) (u .count) (afterAnswer (run l h s cs) a) (answerOpening u a)
 
   pub later : (cs : Calls) (u : Unlimited) (a : Answer) → Agrees cs u → Later cs u a
   later cs u a g = either-at l (s .boot) (run l h s cs) a u (g .fine) (g .shows)
@@ -216,8 +216,8 @@ module _ (l : ℕ) (good : goodLimit l ≡ true) (h : Held) (s : Start) where
       → Call (answerClock a) (s .boot) (answerOut a) (u .count) (answerOpening u a) (number v) → Later cs u a → Agrees (then cs a) u
   unfolding run
   refused-agrees cs u a g nc c (inl f) =
-      let z = same-numbered (subst (Same l (answerClock a) (s .boot) (answerOut a) (u .count) (answered (run l h s cs) a) (answerOpening u a)) (one-walk (f .call) c) (f .same)) in
-      let n : answered (run l h s cs) a .left .verdict ≡ Taken → ⊥ = λ e. z .1 .0 (sym (z .0) ∙ e) in
+      let z = same-numbered (subst (Same l (answerClock a) (s .boot) (answerOut a) (u .count) (afterAnswer (run l h s cs) a) (answerOpening u a)) (one-walk (f .call) c) (f .same)) in
+      let n : afterAnswer (run l h s cs) a .left .verdict ≡ Taken → ⊥ = λ e. z .1 .0 (sym (z .0) ∙ e) in
       record { shows = seen-kept (run l h s cs) a n ∙ g .shows; fine = fine-kept l (s .boot) (run l h s cs) a n (g .fine) }
   refused-agrees cs u a g nc c (inr k) = absurd (nc (k .calls))
 
@@ -225,7 +225,7 @@ module _ (l : ℕ) (good : goodLimit l ≡ true) (h : Held) (s : Start) where
       → Call (answerClock a) (s .boot) (answerOut a) (u .count) (answerOpening u a) (comes ms v) → Later cs u a → Agrees (then cs a) v
   unfolding run
   taken-agrees cs u a nc c (inl f) =
-      let z = same-comes (subst (Same l (answerClock a) (s .boot) (answerOut a) (u .count) (answered (run l h s cs) a) (answerOpening u a)) (one-walk (f .call) c) (f .same)) in
+      let z = same-comes (subst (Same l (answerClock a) (s .boot) (answerOut a) (u .count) (afterAnswer (run l h s cs) a) (answerOpening u a)) (one-walk (f .call) c) (f .same)) in
       record { shows = z .1 .0; fine = f .fine (z .0) }
   taken-agrees cs u a nc c (inr k) = absurd (nc (k .calls))
 
@@ -238,7 +238,7 @@ module _ (l : ℕ) (good : goodLimit l ≡ true) (h : Held) (s : Start) where
 
   -- the count of the unlimited walk
   pub few : {cs : Calls} {u : Unlimited} → Tracks h s l cs u → u .count ≤ l
-  unfolding seen
+  unfolding observed
   few f =
       let g = agrees f in subst (λ (u : Unlimited). u .count ≤ l) (g .shows) (g .fine .few)
 
@@ -257,8 +257,8 @@ module _ (l : ℕ) (good : goodLimit l ≡ true) (h : Held) (s : Start) where
   comes-few (meets-answer f) = few f
 
   -- it comes to what the walk with the limit comes to
-  pub comes-opening : {cs : Calls} {p : Opening} {n : ℕ} → Meets h s l cs p n → (p ≡ opening l h s cs) × (n ≡ before l h s cs)
-  unfolding opening before seen
+  pub comes-opening : {cs : Calls} {p : Opening} {n : ℕ} → Meets h s l cs p n → (p ≡ opening l h s cs) × (n ≡ countBefore l h s cs)
+  unfolding opening countBefore observed
   comes-opening meets-start = (refl, refl)
   comes-opening (meets-answer {a = a} f) =
       let g = agrees f in (ap (λ (u : Unlimited). answerOpening u a) (sym (g .shows)), ap (λ (u : Unlimited). u .count) (sym (g .shows)))

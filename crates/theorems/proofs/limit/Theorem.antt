@@ -31,7 +31,7 @@ use Rattle.walk_calls.specs.calls.Calls.{Answered, refusalNumber}
 use Rattle.walk_calls.specs.declared.call_end.Verdict.{Verdict}
 use Rattle.walk_calls.specs.declared.call_end.Verdict.the-variants.{Taken, BadPath, LongPath, BadSettings, NotInOrder, OutOfForm, ShortBuffer}
 use Rattle.theorems.specs.limit.Unlimited.{Move, question, pathAfter, Opening, opens, refuses, Unlimited, Made, madeIn, restsAt, lastMove, callsOne, Halts, at-end, is-put, try-long, path-long, Rests, CallsForMore, Brings, number, comes, Call, refused as call-refused, short, taken, CallsFor, Within, refused as within-refused, rests as within-rests, replacement, Makes, here, goes-on}
-use Rattle.theorems.specs.limit.Calls.{shownMove, Held, Start, Answer, referral, io, Calls, start, then, run, answered, InList, the-start, an-answer, answerClock, answerOut, clockOf, outOf, seen, startOpening, answerOpening, opening, before, pathBefore, Follows, Comes, to-start, to-answer, CutBy, in-it, before-it, CutBefore, Moved, no-move, to-rest, to-limit, Same, same-number, same-rest}
+use Rattle.theorems.specs.limit.Calls.{shownMove, Held, Start, Answer, referral, io, Calls, start, then, run, afterAnswer, InList, the-start, an-answer, answerClock, answerOut, clockOf, outOf, observed, startOpening, answerOpening, opening, countBefore, pathBefore, Follows, Comes, to-start, to-answer, CutBy, in-it, before-it, CutBefore, Moved, no-move, to-rest, to-limit, Same, same-number, same-rest}
 use Rattle.theorems.specs.limit.Limits.{MovesOf, SameIn, EndsIn, WaitsAfter, TooShort, LimitOnlyCuts}
 use Rattle.theorems.proofs.limit.Goes.{ToRest, Cut, rests-or-cut}
 use Rattle.theorems.proofs.limit.Once.{behind, as-many, goes-further}
@@ -126,7 +126,7 @@ ten-call (taken x f) c g e = absurd (short-not e (same-comes c .0))
 
 -- no call that comes to rest shows end 24
 never-24 : {l clock : ℕ} {boot out : List ℕ} {n : ℕ} {o : Answered} {p : Opening} {b : Brings} {status : ℕ} {tried : List ℕ} → Call clock boot out n p b → Same l clock boot out n o p b
-    → ((t : Turn) → p ≡ opens t → NoLimit (t .called)) → o .left .verdict ≡ Taken → seen o .rest ≡ ended LimitReached status tried → ⊥
+    → ((t : Turn) → p ≡ opens t → NoLimit (t .called)) → o .left .verdict ≡ Taken → observed o .rest ≡ ended LimitReached status tried → ⊥
 unfolding restsAt
 never-24 call-refused c g v e =
     let z = same-numbered c in z .1 .0 (sym (z .0) ∙ v)
@@ -207,7 +207,7 @@ no-halt-at {p = p} (path-long {p = o} g) e f =
 started-list : {l : ℕ} {h : Held} {s : Start} (cs : Calls) (a : Answer) → InList l h s (then cs a) → run l h s start .left .verdict ≡ Taken
 started-list cs a (an-answer e) = e
 
-gets : (l : ℕ) (h : Held) (s : Start) (cs : Calls) (a : Answer) → run l h s (then cs a) ≡ answered (run l h s cs) a
+gets : (l : ℕ) (h : Held) (s : Start) (cs : Calls) (a : Answer) → run l h s (then cs a) ≡ afterAnswer (run l h s cs) a
 unfolding run
 gets l h s cs a = refl
 
@@ -257,8 +257,8 @@ unfolding requestName withRequest
 no-request w r out h = ap (λ (x : Rest). withRequest (requestName w x) out) h
 
 -- what a call that is taken leaves stands
-answered-stands : (o : Answered) (a : Answer) → AnswerStands (answered o a)
-unfolding answered
+answered-stands : (o : Answered) (a : Answer) → AnswerStands (afterAnswer o a)
+unfolding afterAnswer
 answered-stands o (referral status reply clock out) = referral-stands (o .refs) (o .doms) (o .left .texts) (o .left .walk) status reply clock out
 answered-stands o (io status clock out) = io-stands (o .refs) (o .doms) (o .left .texts) (o .left .walk) status clock out
 
@@ -267,13 +267,13 @@ module _ (l : ℕ) (good : goodLimit l ≡ true) (h : Held) (s : Start) where
   to-list : {cs : Calls} {p : Opening} {n : ℕ} {ms : List Made} → Meets h s l cs p n → Moved l (clockOf s cs) (s .boot) n (run l h s cs) p ms → MovesOf l h s cs ms
   to-list {cs} {p} {n} {ms} c m =
       let e = comes-opening l good h s c in
-      subst (λ (q : Opening). Moved l (clockOf s cs) (s .boot) (before l h s cs) (run l h s cs) q ms) (e .0)
+      subst (λ (q : Opening). Moved l (clockOf s cs) (s .boot) (countBefore l h s cs) (run l h s cs) q ms) (e .0)
       (subst (λ (k : ℕ). Moved l (clockOf s cs) (s .boot) k (run l h s cs) p ms) (e .1) m)
 
   same-list : {cs : Calls} {p : Opening} {n : ℕ} {b : Brings} → Meets h s l cs p n → Same l (clockOf s cs) (s .boot) (outOf s cs) n (run l h s cs) p b → SameIn l h s cs b
   same-list {cs} {p} {n} {b} c m =
       let e = comes-opening l good h s c in
-      subst (λ (q : Opening). Same l (clockOf s cs) (s .boot) (outOf s cs) (before l h s cs) (run l h s cs) q b) (e .0)
+      subst (λ (q : Opening). Same l (clockOf s cs) (s .boot) (outOf s cs) (countBefore l h s cs) (run l h s cs) q b) (e .0)
       (subst (λ (k : ℕ). Same l (clockOf s cs) (s .boot) (outOf s cs) k (run l h s cs) p b) (e .1) m)
 
   until : {cs : Calls} {p : Opening} {n : ℕ} → Meets h s l cs p n → (CallsFor p (clockOf s cs) n (suc l) → ⊥)
@@ -285,12 +285,12 @@ module _ (l : ℕ) (good : goodLimit l ≡ true) (h : Held) (s : Start) where
       go (inr k) = absurd (nc (k .calls))
 
   cut : {cs : Calls} {p : Opening} {n : ℕ} → Meets h s l cs p n → (k : CallsFor p (clockOf s cs) n (suc l))
-      → (run l h s cs .left .verdict ≡ Taken) × ((seen (run l h s cs) ≡ restsAt (k .turn .caches) (k .core) (ended LimitReached 0 []) l)
+      → (run l h s cs .left .verdict ≡ Taken) × ((observed (run l h s cs) ≡ restsAt (k .turn .caches) (k .core) (ended LimitReached 0 []) l)
       × MovesOf l h s cs (madeIn (k .turn .caches) (k .moves)))
   cut {cs} {p} {n} c k = go (comes-either l good h s c)
     where
       go : Either l (clockOf s cs) (s .boot) (outOf s cs) n (run l h s cs) p
-          → (run l h s cs .left .verdict ≡ Taken) × ((seen (run l h s cs) ≡ restsAt (k .turn .caches) (k .core) (ended LimitReached 0 []) l)
+          → (run l h s cs .left .verdict ≡ Taken) × ((observed (run l h s cs) ≡ restsAt (k .turn .caches) (k .core) (ended LimitReached 0 []) l)
           × MovesOf l h s cs (madeIn (k .turn .caches) (k .moves)))
       go (inl f) = absurd (never-both (f .within) k)
       go (inr f) =
@@ -306,16 +306,16 @@ module _ (l : ℕ) (good : goodLimit l ≡ true) (h : Held) (s : Start) where
   -- the walk has been cut
   record Dead (cs : Calls) : Type 0 where
     fine : Fine l (s .boot) (run l h s cs)
-    over : seen (run l h s cs) .rest ≡ ended LimitReached 0 []
+    over : observed (run l h s cs) .rest ≡ ended LimitReached 0 []
 
   dead-call : (cs : Calls) (a : Answer) → Dead cs → (run l h s (then cs a) .left .verdict ≡ Taken → ⊥) × (run l h s (then cs a) .left .verdict ≡ ShortBuffer → ⊥)
   unfolding run
-  dead-call cs a d = go (later l good h s cs (seen (run l h s cs)) a (record { shows = refl; fine = d .fine }))
+  dead-call cs a d = go (later l good h s cs (observed (run l h s cs)) a (record { shows = refl; fine = d .fine }))
     where
-      shut : (t : Turn) → answerOpening (seen (run l h s cs)) a ≡ opens t → ⊥
-      shut t e = no-opening (seen (run l h s cs)) a (event-ended (seen (run l h s cs)) a (d .over)) t e
+      shut : (t : Turn) → answerOpening (observed (run l h s cs)) a ≡ opens t → ⊥
+      shut t e = no-opening (observed (run l h s cs)) a (event-ended (observed (run l h s cs)) a (d .over)) t e
 
-      go : Later l good h s cs (seen (run l h s cs)) a → (answered (run l h s cs) a .left .verdict ≡ Taken → ⊥) × (answered (run l h s cs) a .left .verdict ≡ ShortBuffer → ⊥)
+      go : Later l good h s cs (observed (run l h s cs)) a → (afterAnswer (run l h s cs) a .left .verdict ≡ Taken → ⊥) × (afterAnswer (run l h s cs) a .left .verdict ≡ ShortBuffer → ⊥)
       go (inl f) = (
         λ e. let z = taken-opens (f .call) (f .same) e in shut (z .0) (z .1),
         λ e. let z = short-opens (f .call) (f .same) (f .early) e in shut (z .0) (z .1),
@@ -332,7 +332,7 @@ module _ (l : ℕ) (good : goodLimit l ≡ true) (h : Held) (s : Start) where
   unfolding restsAt
   dead-start k = record { fine = k .fine; over = ap (λ (u : Unlimited). u .rest) (k .sees) }
 
-  dead-cut : (cs : Calls) (u : Unlimited) (a : Answer) → CutOff l (answerClock a) (s .boot) (answerOut a) (u .count) (answered (run l h s cs) a) (answerOpening u a) → Dead (then cs a)
+  dead-cut : (cs : Calls) (u : Unlimited) (a : Answer) → CutOff l (answerClock a) (s .boot) (answerOut a) (u .count) (afterAnswer (run l h s cs) a) (answerOpening u a) → Dead (then cs a)
   unfolding restsAt run
   dead-cut cs u a k = record { fine = k .fine; over = ap (λ (v : Unlimited). v .rest) (k .sees) }
 
@@ -377,15 +377,15 @@ module _ (l : ℕ) (good : goodLimit l ≡ true) (h : Held) (s : Start) where
   -- the caches of the turn are those that the call leaves
   sizeBefore : Calls → ℕ
   sizeBefore start = s .size
-  sizeBefore (then cs a) = seen (run l h s cs) .core .size
+  sizeBefore (then cs a) = observed (run l h s cs) .core .size
 
-  turn-caches : (cs : Calls) (t : Turn) → InList l h s cs → opening l h s cs ≡ opens t → seen (run l h s cs) .refs ≡ encode referrals (t .caches .referrals)
-      → seen (run l h s cs) .doms ≡ encode domains (t .caches .domains) → t .caches ≡ cachesOf (run l h s cs .refs) (run l h s cs .doms)
-  unfolding opening run seen
+  turn-caches : (cs : Calls) (t : Turn) → InList l h s cs → opening l h s cs ≡ opens t → observed (run l h s cs) .refs ≡ encode referrals (t .caches .referrals)
+      → observed (run l h s cs) .doms ≡ encode domains (t .caches .domains) → t .caches ≡ cachesOf (run l h s cs .refs) (run l h s cs .doms)
+  unfolding opening run observed
   turn-caches start t i e er ed =
       sym (ap (λ (x : Turn). x .caches) (start-goes-on h s t e)) ∙ started-caches (cachesOf (h .refs) (h .doms)) (coreOf (normalised (s .path)) (s .size) false) (s .clock)
   turn-caches (then cs a) t (an-answer b) e er ed =
-      let g = good-event (run l h s cs) a t (order-of (seen (run l h s cs)) a t e) (fine-after cs b .form) (answer-goes-on (seen (run l h s cs)) a t e) in
+      let g = good-event (run l h s cs) a t (order-of (observed (run l h s cs)) a t e) (fine-after cs b .form) (answer-goes-on (observed (run l h s cs)) a t e) in
       sym (caches-back (t .caches) (g .caches)) ∙ (λ j. cachesOf (sym er j) (sym ed j))
 
   -- its event keeps the path and the size
@@ -395,7 +395,7 @@ module _ (l : ℕ) (good : goodLimit l ≡ true) (h : Held) (s : Start) where
       let k = subst (λ (x : Turn). SameCore (coreOf (normalised (s .path)) (s .size) false) (x .core)) (start-goes-on h s t e)
       (started-same (cachesOf (h .refs) (h .doms)) (coreOf (normalised (s .path)) (s .size) false) (s .clock)) in (k .path, k .size)
   turn-core (then cs a) t e =
-      let k = event-same (seen (run l h s cs)) a t (answer-goes-on (seen (run l h s cs)) a t e) in (k .path, k .size)
+      let k = event-same (observed (run l h s cs)) a t (answer-goes-on (observed (run l h s cs)) a t e) in (k .path, k .size)
 
   stands : (cs : Calls) → run l h s cs .left .verdict ≡ Taken → Stands (run l h s cs .refs) (run l h s cs .doms) (run l h s cs .left .walk) (run l h s cs .left .texts)
   unfolding run StartStands AnswerStands refusalNumber
@@ -506,12 +506,12 @@ module _ (l : ℕ) (good : goodLimit l ≡ true) (h : Held) (s : Start) where
   unfolding madeIn
   caches-after cs i v m =
       let z = way m v in
-      let moves = z .replacements ++ lastMove (z .turn .caches) (s .boot) (seen (run l h s cs) .core) (seen (run l h s cs) .rest) in
+      let moves = z .replacements ++ lastMove (z .turn .caches) (s .boot) (observed (run l h s cs) .core) (observed (run l h s cs) .rest) in
       (moves, z .list ∙ ap (λ (c : Caches). madeIn c moves) (turn-caches cs (z .turn) i (z .opened) (z .refs-are) (z .doms-are)))
 
-  last-shown : (cs : Calls) {ms : List Made} {q : Question} → InList l h s cs → run l h s cs .left .verdict ≡ Taken → seen (run l h s cs) .rest ≡ waits q → MovesOf l h s cs ms
+  last-shown : (cs : Calls) {ms : List Made} {q : Question} → InList l h s cs → run l h s cs .left .verdict ≡ Taken → observed (run l h s cs) .rest ≡ waits q → MovesOf l h s cs ms
       → (first : List Made) × (ms ≡ first ++ (record { move = shownMove (run l h s cs) q; caches = cachesOf (run l h s cs .refs) (run l h s cs .doms) } ∷ []))
-  unfolding shownMove seen lastMove questionShown partyText madeIn
+  unfolding shownMove observed lastMove questionShown partyText madeIn
   last-shown cs {ms} {q} i v e m =
       let z = way m v in
       let w = coreIn (run l h s cs .left .walk) (run l h s cs .left .texts) in
@@ -529,30 +529,30 @@ module _ (l : ℕ) (good : goodLimit l ≡ true) (h : Held) (s : Start) where
       )
 
   path-left : (cs : Calls) {ms : List Made} → InList l h s cs → run l h s cs .left .verdict ≡ Taken → MovesOf l h s cs ms
-      → seen (run l h s cs) .core .path ≡ pathAfter (pathBefore l h s cs) ms
+      → observed (run l h s cs) .core .path ≡ pathAfter (pathBefore l h s cs) ms
   path-left cs {ms} i v m =
       let z = way m v in
       path-moved z ∙ ap (λ (p : List ℕ). pathAfter p ms) (turn-core cs (z .turn) (z .opened) .0)
 
   -- the size stays what the start was given
-  size-left : (cs : Calls) → InList l h s cs → run l h s cs .left .verdict ≡ Taken → seen (run l h s cs) .core .size ≡ sizeBefore cs
+  size-left : (cs : Calls) → InList l h s cs → run l h s cs .left .verdict ≡ Taken → observed (run l h s cs) .core .size ≡ sizeBefore cs
   size-left cs i v =
       let z = way (moves-of cs i .1) v in
       size-moved z ∙ turn-core cs (z .turn) (z .opened) .1
 
-  size-kept : (cs : Calls) → run l h s start .left .verdict ≡ Taken → seen (run l h s cs) .core .size ≡ s .size
+  size-kept : (cs : Calls) → run l h s start .left .verdict ≡ Taken → observed (run l h s cs) .core .size ≡ s .size
   unfolding sizeBefore run
   size-kept start e = size-left start the-start e
   size-kept (then cs a) e = go (taken-or-not (run l h s (then cs a) .left .verdict)) (size-kept cs e)
     where
-      go : (run l h s (then cs a) .left .verdict ≡ Taken) ⊎ (run l h s (then cs a) .left .verdict ≡ Taken → ⊥) → seen (run l h s cs) .core .size ≡ s .size
-          → seen (run l h s (then cs a)) .core .size ≡ s .size
+      go : (run l h s (then cs a) .left .verdict ≡ Taken) ⊎ (run l h s (then cs a) .left .verdict ≡ Taken → ⊥) → observed (run l h s cs) .core .size ≡ s .size
+          → observed (run l h s (then cs a)) .core .size ≡ s .size
       go (inl v) f = size-left (then cs a) (an-answer e) v ∙ f
       go (inr n) f = ap (λ (u : Unlimited). u .core .size) (seen-kept (run l h s cs) a n) ∙ f
 
   settings-kept : (cs : Calls) → run l h s start .left .verdict ≡ Taken
       → (run l h s cs .left .walk .limit ≡ l) × ((run l h s cs .left .walk .size ≡ s .size) × (bootIn (run l h s cs .left .walk) (run l h s cs .left .texts) ≡ s .boot))
-  unfolding seen coreIn
+  unfolding observed coreIn
   settings-kept cs e = let f = fine-after cs e in (f .limit, (size-kept cs e, f .boot-is))
 
   start-kept : (run l h s start .left .verdict ≡ Taken → ⊥)
@@ -645,7 +645,7 @@ module _ (l m : ℕ) (low : goodLimit l ≡ true) (high : goodLimit m ≡ true) 
     moves : List Made
     low-moves : MovesOf l h s cs moves
     high-moves : MovesOf m h s cs moves
-    sees : run l h s cs .left .verdict ≡ Taken → seen (run m h s cs) ≡ seen (run l h s cs)
+    sees : run l h s cs .left .verdict ≡ Taken → observed (run m h s cs) ≡ observed (run l h s cs)
     writes : run l h s cs .left .verdict ≡ Taken → run m h s cs .left .out ≡ run l h s cs .left .out
 
   both : (cs : Calls) {b : Brings} → SameIn l h s cs b → SameIn m h s cs b → Alike cs
@@ -681,7 +681,7 @@ module _ (l m : ℕ) (low : goodLimit l ≡ true) (high : goodLimit m ≡ true) 
 
   abbrev Together : Calls → Type 0
   Together cs =
-      (run m h s cs .left .verdict ≡ run l h s cs .left .verdict) × ((seen (run m h s cs) ≡ seen (run l h s cs))
+      (run m h s cs .left .verdict ≡ run l h s cs .left .verdict) × ((observed (run m h s cs) ≡ observed (run l h s cs))
       × ((run m h s cs .left .out ≡ run l h s cs .left .out) × ((ms : List Made) × (MovesOf l h s cs ms × MovesOf m h s cs ms))))
 
   together : run l h s start .left .verdict ≡ Taken → (cs : Calls) → WaitsAfter l h s cs → Together cs
@@ -704,23 +704,23 @@ module _ (l m : ℕ) (low : goodLimit l ≡ true) (high : goodLimit m ≡ true) 
       go (inr d) = absurd (let z : _≡_ {A = ℕ} 0 1 = cc (d .over, w .1) in omega arith)
 
   ends-alike : (cs : Calls) {e : End} → InList l h s cs → (e ≡ LimitReached → ⊥) → EndsIn l h s cs e
-      → (run m h s cs .left .verdict ≡ Taken) × ((seen (run m h s cs) ≡ seen (run l h s cs))
+      → (run m h s cs .left .verdict ≡ Taken) × ((observed (run m h s cs) ≡ observed (run l h s cs))
       × ((ms : List Made) × (MovesOf l h s cs ms × MovesOf m h s cs ms)))
   ends-alike cs {e} i n x = go (comes-to l low h s cs i)
     where
       told-of : Alike cs
-          → (run m h s cs .left .verdict ≡ Taken) × ((seen (run m h s cs) ≡ seen (run l h s cs))
+          → (run m h s cs .left .verdict ≡ Taken) × ((observed (run m h s cs) ≡ observed (run l h s cs))
           × ((ms : List Made) × (MovesOf l h s cs ms × MovesOf m h s cs ms)))
       told-of a = (a .verdict ∙ x .0, (a .sees (x .0), (a .moves, (a .low-moves, a .high-moves))))
 
       tell : {p : Opening} {k : ℕ} → Meets h s l cs p k → Either l (clockOf s cs) (s .boot) (outOf s cs) k (run l h s cs) p
-          → (run m h s cs .left .verdict ≡ Taken) × ((seen (run m h s cs) ≡ seen (run l h s cs))
+          → (run m h s cs .left .verdict ≡ Taken) × ((observed (run m h s cs) ≡ observed (run l h s cs))
           × ((ms : List Made) × (MovesOf l h s cs ms × MovesOf m h s cs ms)))
       tell c (inl f) = told-of (alike cs c (never-both (f .within)))
-      tell c (inr k) = absurd (n (cut-end (seen (run l h s cs)) _ _ _ (k .sees) (x .1 .1 .1)))
+      tell c (inr k) = absurd (n (cut-end (observed (run l h s cs)) _ _ _ (k .sees) (x .1 .1 .1)))
 
       go : ComesTo l low h s cs
-          → (run m h s cs .left .verdict ≡ Taken) × ((seen (run m h s cs) ≡ seen (run l h s cs))
+          → (run m h s cs .left .verdict ≡ Taken) × ((observed (run m h s cs) ≡ observed (run l h s cs))
           × ((ms : List Made) × (MovesOf l h s cs ms × MovesOf m h s cs ms)))
       go (inl c) = tell (c .1 .1) (comes-either l low h s (c .1 .1))
       go (inr d) = absurd (d .0 (x .0))

@@ -151,8 +151,8 @@ module _ where
 abbrev pub empty : Caches
 empty = record { referrals = free ∷ []; domains = free ∷ [] }
 
-abbrev pub turning : Caches
-turning = record {
+abbrev pub interlinked : Caches
+interlinked = record {
   referrals =
       used (record {
         prefix = ab;
@@ -203,7 +203,7 @@ rows =
     -- prefix `\MyDomain\MyDfs`, target `\someserver\someshare\somepath`, path `\MyDomain\MyDfs\MyDir`: `\someserver\someshare\somepath\MyDir`
     ∷ replacing myDfs someTarget (myDfs ++ myDir) (someTarget ++ myDir)
     -- `\a\b\c`, a fresh link `\a\b` with Interlink and target `\a\b`, limit 5: five moves, no question, end 24
-    ∷ moving turning 5 abc (replacement abc ∷ replacement abc ∷ replacement abc ∷ replacement abc ∷ replacement abc ∷ []) (ends 24 5)
+    ∷ moving interlinked 5 abc (replacement abc ∷ replacement abc ∷ replacement abc ∷ replacement abc ∷ replacement abc ∷ []) (ends 24 5)
     -- one version 3 entry, `\files\s1` to `\nas1\s1`, offsets 34, 34, 54: 80 bytes are read, 79 are malformed
     ∷ reading files reply 80 (some (files ∷ nas ∷ []))
     ∷ reading files reply 79 none

@@ -50,9 +50,9 @@ pub data Calls : Type 0 where
   then : Calls → Answer → Calls
 
 -- the walk with limit l. "Each gets the walk and caches that the last one left": what the last call of a list gives and leaves
-unfoldable pub answered : Answered → Answer → Answered
-answered o (referral status reply clock out) = referralCall (o .refs) (o .doms) (o .left .texts) (o .left .walk) status reply clock out
-answered o (io status clock out) = ioCall (o .refs) (o .doms) (o .left .texts) (o .left .walk) status clock out
+unfoldable pub afterAnswer : Answered → Answer → Answered
+afterAnswer o (referral status reply clock out) = referralCall (o .refs) (o .doms) (o .left .texts) (o .left .walk) status reply clock out
+afterAnswer o (io status clock out) = ioCall (o .refs) (o .doms) (o .left .texts) (o .left .walk) status clock out
 
 unfoldable pub run : ℕ → Held → Start → Calls → Answered
 run l h s start = record {
@@ -60,7 +60,7 @@ run l h s start = record {
   refs = h .refs;
   doms = h .doms;
 }
-run l h s (then cs a) = answered (run l h s cs) a
+run l h s (then cs a) = afterAnswer (run l h s cs) a
 
 -- "a refused start ends the list"
 pub data InList (l : ℕ) (h : Held) (s : Start) : Calls → Type 0 where
@@ -85,8 +85,8 @@ outOf s start = s .out
 outOf s (then cs a) = answerOut a
 
 -- what is seen of a walk with a limit: what the steps use, where it rests, its count and the caches
-unfoldable pub seen : Answered → Unlimited
-seen o = record {
+unfoldable pub observed : Answered → Unlimited
+observed o = record {
   core = coreIn (o .left .walk) (o .left .texts);
   rest = restIn (o .left .walk) (o .left .texts);
   count = o .left .walk .moves;
@@ -153,28 +153,28 @@ pub data CutBefore (l : ℕ) (h : Held) (s : Start) : Calls → Type 0 where
 -- what the last call of a list comes to for the walk with limit l, by what it was given, and the count before it
 unfoldable pub opening : ℕ → Held → Start → Calls → Opening
 opening l h s start = startOpening h s
-opening l h s (then cs a) = answerOpening (seen (run l h s cs)) a
+opening l h s (then cs a) = answerOpening (observed (run l h s cs)) a
 
-unfoldable pub before : ℕ → Held → Start → Calls → ℕ
-before l h s start = 0
-before l h s (then cs a) = run l h s cs .left .walk .moves
+unfoldable pub countBefore : ℕ → Held → Start → Calls → ℕ
+countBefore l h s start = 0
+countBefore l h s (then cs a) = run l h s cs .left .walk .moves
 
 -- the path before it
 unfoldable pub pathBefore : ℕ → Held → Start → Calls → List ℕ
 pathBefore l h s start = normalised (s .path)
-pathBefore l h s (then cs a) = seen (run l h s cs) .core .path
+pathBefore l h s (then cs a) = observed (run l h s cs) .core .path
 
 -- The moves of a call of a walk with a limit, each with the caches after it: a list by the steps from what the call was given to what it leaves. A refused
 -- call makes none; a call that is cut has made the moves up to the limit.
 pub data Moved (l clock : ℕ) (boot : List ℕ) (count : ℕ) (o : Answered) : Opening → List Made → Type 0 where
   no-move : {p : Opening} → (o .left .verdict ≡ Taken → ⊥) → Moved l clock boot count o p []
   to-rest : {t : Turn} {ms : List Move} {w : Core} {r : Rest} → Rests t clock boot ms w r → o .left .verdict ≡ Taken
-      → seen o ≡ restsAt (t .caches) w r (count + length ms) → Moved l clock boot count o (opens t) (madeIn (t .caches) ms)
+      → observed o ≡ restsAt (t .caches) w r (count + length ms) → Moved l clock boot count o (opens t) (madeIn (t .caches) ms)
   to-limit : {t : Turn} {ms : List Move} {w : Core} → CallsForMore t clock ms w → count + length ms ≡ l → o .left .verdict ≡ Taken
-      → seen o ≡ restsAt (t .caches) w (ended LimitReached 0 []) l → Moved l clock boot count o (opens t) (madeIn (t .caches) ms)
+      → observed o ≡ restsAt (t .caches) w (ended LimitReached 0 []) l → Moved l clock boot count o (opens t) (madeIn (t .caches) ms)
 
 -- A call shows what the unlimited walk does in it: the same number, or the same moves, question or end, count and caches, and the question's request in the buffer.
 pub data Same (l clock : ℕ) (boot out : List ℕ) (count : ℕ) (o : Answered) (p : Opening) : Brings → Type 0 where
   same-number : {v : Verdict} → o .left .verdict ≡ v → (v ≡ Taken → ⊥) → Moved l clock boot count o p [] → Same l clock boot out count o p (number v)
-  same-rest : {ms : List Made} {u : Unlimited} → o .left .verdict ≡ Taken → seen o ≡ u
+  same-rest : {ms : List Made} {u : Unlimited} → o .left .verdict ≡ Taken → observed o ≡ u
       → o .left .out ≡ withRequest (requestName (u .core) (u .rest)) out → Moved l clock boot count o p ms → Same l clock boot out count o p (comes ms u)

@@ -22,5 +22,5 @@ unitsRun l h s units start = record {
 unitsRun l h s units (then cs a) = answeredUnits (unitsRun l h s units cs) a
 
 -- what a call leaves, the walk as its packed form
-unfoldable pub unitsOf : Answered → AnswerLeft
-unitsOf o = answerLeft (refusalNumber (o .left .verdict)) (packedWalk (o .left .walk) ++ o .left .texts) (o .left .out) (o .refs) (o .doms)
+unfoldable pub packedAnswer : Answered → AnswerLeft
+packedAnswer o = answerLeft (refusalNumber (o .left .verdict)) (packedWalk (o .left .walk) ++ o .left .texts) (o .left .out) (o .refs) (o .doms)

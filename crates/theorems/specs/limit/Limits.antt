@@ -17,24 +17,24 @@ use Rattle.walk_calls.specs.declared.call_end.Verdict.the-variants.{Taken, Shor
 use Rattle.theorems.specs.limit.Unlimited.{Move, replacement, Makes, Halts, Opening, opens, Unlimited, Made, madeIn, restsAt, pathAfter, Rests, Brings, Call, CallsFor, Within}
 use Rattle.walk_form.specs.held.Walks.{bootIn}
 use Rattle.dfsc_memory.specs.Units.{textsIn}
-use Rattle.theorems.specs.limit.Exported.{unitsRun, unitsOf}
-use Rattle.theorems.specs.limit.Calls.{shownMove, Held, Start, Answer, Calls, start, then, run, answered, InList, startOpening, eventOf, answerOpening, Follows, Comes, CutBy, CutBefore, clockOf, outOf, seen, opening, before, pathBefore, Moved, Same}
+use Rattle.theorems.specs.limit.Exported.{unitsRun, packedAnswer}
+use Rattle.theorems.specs.limit.Calls.{shownMove, Held, Start, Answer, Calls, start, then, run, afterAnswer, InList, startOpening, eventOf, answerOpening, Follows, Comes, CutBy, CutBefore, clockOf, outOf, observed, opening, countBefore, pathBefore, Moved, Same}
 
 -- the moves that the last call of a list gives the walk with limit l
 abbrev pub MovesOf : ℕ → Held → Start → Calls → List Made → Type 0
-MovesOf l h s cs ms = Moved l (clockOf s cs) (s .boot) (before l h s cs) (run l h s cs) (opening l h s cs) ms
+MovesOf l h s cs ms = Moved l (clockOf s cs) (s .boot) (countBefore l h s cs) (run l h s cs) (opening l h s cs) ms
 
 -- the walk shows in its last call what the unlimited walk does
 abbrev pub SameIn : ℕ → Held → Start → Calls → Brings → Type 0
-SameIn l h s cs b = Same l (clockOf s cs) (s .boot) (outOf s cs) (before l h s cs) (run l h s cs) (opening l h s cs) b
+SameIn l h s cs b = Same l (clockOf s cs) (s .boot) (outOf s cs) (countBefore l h s cs) (run l h s cs) (opening l h s cs) b
 
 -- the walk ends in this call
 abbrev pub EndsIn : ℕ → Held → Start → Calls → End → Type 0
-EndsIn l h s cs e = (run l h s cs .left .verdict ≡ Taken) × ((status : ℕ) × ((tried : List ℕ) × (seen (run l h s cs) .rest ≡ ended e status tried)))
+EndsIn l h s cs e = (run l h s cs .left .verdict ≡ Taken) × ((status : ℕ) × ((tried : List ℕ) × (observed (run l h s cs) .rest ≡ ended e status tried)))
 
 -- the walk waits for an answer when this call has returned
 abbrev pub WaitsAfter : ℕ → Held → Start → Calls → Type 0
-WaitsAfter l h s cs = (q : Question) × (seen (run l h s cs) .rest ≡ waits q)
+WaitsAfter l h s cs = (q : Question) × (observed (run l h s cs) .rest ≡ waits q)
 
 -- the request of the question then put is longer than the buffer, and no move over the limit was called for
 pub record TooShort (l : ℕ) (h : Held) (s : Start) (cs : Calls) : Type 0 where
@@ -54,7 +54,7 @@ pub record TooShort (l : ℕ) (h : Held) (s : Start) (cs : Calls) : Type 0 where
 
 pub record LimitOnlyCuts (h : Held) (s : Start) (l m : ℕ) : Type 0 where
   -- Document 01. "Demand 3's list is one start, from any caches, then referral answers and I/O answers. Each gets the walk and caches that the last one left;"
-  pub each-gets : (cs : Calls) (a : Answer) → run l h s (then cs a) ≡ answered (run l h s cs) a
+  pub each-gets : (cs : Calls) (a : Answer) → run l h s (then cs a) ≡ afterAnswer (run l h s cs) a
   -- "a refused start ends the list"
   pub start-ends : (cs : Calls) (a : Answer) → InList l h s (then cs a) → run l h s start .left .verdict ≡ Taken
   -- "It is one claim about the list": the unlimited walk has followed all calls of it, unless one called for move L + 1.
@@ -99,7 +99,7 @@ pub record LimitOnlyCuts (h : Held) (s : Start) (l m : ℕ) : Type 0 where
       → (b : Brings) × (Call (clockOf s cs) (s .boot) (outOf s cs) n p b × SameIn l h s cs b)
   -- "whether or not 10 would follow; in that call the L walk ends 24 with the caches as they then are", having made the moves up to L
   pub then-cut : (cs : Calls) {p : Opening} {n : ℕ} → Comes h s cs p n → (CutBefore l h s cs → ⊥) → (k : CallsFor p (clockOf s cs) n (suc l))
-      → (run l h s cs .left .verdict ≡ Taken) × ((seen (run l h s cs) ≡ restsAt (k .turn .caches) (k .core) (ended LimitReached 0 []) l)
+      → (run l h s cs .left .verdict ≡ Taken) × ((observed (run l h s cs) ≡ restsAt (k .turn .caches) (k .core) (ended LimitReached 0 []) l)
       × MovesOf l h s cs (madeIn (k .turn .caches) (k .moves)))
   -- "moves made inside it are stated as a list of moves by the steps, each with the caches after it, from what it was given to the path, question, caches and
   -- count that it leaves"; the list is determined
@@ -108,21 +108,21 @@ pub record LimitOnlyCuts (h : Held) (s : Start) (l m : ℕ) : Type 0 where
   pub caches-after : (cs : Calls) {ms : List Made} → InList l h s cs → run l h s cs .left .verdict ≡ Taken → MovesOf l h s cs ms
       → (moves : List Move) × (ms ≡ map (λ m. record { move = m; caches = cachesOf (run l h s cs .refs) (run l h s cs .doms) }) moves)
   -- the question put last is the one that the host is shown of what the call left (kind, party, name, size), and the path left is that of the last replacement
-  pub last-shown : (cs : Calls) {ms : List Made} {q : Question} → InList l h s cs → run l h s cs .left .verdict ≡ Taken → seen (run l h s cs) .rest ≡ waits q → MovesOf l h s cs ms
+  pub last-shown : (cs : Calls) {ms : List Made} {q : Question} → InList l h s cs → run l h s cs .left .verdict ≡ Taken → observed (run l h s cs) .rest ≡ waits q → MovesOf l h s cs ms
       → (first : List Made) × (ms ≡ first ++ (record { move = shownMove (run l h s cs) q; caches = cachesOf (run l h s cs .refs) (run l h s cs .doms) } ∷ []))
   pub path-left : (cs : Calls) {ms : List Made} → InList l h s cs → run l h s cs .left .verdict ≡ Taken → MovesOf l h s cs ms
-      → seen (run l h s cs) .core .path ≡ pathAfter (pathBefore l h s cs) ms
+      → observed (run l h s cs) .core .path ≡ pathAfter (pathBefore l h s cs) ms
   pub moves-one-list : (cs : Calls) {ms ns : List Made} → MovesOf l h s cs ms → MovesOf l h s cs ns → ms ≡ ns
   -- The calls that hosts in other languages make, from any units with these texts: each gives and leaves what the call of the list does, the walk as its packed form.
-  pub exported : (units : List ℕ) → textsIn units ≡ h .texts → run l h s start .left .verdict ≡ Taken → (cs : Calls) → unitsRun l h s units cs ≡ unitsOf (run l h s cs)
+  pub exported : (units : List ℕ) → textsIn units ≡ h .texts → run l h s start .left .verdict ≡ Taken → (cs : Calls) → unitsRun l h s units cs ≡ packedAnswer (run l h s cs)
   -- Demand 3. "Until the call in which the L walk ends, each call gives both walks the same moves, with equal caches after each, and the same refusal number or question."
   pub start-refused : (run l h s start .left .verdict ≡ Taken → ⊥) → run m h s start ≡ run l h s start
   pub until-the-end : (cs : Calls) → run l h s start .left .verdict ≡ Taken → WaitsAfter l h s cs
-      → (run m h s cs .left .verdict ≡ run l h s cs .left .verdict) × ((seen (run m h s cs) ≡ seen (run l h s cs))
+      → (run m h s cs .left .verdict ≡ run l h s cs .left .verdict) × ((observed (run m h s cs) ≡ observed (run l h s cs))
       × ((run m h s cs .left .out ≡ run l h s cs .left .out) × ((ms : List Made) × (MovesOf l h s cs ms × MovesOf m h s cs ms))))
   -- "If the L walk ends in anything but "limit reached", the M walk ends in that call too, with the same moves, end and caches."
   pub ends-alike : (cs : Calls) {e : End} → InList l h s cs → (e ≡ LimitReached → ⊥) → EndsIn l h s cs e
-      → (run m h s cs .left .verdict ≡ Taken) × ((seen (run m h s cs) ≡ seen (run l h s cs))
+      → (run m h s cs .left .verdict ≡ Taken) × ((observed (run m h s cs) ≡ observed (run l h s cs))
       × ((ms : List Made) × (MovesOf l h s cs ms × MovesOf m h s cs ms)))
   -- "If it ends in "limit reached", the M walk, unless refused there for a short output buffer, first makes the same moves, with equal caches after each."
   pub first-the-same : (cs : Calls) → InList l h s cs → EndsIn l h s cs LimitReached

@@ -1,4 +1,2 @@
--- The input of the program `walk`: document 01, "Examples to hold it to".
-pub mod line_bytes
-pub mod lines
+-- The input of the program `walk` as it comes.
 pub mod pieces

@@ -1,13 +1,13 @@
 // The lines of the input of `walk` in their order: which may follow which, and where the input may end.
 ghost use mathlib.Core.Path.{_≡_};
-ghost use Rattle.script_input.specs.lines.Script.{takesAnswer, isStatus, isReply, inputRead, takesAfter, isWhole, takes, keptOf};
-ghost use Rattle.script_input.specs.lines.Script.{wholeRead, takesOn, inputTaken, lineDue, endDue, dueBefore, readDue, dueAfter, goesOn};
-use crate::line_bytes::Held;
-use crate::line_bytes::Rest;
-use crate::lines::Due;
-use crate::lines::Input;
-use crate::lines::Last;
-use crate::lines::Script;
+ghost use Rattle.script_lines.specs.lines.Script.{takesAnswer, isStatus, isReply, inputRead, takesAfter, isWhole, takes, keptOf};
+ghost use Rattle.script_lines.specs.lines.Script.{wholeRead, takesOn, inputTaken, lineDue, endDue, dueBefore, readDue, dueAfter, goesOn};
+use script_lines::line_bytes::Held;
+use script_lines::line_bytes::Rest;
+use script_lines::lines::Due;
+use script_lines::lines::Input;
+use script_lines::lines::Last;
+use script_lines::lines::Script;
 
 const NOW: [u16; 4] = [110, 111, 119, 61];
 
@@ -19,9 +19,9 @@ fn take_answer(s: Script, line: &[u16]) -> Script
 {
     let key = NOW;
     if listing_read::line::has_key(&key, line) {
-        return crate::lines::take_clock(s, line, Last::Clock);
+        return script_lines::lines::take_clock(s, line, Last::Clock);
     }
-    crate::lines::take_status(s, line)
+    script_lines::lines::take_status(s, line)
 }
 
 fn is_status(last: Last) -> bool
@@ -71,13 +71,13 @@ fn take_whole(s: Script, line: &[u16], path: &mut [u16], boot: &mut [u16]) -> Sc
 {
     let last = s.last;
     match last {
-        Last::Nothing => crate::lines::take_path(s, line, path),
-        Last::Path => crate::lines::take_limit(s, line),
-        Last::Limit => crate::lines::take_size(s, line),
-        Last::Size => crate::lines::take_clock(s, line, Last::Now),
-        Last::Now => crate::lines::take_boot(s, line, boot),
+        Last::Nothing => script_lines::lines::take_path(s, line, path),
+        Last::Path => script_lines::lines::take_limit(s, line),
+        Last::Limit => script_lines::lines::take_size(s, line),
+        Last::Size => script_lines::lines::take_clock(s, line, Last::Now),
+        Last::Now => script_lines::lines::take_boot(s, line, boot),
         Last::Boot => take_answer(s, line),
-        Last::Clock => crate::lines::take_status(s, line),
+        Last::Clock => script_lines::lines::take_status(s, line),
         Last::Status => take_answer(s, line),
         Last::Reply => take_answer(s, line),
         Last::Other => s,
@@ -99,10 +99,10 @@ fn take_line(
     let n = memory::least(held.kept, line.len());
     let rest = held.rest;
     if is_reply(s, &line[..n]) {
-        return crate::lines::take_reply(s, &line[..n], rest, reply);
+        return script_lines::lines::take_reply(s, &line[..n], rest, reply);
     }
     if !is_whole(rest) {
-        return crate::lines::with_last(s, Last::Other);
+        return script_lines::lines::with_last(s, Last::Other);
     }
     take_whole(s, &line[..n], path, boot)
 }
@@ -158,7 +158,7 @@ pub fn take(
     match input {
         Input::Part => s,
         Input::Line => take_on(s, line, held, path, boot, reply),
-        Input::End => crate::lines::with_last(s, Last::Stopped),
+        Input::End => script_lines::lines::with_last(s, Last::Stopped),
     }
 }
 

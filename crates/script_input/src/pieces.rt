@@ -1,9 +1,9 @@
 // A line of the input of `walk`, as pieces of the input come.
 ghost use mathlib.Core.Path.{_≡_};
 ghost use Rattle.script_input.specs.pieces.Pieces.{noLine, nothingCame, goingOn, lastCame, arrived, arrives};
-use crate::line_bytes::Held;
-use crate::line_bytes::Rest;
-use crate::lines::Input;
+use script_lines::line_bytes::Held;
+use script_lines::line_bytes::Rest;
+use script_lines::lines::Input;
 
 // What has come of a line: what is held of it, where the piece goes on, what it is, and whether no more comes.
 pub struct Came {
@@ -76,7 +76,7 @@ pub fn come(units: &[u16], line: &mut [u16], last: Came) -> Came
         return last_came(held, at);
     }
     let end = listing_read::line::line_end(units, at);
-    let next = crate::line_bytes::hold(&units[at..end], line, held);
+    let next = script_lines::line_bytes::hold(&units[at..end], line, held);
     if end == units.len() {
         return Came {
             held: next,

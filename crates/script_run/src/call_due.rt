@@ -6,9 +6,9 @@ ghost use lib.ListN.{length};
 ghost use Rattle.walk_calls.specs.calls.Code.{answered};
 ghost use Rattle.script_run.specs.call_due.Calling.{lentMemory, requestRoom, callTold, startMade, ioMade, referralMade, made, CallMade};
 ghost use Rattle.script_run.specs.call_due.Code.{Refused};
-use script_input::lines::Due;
-use script_input::lines::Last;
-use script_input::lines::Script;
+use script_lines::lines::Due;
+use script_lines::lines::Last;
+use script_lines::lines::Script;
 use walk_calls::call_end::Outcome;
 use walk_form::held::Walk;
 
@@ -37,7 +37,7 @@ fn tell(s: Script, o: Outcome, refs: &[u16], doms: &[u16], texts: &[u16], out: &
     let walk = o.walk;
     let bytes = script_output::outcome::put_outcome(number, refs, doms, walk, texts, out);
     if number != 0 {
-        let script = script_input::lines::with_last(s, Last::Stopped);
+        let script = script_lines::lines::with_last(s, Last::Stopped);
         return Done {
             script,
             walk,
@@ -56,7 +56,7 @@ fn refuse(s: Script, walk: Walk, out: &mut [u16]) -> Done
     requires { ⌜ 4931 ≤ length (now out) ⌝ }
     ensures { λ r. ⌜ Refused s walk r (now (out .entry)) (now (out .exit)) ⌝ }
 {
-    let script = script_input::lines::with_last(s, Last::Stopped);
+    let script = script_lines::lines::with_last(s, Last::Stopped);
     let bytes = script_output::outcome_lines::put_refused(out, 0, 0);
     Done {
         script,

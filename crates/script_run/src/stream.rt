@@ -10,8 +10,8 @@ ghost use Rattle.script_run.specs.stream.Stream.{Leaves, NextPiece};
 use crate::call_due::Done;
 use libc::STDIN_FILENO;
 use libc::STDOUT_FILENO;
-use script_input::lines::Due;
-use script_input::lines::Script;
+use script_lines::lines::Due;
+use script_lines::lines::Script;
 use walk_form::held::Walk;
 
 // Memory for what a call prints.
@@ -57,7 +57,7 @@ fn read(units: &mut [u16]) -> usize
     let mut bytes = io::buffer();
     let got = libc::read(STDIN_FILENO, &mut bytes);
     let n = io::count(got, &bytes);
-    script_input::line_bytes::widen(&bytes[..n], units)
+    script_lines::line_bytes::widen(&bytes[..n], units)
 }
 
 // A piece of the input: its bytes, and where to go on in it.

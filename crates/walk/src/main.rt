@@ -2,7 +2,7 @@
 // `script_input::line_order` what it says and which call is due, and `script_run::stream` reads, makes the call and writes its lines.
 ghost use mathlib.Core.Path.{_≡_};
 ghost use lib.ListN.{length};
-use script_input::lines::Due;
+use script_lines::lines::Due;
 
 // The places of a cache, all free.
 fn cache() -> [u16; 18688]
@@ -50,7 +50,7 @@ fn main() {
     let mut reply = reply_memory();
     let mut count = 0;
     let mut came = script_input::pieces::nothing();
-    let mut s = script_input::lines::begin();
+    let mut s = script_lines::lines::begin();
     let mut walk = dfsc_memory::no_walk();
     // a turn takes up what comes next, or reads what has come; a call may be due after each
     let mut unread = false;

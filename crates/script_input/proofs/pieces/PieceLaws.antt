@@ -10,9 +10,9 @@ use borrow.Author.Tests.{eq-eqb, ne-eqb, lt-ltb, le-ltb}
 use Rattle.laws.specs.Choice.{choose}
 use Rattle.laws.proofs.Choices.{choose-yes, choose-no}
 use Rattle.listing_read.specs.line.Lines.{lineLength}
-use Rattle.script_input.specs.line_bytes.Held.{heldAfter, lineAfter}
-use Rattle.script_input.specs.declared.line_bytes.Held.{Held}
-use Rattle.script_input.specs.declared.lines.Input.the-variants.{Part, Line, End}
+use Rattle.script_lines.specs.line_bytes.Held.{heldAfter, lineAfter}
+use Rattle.script_lines.specs.declared.line_bytes.Held.{Held}
+use Rattle.script_lines.specs.declared.lines.Input.the-variants.{Part, Line, End}
 use Rattle.script_input.specs.declared.pieces.Came.{Came}
 use Rattle.script_input.specs.pieces.Pieces.{came, lastCame, lineIn, upTo, arrived, arrives}
 

@@ -7,11 +7,11 @@ use lib.ListN.{length, take, drop}
 use lib.Dec.{eqb, ltb}
 use Rattle.laws.specs.Choice.{choose}
 use Rattle.listing_read.specs.line.Lines.{lineLength}
-use Rattle.script_input.specs.line_bytes.Held.{heldAfter, lineAfter}
-use Rattle.script_input.specs.declared.line_bytes.Held.{Held}
-use Rattle.script_input.specs.declared.line_bytes.Rest.the-variants.{None}
-use Rattle.script_input.specs.declared.lines.Input.{Input}
-use Rattle.script_input.specs.declared.lines.Input.the-variants.{Part, Line, End}
+use Rattle.script_lines.specs.line_bytes.Held.{heldAfter, lineAfter}
+use Rattle.script_lines.specs.declared.line_bytes.Held.{Held}
+use Rattle.script_lines.specs.declared.line_bytes.Rest.the-variants.{None}
+use Rattle.script_lines.specs.declared.lines.Input.{Input}
+use Rattle.script_lines.specs.declared.lines.Input.the-variants.{Part, Line, End}
 use Rattle.script_input.specs.declared.pieces.Came.{Came}
 
 abbrev pub came : Held → ℕ → Input → Bool → Came

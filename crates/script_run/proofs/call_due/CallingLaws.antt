@@ -12,7 +12,7 @@ use Rattle.laws.specs.Choice.{choose}
 use Rattle.laws.specs.Lists.{every, part}
 use Rattle.laws.proofs.Pasting.{part-pasted}
 use Rattle.laws.proofs.Choices.{choose-yes, choose-no}
-use Rattle.script_input.proofs.line_bytes.HexLaws.{take-least}
+use Rattle.script_lines.proofs.line_bytes.HexLaws.{take-least}
 use Rattle.walk_form.specs.declared.held.Walk.{Walk}
 use Rattle.walk_calls.specs.call_end.Code.{left}
 use Rattle.walk_calls.specs.declared.call_end.Outcome.{Outcome}
@@ -27,11 +27,11 @@ use Rattle.script_output.proofs.printed.ByteLaws.{refused-all}
 use Rattle.script_output.specs.outcome.Telling.{outcomeLines}
 use Rattle.script_output.proofs.outcome.TellingLaws.{outcome-bytes, taken-whole}
 use Rattle.script_output.proofs.outcome.ByteLaws.{outcome-all}
-use Rattle.script_input.specs.lines.Script.{after}
-use Rattle.script_input.specs.declared.lines.Script.{Script}
-use Rattle.script_input.specs.declared.lines.Last.the-variants.{Stopped}
-use Rattle.script_input.specs.declared.lines.Due.{Due}
-use Rattle.script_input.specs.declared.lines.Due.the-variants as due
+use Rattle.script_lines.specs.lines.Script.{after}
+use Rattle.script_lines.specs.declared.lines.Script.{Script}
+use Rattle.script_lines.specs.declared.lines.Last.the-variants.{Stopped}
+use Rattle.script_lines.specs.declared.lines.Due.{Due}
+use Rattle.script_lines.specs.declared.lines.Due.the-variants as due
 use Rattle.script_run.specs.declared.call_due.Done.{Done}
 use Rattle.script_run.specs.call_due.Calling.{LentMemory, lentMemory, CallLeft, callLeft, callTold, requestRoom, startMade, ioMade, referralMade, made, CallMade}
 use Rattle.script_run.specs.call_due.Code.{Refused}

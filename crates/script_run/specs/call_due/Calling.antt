@@ -10,11 +10,11 @@ use Rattle.walk_calls.specs.calls.Calls.{Answered, refusalNumber, startCall, io
 use Rattle.listing_spelling.specs.spell.Spelling.{Put}
 use Rattle.script_output.specs.printed.Printed.{refusedLine}
 use Rattle.script_output.specs.outcome.Telling.{outcomeLines}
-use Rattle.script_input.specs.lines.Script.{after}
-use Rattle.script_input.specs.declared.lines.Script.{Script}
-use Rattle.script_input.specs.declared.lines.Last.the-variants.{Stopped}
-use Rattle.script_input.specs.declared.lines.Due.{Due}
-use Rattle.script_input.specs.declared.lines.Due.the-variants as due
+use Rattle.script_lines.specs.lines.Script.{after}
+use Rattle.script_lines.specs.declared.lines.Script.{Script}
+use Rattle.script_lines.specs.declared.lines.Last.the-variants.{Stopped}
+use Rattle.script_lines.specs.declared.lines.Due.{Due}
+use Rattle.script_lines.specs.declared.lines.Due.the-variants as due
 use Rattle.script_run.specs.declared.call_due.Done.{Done}
 
 -- the walk that the program holds, and all memory that it lends

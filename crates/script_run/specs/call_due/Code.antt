@@ -5,9 +5,9 @@ use mathlib.Core.List.{List}
 use Rattle.walk_form.specs.declared.held.Walk.{Walk}
 use Rattle.listing_spelling.specs.spell.Spelling.{Put}
 use Rattle.script_output.specs.printed.Printed.{refusedLine}
-use Rattle.script_input.specs.lines.Script.{after}
-use Rattle.script_input.specs.declared.lines.Script.{Script}
-use Rattle.script_input.specs.declared.lines.Last.the-variants.{Stopped}
+use Rattle.script_lines.specs.lines.Script.{after}
+use Rattle.script_lines.specs.declared.lines.Script.{Script}
+use Rattle.script_lines.specs.declared.lines.Last.the-variants.{Stopped}
 use Rattle.script_run.specs.declared.call_due.Done.{Done}
 
 -- the input is refused: what is said by `Made`, of what does not touch the caches

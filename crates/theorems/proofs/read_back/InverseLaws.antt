@@ -24,9 +24,9 @@ use Rattle.listing_spelling.specs.declared.unspell.Number.the-variants.{Value}
 use Rattle.listing_write.specs.Form.{pathLine, numberLine}
 use Rattle.listing_write.specs.Keys.{statusKey}
 use Rattle.listing_read.specs.line.Lines.{valueOf, lineHasKey, numberSaid}
-use Rattle.script_input.specs.line_bytes.Hexes.{isHex, hexValue, hexFrom, hexNumber}
-use Rattle.script_input.proofs.line_bytes.HexLaws.{upper-low}
-use Rattle.script_input.specs.lines.Script.{isText, textSaid, textRead, textTaken, statusSaid}
+use Rattle.script_lines.specs.line_bytes.Hexes.{isHex, hexValue, hexFrom, hexNumber}
+use Rattle.script_lines.proofs.line_bytes.HexLaws.{upper-low}
+use Rattle.script_lines.specs.lines.Script.{isText, textSaid, textRead, textTaken, statusSaid}
 use Rattle.script_output.specs.printed.Printed.{statusLine}
 use Rattle.theorems.specs.read_back.Inverse.{Inverse}
 

@@ -10,7 +10,7 @@ use Rattle.listing_spelling.specs.declared.unspell.Spelled.the-variants.{Units}
 use Rattle.listing_spelling.specs.declared.unspell.Number.the-variants.{Value}
 use Rattle.listing_write.specs.Form.{pathLine, numberLine}
 use Rattle.listing_read.specs.line.Lines.{numberSaid}
-use Rattle.script_input.specs.lines.Script.{textRead, textTaken, statusSaid}
+use Rattle.script_lines.specs.lines.Script.{textRead, textTaken, statusSaid}
 use Rattle.script_output.specs.printed.Printed.{statusLine}
 
 pub record Inverse : Type 0 where

@@ -1,6 +1,6 @@
 use mathlib.Core.Path.{sym, ap, _∙_}
-use Rattle.script_input.specs.declared.lines.Input.{Input}
-use Rattle.script_input.specs.lines.Script.{dueAfter}
+use Rattle.script_lines.specs.declared.lines.Input.{Input}
+use Rattle.script_lines.specs.lines.Script.{dueAfter}
 use borrow.Author.Needs.{needs}
 use Rattle.script_input.proofs.line_order.due_after.Statement.{statement}
 use Rattle.script_input.proofs.line_order.due_after.Tie as tie

@@ -1,7 +1,7 @@
 use mathlib.Core.Path.{sym, ap, _∙_}
 use denote.Ref.{now}
-use Rattle.script_input.specs.declared.lines.Input.{Input}
-use Rattle.script_input.specs.lines.Script.{dueBefore, keptOf}
+use Rattle.script_lines.specs.declared.lines.Input.{Input}
+use Rattle.script_lines.specs.lines.Script.{dueBefore, keptOf}
 use borrow.Author.Needs.{needs}
 use Rattle.script_input.proofs.line_order.due_before.Statement.{statement}
 use Rattle.script_input.proofs.line_order.due_before.Tie as tie

@@ -1,4 +1,4 @@
-use Rattle.script_input.specs.lines.Script.{endDue}
+use Rattle.script_lines.specs.lines.Script.{endDue}
 use mathlib.Core.Path.{sym, ap}
 use borrow.Author.Needs.{needs}
 use Rattle.script_input.proofs.line_order.end_due.Statement.{statement}

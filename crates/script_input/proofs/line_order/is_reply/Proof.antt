@@ -1,4 +1,4 @@
-use Rattle.script_input.proofs.lines.LineLaws.{no-reply, some-reply}
+use Rattle.script_lines.proofs.lines.LineLaws.{no-reply, some-reply}
 use borrow.Author.Tests.{not-true, not-false}
 use denote.Ref.{now}
 use borrow.Author.Needs.{needs}

@@ -1,4 +1,4 @@
-use Rattle.script_input.specs.lines.Script.{isWhole}
+use Rattle.script_lines.specs.lines.Script.{isWhole}
 use mathlib.Core.Path.{sym, ap}
 use borrow.Author.Needs.{needs}
 use Rattle.script_input.proofs.line_order.is_whole.Statement.{statement}

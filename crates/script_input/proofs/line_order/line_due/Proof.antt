@@ -1,6 +1,6 @@
-use Rattle.script_input.proofs.lines.LineLaws.{no-status-due, reply-due, io-due}
-use Rattle.script_input.specs.lines.Script.{replyKey, keptOf}
-use Rattle.script_input.proofs.line_bytes.HexLaws.{take-least}
+use Rattle.script_lines.proofs.lines.LineLaws.{no-status-due, reply-due, io-due}
+use Rattle.script_lines.specs.lines.Script.{replyKey, keptOf}
+use Rattle.script_lines.proofs.line_bytes.HexLaws.{take-least}
 use Rattle.listing_read.specs.line.Lines.{lineHasKey}
 use lib.Seq.{length-take-le}
 use native.Mathlib.Omega.{arith}

@@ -1,4 +1,4 @@
-use Rattle.script_input.specs.lines.Script.{readDue}
+use Rattle.script_lines.specs.lines.Script.{readDue}
 use mathlib.Core.Path.{sym, ap}
 use borrow.Author.Needs.{needs}
 use Rattle.script_input.proofs.line_order.read_due.Statement.{statement}

@@ -1,8 +1,8 @@
 use mathlib.Core.Path.{sym, ap, _∙_}
 use denote.Ref.{now}
-use Rattle.script_input.specs.declared.lines.Input.{Input}
-use Rattle.script_input.specs.lines.Script.{inputTaken, keptOf, inputRead}
-use Rattle.script_input.specs.declared.lines.Script.{Script}
+use Rattle.script_lines.specs.declared.lines.Input.{Input}
+use Rattle.script_lines.specs.lines.Script.{inputTaken, keptOf, inputRead}
+use Rattle.script_lines.specs.declared.lines.Script.{Script}
 use borrow.Author.Needs.{needs}
 use Rattle.script_input.proofs.line_order.take.Statement.{statement}
 use Rattle.script_input.proofs.line_order.take.Tie as tie

@@ -1,5 +1,5 @@
 use Rattle.laws.proofs.Choices.{choose-yes, choose-no}
-use Rattle.script_input.specs.lines.Script.{takesAnswer}
+use Rattle.script_lines.specs.lines.Script.{takesAnswer}
 use mathlib.Core.Path.{sym, _∙_}
 use borrow.Author.Needs.{needs}
 use Rattle.script_input.proofs.line_order.take_answer.Statement.{statement}

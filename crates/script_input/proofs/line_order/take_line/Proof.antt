@@ -1,6 +1,6 @@
-use Rattle.script_input.proofs.lines.LineLaws.{reply-key, line-reply, line-long, line-whole}
-use Rattle.script_input.specs.lines.Script.{takes, keptOf}
-use Rattle.script_input.proofs.line_bytes.HexLaws.{take-least}
+use Rattle.script_lines.proofs.lines.LineLaws.{reply-key, line-reply, line-long, line-whole}
+use Rattle.script_lines.specs.lines.Script.{takes, keptOf}
+use Rattle.script_lines.proofs.line_bytes.HexLaws.{take-least}
 use lib.Seq.{length-take-le}
 use Prim.Native.Nat.{ℕ}
 use mathlib.Core.List.{List}

@@ -1,4 +1,4 @@
-use Rattle.script_input.proofs.lines.LineLaws.{line-on, line-off}
+use Rattle.script_lines.proofs.lines.LineLaws.{line-on, line-off}
 use borrow.Author.Tests.{not-true, not-false}
 use borrow.Author.Needs.{needs}
 use Rattle.script_input.proofs.line_order.take_on.Statement.{statement}

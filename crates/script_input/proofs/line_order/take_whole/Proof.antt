@@ -1,6 +1,6 @@
-use Rattle.script_input.proofs.lines.LineLaws.{by-last}
-use Rattle.script_input.specs.lines.Script.{ReadInto, wholeRead, takesAfter}
-use Rattle.script_input.specs.declared.lines.Script.{Script}
+use Rattle.script_lines.proofs.lines.LineLaws.{by-last}
+use Rattle.script_lines.specs.lines.Script.{ReadInto, wholeRead, takesAfter}
+use Rattle.script_lines.specs.declared.lines.Script.{Script}
 use mathlib.Core.Path.{refl, ap}
 use denote.Ref.{now}
 use borrow.Author.Needs.{needs}

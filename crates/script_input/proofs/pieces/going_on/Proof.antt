@@ -1,6 +1,6 @@
 use Rattle.script_input.specs.pieces.Pieces.{goingOn}
 use mathlib.Core.Path.{sym, ap, _∙_}
-use Rattle.script_input.specs.declared.lines.Input.{Input}
+use Rattle.script_lines.specs.declared.lines.Input.{Input}
 use borrow.Author.Needs.{needs}
 use Rattle.script_input.proofs.pieces.going_on.Statement.{statement}
 use Rattle.script_input.proofs.pieces.going_on.Tie as tie

@@ -1,8 +1,8 @@
 use Rattle.script_input.specs.pieces.Pieces.{came, nothingCame}
 use mathlib.Core.Bool.{false}
 use mathlib.Core.Path.{ap}
-use Rattle.script_input.specs.declared.line_bytes.Held.{Held}
-use Rattle.script_input.specs.declared.lines.Input.the-variants.{Line}
+use Rattle.script_lines.specs.declared.line_bytes.Held.{Held}
+use Rattle.script_lines.specs.declared.lines.Input.the-variants.{Line}
 use borrow.Author.Needs.{needs}
 use Rattle.script_input.proofs.pieces.nothing.Statement.{statement}
 use Rattle.script_input.proofs.pieces.nothing.Tie as tie

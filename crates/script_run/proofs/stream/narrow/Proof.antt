@@ -5,7 +5,7 @@ use native.Mathlib.Omega.{arith}
 use lib.ListN.{length, take}
 use Rattle.laws.specs.Lists.{pasted}
 use Rattle.laws.proofs.Pasting.{pasted-nil, copied-all}
-use Rattle.script_input.proofs.line_bytes.HexLaws.{front-more}
+use Rattle.script_lines.proofs.line_bytes.HexLaws.{front-more}
 use Rattle.script_output.proofs.printed.ByteLaws.{byte-at}
 use borrow.Author.Needs.{needs}
 use Rattle.script_run.proofs.stream.narrow.Statement.{statement}

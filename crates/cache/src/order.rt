@@ -4,13 +4,21 @@ ghost use mathlib.Core.Bool.{_&&_};
 ghost use Prim.Native.Nat.{_/_, _≤_, _<_};
 ghost use lib.ListN.{length};
 ghost use Rattle.laws.specs.Listed.{sameList};
-ghost use Rattle.cache.specs.places.Layout.{placeCount, unitAt};
+ghost use Rattle.cache.specs.places.Layout.{placeCount, unitAt, countUnit};
 ghost use Rattle.cache.specs.order.Order.{goodReferral, goodDomain};
 ghost use Rattle.cache.specs.order.Memory.{referrals, domains, referralOf, referralUnits, domainOf, domainUnits, rightSize, inOrder};
 ghost use Rattle.cache.specs.order.Code.{goodText, goodTexts, goodFlags, orderedAs, allOrdered, inOrderAs, keyApart, keysApart};
+use crate::places::COUNT;
+use crate::places::FREE;
+use crate::places::HINT;
+use crate::places::MARKS;
 use crate::places::PLACE;
+use crate::places::TTL;
 
 const PLACES: usize = 32;
+
+// The marks, root, Interlink and TargetFailback stand side by side.
+const FLAGS: usize = TTL - MARKS;
 
 fn text_good(text: &[u16], domain: bool) -> bool
     ensures { λ r. ⌜ r ≡ goodText domain (now (text .entry)) ⌝ }
@@ -23,10 +31,10 @@ fn text_good(text: &[u16], domain: bool) -> bool
 
 // Whether the key and the texts of the list of a place are good.
 fn texts_good(piece: &[u16], domain: bool) -> bool
-    requires { ⌜ (length (now piece) ≡ 2336) × (unitAt 9 (now piece) ≤ 8) ⌝ }
+    requires { ⌜ (length (now piece) ≡ 2336) × (unitAt countUnit (now piece) ≤ 8) ⌝ }
     ensures { λ r. ⌜ r ≡ goodTexts domain (now (piece .entry)) ⌝ }
 {
-    let count = piece[9] as usize;
+    let count = piece[COUNT] as usize;
     let mut j = 0;
     while j <= count {
         if !text_good(crate::places::text(piece, 0, j), domain) {
@@ -43,8 +51,8 @@ fn flags_good(piece: &[u16]) -> bool
     ensures { λ r. ⌜ r ≡ goodFlags (now (piece .entry)) ⌝ }
 {
     let mut j = 0;
-    while j < 11 {
-        if 1 < piece[11 + j] {
+    while j < FLAGS {
+        if 1 < piece[MARKS + j] {
             return false;
         }
         j += 1;
@@ -63,10 +71,10 @@ fn referral_ordered(piece: &[u16]) -> bool
     if !flags_good(piece) {
         return false;
     }
-    if piece[11] != 0 {
+    if piece[MARKS] != 0 {
         return false;
     }
-    if piece[9] <= piece[10] {
+    if piece[COUNT] <= piece[HINT] {
         return false;
     }
     texts_good(piece, false)
@@ -80,11 +88,11 @@ fn domain_ordered(piece: &[u16]) -> bool
     if !crate::places::is_tidy(piece) {
         return false;
     }
-    if !crate::places::all_zero(piece, 11, 26) {
+    if !crate::places::all_zero(piece, MARKS, FREE) {
         return false;
     }
-    if piece[10] != 0 {
-        if piece[10] >= piece[9] {
+    if piece[HINT] != 0 {
+        if piece[HINT] >= piece[COUNT] {
             return false;
         }
     }

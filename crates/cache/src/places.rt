@@ -9,12 +9,34 @@ ghost use Rattle.cache.specs.places.Code.{changed, zeros, tidyRooms, tid
 
 pub const PLACE: usize = 2336;
 
-const HEAD: usize = 32;
-
 // The units of the room of a text.
 pub const ROOM: usize = 256;
 
+// The texts of a place. Their lengths are the first units of its head.
 const TEXTS: usize = 9;
+
+// The other units of the head: how many texts the list has, the hint, a mark for each text of the list.
+pub const COUNT: usize = 9;
+
+pub const HINT: usize = 10;
+
+pub const MARKS: usize = 11;
+
+// Settings of a referral entry: three flags, two numbers of two units each.
+pub const ROOT: usize = 19;
+
+pub const INTERLINK: usize = 20;
+
+pub const FAILBACK: usize = 21;
+
+pub const TTL: usize = 22;
+
+pub const TAKEN: usize = 24;
+
+// The units from here on are not in use, and zero.
+pub const FREE: usize = 26;
+
+const HEAD: usize = 32;
 
 // Unit j of place i.
 pub fn unit(cache: &[u16], i: usize, j: usize) -> u16
@@ -64,7 +86,7 @@ pub fn list_count(cache: &[u16], i: usize) -> usize
     requires { ⌜ i < placeCount (now cache) ⌝ }
     ensures { λ r. ⌜ r ≡ listCount (placeAt i (now (cache .entry))) ⌝ }
 {
-    let count = unit(cache, i, 9) as usize;
+    let count = unit(cache, i, COUNT) as usize;
     if count < 8 {
         return count;
     }
@@ -93,11 +115,11 @@ pub fn put_settings(cache: &mut [u16], i: usize, a: u16, b: u16, c: u16, d: u32,
     requires { ⌜ i < placeCount (now cache) ⌝ }
     ensures { λ r. ⌜ now (cache .exit) ≡ changed i (putSettings (a ∷ b ∷ c ∷ (wideUnits d ++ wideUnits e))) (now (cache .entry)) ⌝ }
 {
-    put_unit(cache, i, 19, a);
-    put_unit(cache, i, 20, b);
-    put_unit(cache, i, 21, c);
-    put_wide(cache, i, 22, d);
-    put_wide(cache, i, 24, e);
+    put_unit(cache, i, ROOT, a);
+    put_unit(cache, i, INTERLINK, b);
+    put_unit(cache, i, FAILBACK, c);
+    put_wide(cache, i, TTL, d);
+    put_wide(cache, i, TAKEN, e);
 }
 
 // Makes all of place i but its key zero.
@@ -173,17 +195,17 @@ pub fn is_tidy(piece: &[u16]) -> bool
     requires { ⌜ length (now piece) ≡ 2336 ⌝ }
     ensures { λ r. ⌜ r ≡ tidy (now (piece .entry)) ⌝ }
 {
-    let count = piece[9] as usize;
+    let count = piece[COUNT] as usize;
     if 8 < count {
         return false;
     }
-    if !all_zero(piece, 1 + count, 9) {
+    if !all_zero(piece, 1 + count, TEXTS) {
         return false;
     }
-    if !all_zero(piece, 11 + count, 19) {
+    if !all_zero(piece, MARKS + count, ROOT) {
         return false;
     }
-    if !all_zero(piece, 26, 32) {
+    if !all_zero(piece, FREE, HEAD) {
         return false;
     }
     rooms_tidy(piece)

@@ -9,7 +9,7 @@ use lib.Dec.{leb, ltb}
 use borrow.Author.Tests.{ne-eqb, le-ltb, lt-ltb}
 use Rattle.laws.specs.Choice.{choose}
 use Rattle.laws.proofs.Choices.{choose-yes, choose-no}
-use Rattle.cache.specs.places.Layout.{placeCount, placeAt, unitAt, wideAt}
+use Rattle.cache.specs.places.Layout.{placeCount, placeAt, unitAt, wideAt, ttlUnit, takenUnit}
 use Rattle.cache_lookup.specs.declared.Found.{Found}
 use Rattle.cache_lookup.specs.declared.Found.the-variants.{At, Nothing}
 use Rattle.cache.specs.order.Entries.{Referral, Place}
@@ -23,11 +23,11 @@ pub age-wraps : (r clock taken : ℕ) → (r + taken) % 2 ^ 32 ≡ clock → r <
 unfolding age
 age-wraps r clock taken e h u = omega arith
 
-pub entry-ttl : (raw : List ℕ) (i : ℕ) {r : ℕ} → r ≡ wideAt 22 (placeAt i raw) → r ≡ entryAt referrals i raw .ttl
+pub entry-ttl : (raw : List ℕ) (i : ℕ) {r : ℕ} → r ≡ wideAt ttlUnit (placeAt i raw) → r ≡ entryAt referrals i raw .ttl
 unfolding entryAt referralOf
 entry-ttl raw i e = e
 
-pub entry-taken : (raw : List ℕ) (i : ℕ) {r : ℕ} → r ≡ wideAt 24 (placeAt i raw) → r ≡ entryAt referrals i raw .taken
+pub entry-taken : (raw : List ℕ) (i : ℕ) {r : ℕ} → r ≡ wideAt takenUnit (placeAt i raw) → r ≡ entryAt referrals i raw .taken
 unfolding entryAt referralOf
 entry-taken raw i e = e
 

@@ -8,7 +8,7 @@ use native.Mathlib.Omega.{arith}
 use lib.ListN.{length, getD, set}
 use lib.Dec.{eqb}
 use Rattle.laws.proofs.Listed.{length-listed, getD-listed}
-use Rattle.cache.specs.places.Layout.{placeCount, placeAt, unitAt, flagAt, textAt, listCount}
+use Rattle.cache.specs.places.Layout.{placeCount, placeAt, unitAt, flagAt, textAt, listCount, hintUnit, markUnits, rootUnit, interlinkUnit}
 use Rattle.cache.specs.places.Code.{changed, putUnit}
 use Rattle.cache.proofs.places.PutLaws.{put-hint}
 use Rattle.cache.specs.order.Entries.{Target, Referral, Domain, Place, free, used}
@@ -26,11 +26,11 @@ module _ (raw : List ℕ) (i : ℕ) where
   unfolding entryAt referralOf
   read-prefix e = e
 
-  pub read-root : {u : ℕ} → u ≡ unitAt 19 (placeAt i raw) → eqb u 1 ≡ entryAt referrals i raw .root
+  pub read-root : {u : ℕ} → u ≡ unitAt rootUnit (placeAt i raw) → eqb u 1 ≡ entryAt referrals i raw .root
   unfolding entryAt referralOf flagAt
   read-root e = ap (λ (x : ℕ). eqb x 1) e
 
-  pub read-interlink : {u : ℕ} → u ≡ unitAt 20 (placeAt i raw) → eqb u 1 ≡ entryAt referrals i raw .interlink
+  pub read-interlink : {u : ℕ} → u ≡ unitAt interlinkUnit (placeAt i raw) → eqb u 1 ≡ entryAt referrals i raw .interlink
   unfolding entryAt referralOf flagAt
   read-interlink e = ap (λ (x : ℕ). eqb x 1) e
 
@@ -54,11 +54,11 @@ module _ (raw : List ℕ) (i : ℕ) where
   pub few-dcs : {j : ℕ} → j < length (entryAt domains i raw .dcs) → j < 8
   few-dcs h = let n : length (entryAt domains i raw .dcs) ≡ listCount (placeAt i raw) = count-dcs in omega arith
 
-  pub read-hint : {u : ℕ} → u ≡ unitAt 10 (placeAt i raw) → u ≡ entryAt referrals i raw .hint
+  pub read-hint : {u : ℕ} → u ≡ unitAt hintUnit (placeAt i raw) → u ≡ entryAt referrals i raw .hint
   unfolding entryAt referralOf
   read-hint e = e
 
-  pub read-dc-hint : {u : ℕ} → u ≡ unitAt 10 (placeAt i raw) → u ≡ entryAt domains i raw .hint
+  pub read-dc-hint : {u : ℕ} → u ≡ unitAt hintUnit (placeAt i raw) → u ≡ entryAt domains i raw .hint
   unfolding entryAt domainOf
   read-dc-hint e = e
 
@@ -71,7 +71,7 @@ module _ (raw : List ℕ) (i : ℕ) where
     unfolding targetPath targetOf
     read-target e h = e ∙ ap (λ (t : Target). t .path) (sym (target-of h _))
 
-    pub read-opens : {u : ℕ} → u ≡ unitAt (11 + j) (placeAt i raw) → j < length (entryAt referrals i raw .targets) → eqb u 1 ≡ targetOpens j (entryAt referrals i raw)
+    pub read-opens : {u : ℕ} → u ≡ unitAt (markUnits + j) (placeAt i raw) → j < length (entryAt referrals i raw .targets) → eqb u 1 ≡ targetOpens j (entryAt referrals i raw)
     unfolding targetOpens targetOf flagAt
     read-opens e h = ap (λ (x : ℕ). eqb x 1) e ∙ ap (λ (t : Target). t .opens) (sym (target-of h _))
 
@@ -115,11 +115,11 @@ dc-hint-good h d g u =
     let t : GoodDomain d = domain-told d g in
     good-domain _ (record { named = t .named; few = t .few; each = t .each; hinted = hint-good (d .dcs) h (inr u) })
 
-pub target-hint-units : (h : ℕ) (e : Referral) → goodReferral e ≡ true → putUnit 10 h (referralUnits e) ≡ referralUnits (targetHintTo h e)
+pub target-hint-units : (h : ℕ) (e : Referral) → goodReferral e ≡ true → putUnit hintUnit h (referralUnits e) ≡ referralUnits (targetHintTo h e)
 unfolding referralUnits referralSettings targetHintTo
 target-hint-units h e g = put-hint _ (e .hint) _ _ (referral-shape e g) h
 
-dc-hint-units : (h : ℕ) (d : Domain) → goodDomain d ≡ true → putUnit 10 h (domainUnits d) ≡ domainUnits (dcHintTo h d)
+dc-hint-units : (h : ℕ) (d : Domain) → goodDomain d ≡ true → putUnit hintUnit h (domainUnits d) ≡ domainUnits (dcHintTo h d)
 unfolding domainUnits dcHintTo
 dc-hint-units h d g = put-hint _ (d .hint) _ _ (domain-shape d g) h
 
@@ -129,7 +129,7 @@ record Hint {E : Type 0} (k : Kind E) : Type 0 where
   counts : (raw : List ℕ) (i : ℕ) → count (entryAt k i raw) ≡ listCount (placeAt i raw)
   to : ℕ → E → E
   good : (h : ℕ) (e : E) → k .good e ≡ true → h < count e → k .good (to h e) ≡ true
-  units : (h : ℕ) (e : E) → k .good e ≡ true → putUnit 10 h (k .writes e) ≡ k .writes (to h e)
+  units : (h : ℕ) (e : E) → k .good e ≡ true → putUnit hintUnit h (k .writes e) ≡ k .writes (to h e)
   key : (h : ℕ) (e : E) → k .key (to h e) ≡ k .key e
 
 target-hint : Hint referrals
@@ -156,15 +156,15 @@ module _ {E : Type 0} (k : Kind E) (law : Lawful k) (hint : Hint k) (raw : List 
   well : k .good (hint .to h (entryAt k i raw)) ≡ true
   well = hint .good h (entryAt k i raw) (entry-well k law raw i order fits some) below
 
-  hint-set : {m : List ℕ} → m ≡ changed i (putUnit 10 h) raw → m ≡ encode k (set (decode k raw) i (onEntry (hint .to h) (getD (decode k raw) i free)))
+  hint-set : {m : List ℕ} → m ≡ changed i (putUnit hintUnit h) raw → m ≡ encode k (set (decode k raw) i (onEntry (hint .to h) (getD (decode k raw) i free)))
   hint-set =
-      on-entry k law raw i order fits some (hint .to h) (putUnit 10 h) (hint .units h (entryAt k i raw) (entry-well k law raw i order fits some)) well
+      on-entry k law raw i order fits some (hint .to h) (putUnit hintUnit h) (hint .units h (entryAt k i raw) (entry-well k law raw i order fits some)) well
 
   hint-order : inOrder k (encode k (set (decode k raw) i (onEntry (hint .to h) (getD (decode k raw) i free)))) ≡ true
   hint-order = on-entry-order k law raw i order fits some (hint .to h) well (hint .key h (entryAt k i raw))
 
 module _ (raw : List ℕ) (i h : ℕ) (order : inOrder referrals raw ≡ true) (fits : i < placeCount raw) (below : h < length (entryAt referrals i raw .targets)) where
-  pub target-hint-set : {m : List ℕ} → m ≡ changed i (putUnit 10 h) raw → m ≡ encode referrals (targetHinted i h (decode referrals raw))
+  pub target-hint-set : {m : List ℕ} → m ≡ changed i (putUnit hintUnit h) raw → m ≡ encode referrals (targetHinted i h (decode referrals raw))
   unfolding targetHinted target-hint
   target-hint-set = hint-set referrals referrals-lawful target-hint raw i h order fits below
 
@@ -173,7 +173,7 @@ module _ (raw : List ℕ) (i h : ℕ) (order : inOrder referrals raw ≡ true) (
   target-hint-order = hint-order referrals referrals-lawful target-hint raw i h order fits below
 
 module _ (raw : List ℕ) (i h : ℕ) (order : inOrder domains raw ≡ true) (fits : i < placeCount raw) (below : h < length (entryAt domains i raw .dcs)) where
-  pub dc-hint-set : {m : List ℕ} → m ≡ changed i (putUnit 10 h) raw → m ≡ encode domains (dcHinted i h (decode domains raw))
+  pub dc-hint-set : {m : List ℕ} → m ≡ changed i (putUnit hintUnit h) raw → m ≡ encode domains (dcHinted i h (decode domains raw))
   unfolding dcHinted dc-hint
   dc-hint-set = hint-set domains domains-lawful dc-hint raw i h order fits below
 

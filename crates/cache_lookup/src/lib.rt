@@ -196,14 +196,14 @@ pub fn ttl(cache: &[u16], i: usize) -> u32
     requires { ⌜ i < placeCount (now cache) ⌝ }
     ensures { λ r. ⌜ r ≡ entryAt referrals i (now (cache .entry)) .ttl ⌝ }
 {
-    cache::places::wide(cache, i, 22)
+    cache::places::wide(cache, i, cache::places::TTL)
 }
 
 pub fn taken(cache: &[u16], i: usize) -> u32
     requires { ⌜ i < placeCount (now cache) ⌝ }
     ensures { λ r. ⌜ r ≡ entryAt referrals i (now (cache .entry)) .taken ⌝ }
 {
-    cache::places::wide(cache, i, 24)
+    cache::places::wide(cache, i, cache::places::TAKEN)
 }
 
 pub fn is_expired(cache: &[u16], i: usize, clock: u32) -> bool
@@ -278,14 +278,14 @@ pub fn is_root(cache: &[u16], i: usize) -> bool
     requires { ⌜ i < placeCount (now cache) ⌝ }
     ensures { λ r. ⌜ r ≡ entryAt referrals i (now (cache .entry)) .root ⌝ }
 {
-    cache::places::unit(cache, i, 19) == 1
+    cache::places::unit(cache, i, cache::places::ROOT) == 1
 }
 
 pub fn is_interlink(cache: &[u16], i: usize) -> bool
     requires { ⌜ i < placeCount (now cache) ⌝ }
     ensures { λ r. ⌜ r ≡ entryAt referrals i (now (cache .entry)) .interlink ⌝ }
 {
-    cache::places::unit(cache, i, 20) == 1
+    cache::places::unit(cache, i, cache::places::INTERLINK) == 1
 }
 
 pub fn target_count(cache: &[u16], i: usize) -> usize
@@ -299,7 +299,7 @@ pub fn target_hint(cache: &[u16], i: usize) -> u16
     requires { ⌜ i < placeCount (now cache) ⌝ }
     ensures { λ r. ⌜ r ≡ entryAt referrals i (now (cache .entry)) .hint ⌝ }
 {
-    cache::places::unit(cache, i, 10)
+    cache::places::unit(cache, i, cache::places::HINT)
 }
 
 // Target j of the entry at place i, as it lies in the cache.
@@ -315,7 +315,7 @@ pub fn target_opens(cache: &[u16], i: usize, j: usize) -> bool
     requires { ⌜ (i < placeCount (now cache)) × (j < length (entryAt referrals i (now cache) .targets)) ⌝ }
     ensures { λ r. ⌜ r ≡ targetOpens j (entryAt referrals i (now (cache .entry))) ⌝ }
 {
-    cache::places::unit(cache, i, 11 + j) == 1
+    cache::places::unit(cache, i, cache::places::MARKS + j) == 1
 }
 
 pub fn dc_count(cache: &[u16], i: usize) -> usize
@@ -329,7 +329,7 @@ pub fn dc_hint(cache: &[u16], i: usize) -> u16
     requires { ⌜ i < placeCount (now cache) ⌝ }
     ensures { λ r. ⌜ r ≡ entryAt domains i (now (cache .entry)) .hint ⌝ }
 {
-    cache::places::unit(cache, i, 10)
+    cache::places::unit(cache, i, cache::places::HINT)
 }
 
 // DC j of the entry at place i, as it lies in the cache.
@@ -345,7 +345,7 @@ pub fn set_target_hint(cache: &mut [u16], i: usize, target: u16)
     requires { ⌜ (inOrder referrals (now cache) ≡ true) × ((i < placeCount (now cache)) × (target < length (entryAt referrals i (now cache) .targets))) ⌝ }
     ensures { λ r. ⌜ now (cache .exit) ≡ encode referrals (targetHinted i target (decode referrals (now (cache .entry)))) ⌝ }
 {
-    cache::places::put_unit(cache, i, 10, target);
+    cache::places::put_unit(cache, i, cache::places::HINT, target);
 }
 
 // DCHint of the entry at place i.
@@ -353,5 +353,5 @@ pub fn set_dc_hint(cache: &mut [u16], i: usize, dc: u16)
     requires { ⌜ (inOrder domains (now cache) ≡ true) × ((i < placeCount (now cache)) × (dc < length (entryAt domains i (now cache) .dcs))) ⌝ }
     ensures { λ r. ⌜ now (cache .exit) ≡ encode domains (dcHinted i dc (decode domains (now (cache .entry)))) ⌝ }
 {
-    cache::places::put_unit(cache, i, 10, dc);
+    cache::places::put_unit(cache, i, cache::places::HINT, dc);
 }

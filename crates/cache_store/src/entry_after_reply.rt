@@ -6,7 +6,7 @@ ghost use Prim.Native.Nat.{_/_, _≤_, _<_};
 ghost use lib.ListN.{length, take};
 ghost use Rattle.laws.specs.Lists.{every};
 ghost use Rattle.reply_bytes.specs.texts.Code.{spanned, Inside};
-ghost use Rattle.cache.specs.places.Layout.{placeCount, placeAt};
+ghost use Rattle.cache.specs.places.Layout.{placeCount, placeAt, hintUnit};
 ghost use Rattle.cache.specs.places.Code.{changed, putUnit, putSettings};
 ghost use Rattle.cache.specs.order.Memory.{referrals, decode};
 ghost use Rattle.cache_lookup.specs.Code.{keyIs, entryAt};
@@ -100,17 +100,17 @@ fn in_first_set(cache: &[u16], i: usize, hint: usize) -> bool
 // The hint of place i: target `hint`, or by failback the first where that is not in the first set.
 pub fn put_hint(cache: &mut [u16], i: usize, hint: usize, failback: bool)
     requires { ⌜ (i < placeCount (now cache)) × (hint < length (entryAt referrals i (now cache) .targets)) ⌝ }
-    ensures { λ r. ⌜ now (cache .exit) ≡ changed i (putUnit 10 (failedBack failback (entryAt referrals i (now (cache .entry)) .targets) hint)) (now (cache .entry)) ⌝ }
+    ensures { λ r. ⌜ now (cache .exit) ≡ changed i (putUnit hintUnit (failedBack failback (entryAt referrals i (now (cache .entry)) .targets) hint)) (now (cache .entry)) ⌝ }
 {
     if !failback {
-        cache::places::put_unit(cache, i, 10, hint as u16);
+        cache::places::put_unit(cache, i, cache::places::HINT, hint as u16);
         return;
     }
     if in_first_set(cache, i, hint) {
-        cache::places::put_unit(cache, i, 10, hint as u16);
+        cache::places::put_unit(cache, i, cache::places::HINT, hint as u16);
         return;
     }
-    cache::places::put_unit(cache, i, 10, 0);
+    cache::places::put_unit(cache, i, cache::places::HINT, 0);
 }
 
 // The settings of the reply, and the time taken, into place i.

@@ -188,7 +188,7 @@ fn held_count(cache: &[u16], i: usize) -> usize
     requires { ⌜ i < placeCount (now cache) ⌝ }
     ensures { λ r. ⌜ r ≡ listCount (placeAt i (now (cache .entry))) ⌝ }
 {
-    let units = cache::places::unit(cache, i, 9);
+    let units = cache::places::unit(cache, i, cache::places::COUNT);
     if TARGETS < units {
         return TARGETS as usize;
     }
@@ -202,7 +202,7 @@ fn held_end(cache: &[u16], i: usize, a: usize, n: usize) -> usize
 {
     let mut e = a + 1;
     while e < n {
-        if cache::places::unit(cache, i, 11 + e) == 1 {
+        if cache::places::unit(cache, i, cache::places::MARKS + e) == 1 {
             return e;
         }
         e += 1;

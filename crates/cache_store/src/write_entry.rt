@@ -32,7 +32,7 @@ pub fn add_text(cache: &mut [u16], i: usize, n: usize, reply: &[u8], s: Span)
     let units = s.units;
     memory::put_unit(cache, at + n, units as u16);
     reply_bytes::texts::put_span(reply, s, cache, at + HEAD + n * ROOM, ROOM);
-    cache::places::put_unit(cache, i, 9, n as u16);
+    cache::places::put_unit(cache, i, cache::places::COUNT, n as u16);
 }
 
 // Target n of place i from the reply.
@@ -42,7 +42,7 @@ fn add_target(cache: &mut [u16], i: usize, n: usize, reply: &[u8], k: Kept)
 {
     let s = k.path;
     add_text(cache, i, 1 + n, reply, s);
-    cache::places::put_unit(cache, i, 11 + n, flag_unit(k.opens));
+    cache::places::put_unit(cache, i, cache::places::MARKS + n, flag_unit(k.opens));
 }
 
 // The targets of the reply into place i, which has none.

@@ -66,7 +66,7 @@ fn put_value(text: &[u16], from: usize, end: usize, refs: &mut [u16], i: usize, 
     let stop = listing_spelling::unspell::unspell(&text[from..end], refs, start);
     memory::clear_units(refs, stop, start + ROOM - stop);
     memory::put_unit(refs, at + j, (stop - start) as u16);
-    cache::places::put_unit(refs, i, 9, j as u16);
+    cache::places::put_unit(refs, i, cache::places::COUNT, j as u16);
 }
 
 // Text j of place i from the line of a prefix or a target at `at`; answers where the next line begins.
@@ -85,7 +85,7 @@ fn put_target(text: &[u16], at: usize, refs: &mut [u16], i: usize, n: usize) -> 
     ensures { λ r. ⌜ TargetRead at (now (text .entry)) i n (now (refs .entry)) (now (refs .exit)) r ⌝ }
 {
     let next = put_path(text, at, refs, i, 1 + n);
-    cache::places::put_unit(refs, i, 11 + n, 0);
+    cache::places::put_unit(refs, i, cache::places::MARKS + n, 0);
     next
 }
 
@@ -126,7 +126,7 @@ fn put_settings(text: &[u16], at: usize, refs: &mut [u16], i: usize) -> usize
         ttl.value,
         taken.value,
     );
-    cache::places::put_unit(refs, i, 10, hint.value as u16);
+    cache::places::put_unit(refs, i, cache::places::HINT, hint.value as u16);
     hint.next
 }
 

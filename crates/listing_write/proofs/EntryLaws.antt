@@ -6,7 +6,7 @@ use Prim.Native.Nat.{ℕ, _+_, _≤_}
 use native.Mathlib.Omega.{arith}
 use lib.ListN.{length}
 use Rattle.laws.specs.Lists.{pasted}
-use Rattle.cache.specs.places.Layout.{textAt, flagAt, flagUnit, wideAt, unitAt}
+use Rattle.cache.specs.places.Layout.{textAt, flagAt, flagUnit, wideAt, unitAt, hintUnit, rootUnit, interlinkUnit, failbackUnit, ttlUnit, takenUnit}
 use Rattle.cache.specs.order.Memory.{referralOf}
 use Rattle.listing_spelling.specs.spell.Spelling.{spelled, decimal, Put}
 use Rattle.listing_spelling.proofs.spell.PutLaws.{Left, left-start, left-next, left-done}
@@ -18,8 +18,8 @@ put-same {d} {n} e w = record { memory = w .memory ∙ ap (pasted d n) e; end = 
 
 -- the sum that the lines before the targets have
 module _ (piece : List ℕ) {t : List ℕ} {w x h p a b c : ℕ} (text : t ≡ textAt 0 piece) (prefix : p ≡ 7 + length (spelled t) + 1)
-    (wide : w ≡ wideAt 22 piece) (ttl : a ≡ 4 + length (decimal w) + 1) (wide2 : x ≡ wideAt 24 piece) (taken : b ≡ 6 + length (decimal x) + 1)
-    (unit : h ≡ unitAt 10 piece) (hint : c ≡ 5 + length (decimal h) + 1) where
+    (wide : w ≡ wideAt ttlUnit piece) (ttl : a ≡ 4 + length (decimal w) + 1) (wide2 : x ≡ wideAt takenUnit piece) (taken : b ≡ 6 + length (decimal x) + 1)
+    (unit : h ≡ unitAt hintUnit piece) (hint : c ≡ 5 + length (decimal h) + 1) where
   pub head-sum : p + 33 + a + b + c ≡ length (linesText (settingLines (referralOf piece) ++ countLines (referralOf piece)))
   unfolding referralOf
   head-sum =
@@ -41,7 +41,7 @@ module _ (d : List ℕ) (at : ℕ) (piece : List ℕ) (fits : at + length (lines
   stop = at + length (linesText (settingLines (referralOf piece)))
 
   abbrev kindLine : List ℕ
-  kindLine = ended (kindKey ++ kindWord (flagAt 19 piece))
+  kindLine = ended (kindKey ++ kindWord (flagAt rootUnit piece))
 
   abbrev flagLine : List ℕ → ℕ → List ℕ
   flagLine key j = ended (numberLine key (flagUnit (flagAt j piece)))
@@ -49,7 +49,7 @@ module _ (d : List ℕ) (at : ℕ) (piece : List ℕ) (fits : at + length (lines
   abbrev prefixLine : List ℕ
   prefixLine = ended (pathLine prefixKey (textAt 0 piece))
 
-  settings-0 : Left goal stop d at (prefixLine ++ (kindLine ++ (flagLine interlinkKey 20 ++ (flagLine failbackKey 21 ++ []))))
+  settings-0 : Left goal stop d at (prefixLine ++ (kindLine ++ (flagLine interlinkKey interlinkUnit ++ (flagLine failbackKey failbackUnit ++ []))))
   unfolding goal stop linesText settingLines referralOf
   settings-0 = left-start d at (linesText (settingLines (referralOf piece))) fits
 
@@ -57,32 +57,32 @@ module _ (d : List ℕ) (at : ℕ) (piece : List ℕ) (fits : at + length (lines
   prefix-fits e = rw e (left-fits prefixLine _ settings-0 refl)
 
   module _ {t : List ℕ} (text : t ≡ textAt 0 piece) {m₁ : List ℕ} {r₁ : ℕ} (p₁ : Put d at (ended (pathLine prefixKey t)) m₁ r₁) where
-    settings-1 : Left goal stop m₁ r₁ (kindLine ++ (flagLine interlinkKey 20 ++ (flagLine failbackKey 21 ++ [])))
+    settings-1 : Left goal stop m₁ r₁ (kindLine ++ (flagLine interlinkKey interlinkUnit ++ (flagLine failbackKey failbackUnit ++ [])))
     settings-1 = left-next prefixLine _ settings-0 refl (put-same (ap (λ (x : List ℕ). ended (pathLine prefixKey x)) text) p₁)
 
-    pub kind-fits : {b : Bool} → b ≡ flagAt 19 piece → r₁ + length (ended (kindKey ++ kindWord b)) ≤ length m₁
+    pub kind-fits : {b : Bool} → b ≡ flagAt rootUnit piece → r₁ + length (ended (kindKey ++ kindWord b)) ≤ length m₁
     kind-fits e = rw e (left-fits kindLine _ settings-1 refl)
 
-    module _ {k : Bool} (kind : k ≡ flagAt 19 piece) {m₂ : List ℕ} {r₂ : ℕ} (p₂ : Put m₁ r₁ (ended (kindKey ++ kindWord k)) m₂ r₂) where
-      settings-2 : Left goal stop m₂ r₂ (flagLine interlinkKey 20 ++ (flagLine failbackKey 21 ++ []))
+    module _ {k : Bool} (kind : k ≡ flagAt rootUnit piece) {m₂ : List ℕ} {r₂ : ℕ} (p₂ : Put m₁ r₁ (ended (kindKey ++ kindWord k)) m₂ r₂) where
+      settings-2 : Left goal stop m₂ r₂ (flagLine interlinkKey interlinkUnit ++ (flagLine failbackKey failbackUnit ++ []))
       settings-2 = left-next kindLine _ settings-1 refl (put-same (ap (λ (x : Bool). ended (kindKey ++ kindWord x)) kind) p₂)
 
-      pub interlink-fits : {b : Bool} → b ≡ flagAt 20 piece → r₂ + length (ended (numberLine interlinkKey (flagUnit b))) ≤ length m₂
-      interlink-fits e = rw e (left-fits (flagLine interlinkKey 20) _ settings-2 refl)
+      pub interlink-fits : {b : Bool} → b ≡ flagAt interlinkUnit piece → r₂ + length (ended (numberLine interlinkKey (flagUnit b))) ≤ length m₂
+      interlink-fits e = rw e (left-fits (flagLine interlinkKey interlinkUnit) _ settings-2 refl)
 
-      module _ {f : Bool} (inter : f ≡ flagAt 20 piece) {m₃ : List ℕ} {r₃ : ℕ} (p₃ : Put m₂ r₂ (ended (numberLine interlinkKey (flagUnit f))) m₃ r₃) where
-        settings-3 : Left goal stop m₃ r₃ (flagLine failbackKey 21 ++ [])
-        settings-3 = left-next (flagLine interlinkKey 20) _ settings-2 refl (put-same (ap (λ (x : Bool). ended (numberLine interlinkKey (flagUnit x))) inter) p₃)
+      module _ {f : Bool} (inter : f ≡ flagAt interlinkUnit piece) {m₃ : List ℕ} {r₃ : ℕ} (p₃ : Put m₂ r₂ (ended (numberLine interlinkKey (flagUnit f))) m₃ r₃) where
+        settings-3 : Left goal stop m₃ r₃ (flagLine failbackKey failbackUnit ++ [])
+        settings-3 = left-next (flagLine interlinkKey interlinkUnit) _ settings-2 refl (put-same (ap (λ (x : Bool). ended (numberLine interlinkKey (flagUnit x))) inter) p₃)
 
-        pub failback-fits : {b : Bool} → b ≡ flagAt 21 piece → r₃ + length (ended (numberLine failbackKey (flagUnit b))) ≤ length m₃
-        failback-fits e = rw e (left-fits (flagLine failbackKey 21) _ settings-3 refl)
+        pub failback-fits : {b : Bool} → b ≡ flagAt failbackUnit piece → r₃ + length (ended (numberLine failbackKey (flagUnit b))) ≤ length m₃
+        failback-fits e = rw e (left-fits (flagLine failbackKey failbackUnit) _ settings-3 refl)
 
-        pub settings-put : {b : Bool} → b ≡ flagAt 21 piece → {m₄ : List ℕ} {r₄ : ℕ} → Put m₃ r₃ (ended (numberLine failbackKey (flagUnit b))) m₄ r₄
+        pub settings-put : {b : Bool} → b ≡ flagAt failbackUnit piece → {m₄ : List ℕ} {r₄ : ℕ} → Put m₃ r₃ (ended (numberLine failbackKey (flagUnit b))) m₄ r₄
             → Put d at (linesText (settingLines (referralOf piece))) m₄ r₄
         unfolding goal stop
         settings-put e p₄ =
             left-done d at (linesText (settingLines (referralOf piece)))
-            (left-next (flagLine failbackKey 21) [] settings-3 refl (put-same (ap (λ (x : Bool). ended (numberLine failbackKey (flagUnit x))) e) p₄)) refl refl refl
+            (left-next (flagLine failbackKey failbackUnit) [] settings-3 refl (put-same (ap (λ (x : Bool). ended (numberLine failbackKey (flagUnit x))) e) p₄)) refl refl refl
 
 -- ttl, taken, hint
 module _ (d : List ℕ) (at : ℕ) (piece : List ℕ) (fits : at + length (linesText (countLines (referralOf piece))) ≤ length d) where
@@ -95,33 +95,33 @@ module _ (d : List ℕ) (at : ℕ) (piece : List ℕ) (fits : at + length (lines
   abbrev countLine : List ℕ → ℕ → List ℕ
   countLine key n = ended (numberLine key n)
 
-  counts-0 : Left counted halt d at (countLine ttlKey (wideAt 22 piece) ++ (countLine takenKey (wideAt 24 piece) ++ (countLine hintKey (unitAt 10 piece) ++ [])))
+  counts-0 : Left counted halt d at (countLine ttlKey (wideAt ttlUnit piece) ++ (countLine takenKey (wideAt takenUnit piece) ++ (countLine hintKey (unitAt hintUnit piece) ++ [])))
   unfolding counted halt linesText countLines referralOf
   counts-0 = left-start d at (linesText (countLines (referralOf piece))) fits
 
-  pub ttl-fits : {n : ℕ} → n ≡ wideAt 22 piece → at + length (ended (numberLine ttlKey n)) ≤ length d
-  ttl-fits e = rw e (left-fits (countLine ttlKey (wideAt 22 piece)) _ counts-0 refl)
+  pub ttl-fits : {n : ℕ} → n ≡ wideAt ttlUnit piece → at + length (ended (numberLine ttlKey n)) ≤ length d
+  ttl-fits e = rw e (left-fits (countLine ttlKey (wideAt ttlUnit piece)) _ counts-0 refl)
 
-  module _ {n₁ : ℕ} (e₁ : n₁ ≡ wideAt 22 piece) {m₁ : List ℕ} {r₁ : ℕ} (p₁ : Put d at (ended (numberLine ttlKey n₁)) m₁ r₁) where
-    counts-1 : Left counted halt m₁ r₁ (countLine takenKey (wideAt 24 piece) ++ (countLine hintKey (unitAt 10 piece) ++ []))
-    counts-1 = left-next (countLine ttlKey (wideAt 22 piece)) _ counts-0 refl (put-same (ap (λ (x : ℕ). ended (numberLine ttlKey x)) e₁) p₁)
+  module _ {n₁ : ℕ} (e₁ : n₁ ≡ wideAt ttlUnit piece) {m₁ : List ℕ} {r₁ : ℕ} (p₁ : Put d at (ended (numberLine ttlKey n₁)) m₁ r₁) where
+    counts-1 : Left counted halt m₁ r₁ (countLine takenKey (wideAt takenUnit piece) ++ (countLine hintKey (unitAt hintUnit piece) ++ []))
+    counts-1 = left-next (countLine ttlKey (wideAt ttlUnit piece)) _ counts-0 refl (put-same (ap (λ (x : ℕ). ended (numberLine ttlKey x)) e₁) p₁)
 
-    pub taken-fits : {n : ℕ} → n ≡ wideAt 24 piece → r₁ + length (ended (numberLine takenKey n)) ≤ length m₁
-    taken-fits e = rw e (left-fits (countLine takenKey (wideAt 24 piece)) _ counts-1 refl)
+    pub taken-fits : {n : ℕ} → n ≡ wideAt takenUnit piece → r₁ + length (ended (numberLine takenKey n)) ≤ length m₁
+    taken-fits e = rw e (left-fits (countLine takenKey (wideAt takenUnit piece)) _ counts-1 refl)
 
-    module _ {n₂ : ℕ} (e₂ : n₂ ≡ wideAt 24 piece) {m₂ : List ℕ} {r₂ : ℕ} (p₂ : Put m₁ r₁ (ended (numberLine takenKey n₂)) m₂ r₂) where
-      counts-2 : Left counted halt m₂ r₂ (countLine hintKey (unitAt 10 piece) ++ [])
-      counts-2 = left-next (countLine takenKey (wideAt 24 piece)) _ counts-1 refl (put-same (ap (λ (x : ℕ). ended (numberLine takenKey x)) e₂) p₂)
+    module _ {n₂ : ℕ} (e₂ : n₂ ≡ wideAt takenUnit piece) {m₂ : List ℕ} {r₂ : ℕ} (p₂ : Put m₁ r₁ (ended (numberLine takenKey n₂)) m₂ r₂) where
+      counts-2 : Left counted halt m₂ r₂ (countLine hintKey (unitAt hintUnit piece) ++ [])
+      counts-2 = left-next (countLine takenKey (wideAt takenUnit piece)) _ counts-1 refl (put-same (ap (λ (x : ℕ). ended (numberLine takenKey x)) e₂) p₂)
 
-      pub hint-fits : {n : ℕ} → n ≡ unitAt 10 piece → r₂ + length (ended (numberLine hintKey n)) ≤ length m₂
-      hint-fits e = rw e (left-fits (countLine hintKey (unitAt 10 piece)) _ counts-2 refl)
+      pub hint-fits : {n : ℕ} → n ≡ unitAt hintUnit piece → r₂ + length (ended (numberLine hintKey n)) ≤ length m₂
+      hint-fits e = rw e (left-fits (countLine hintKey (unitAt hintUnit piece)) _ counts-2 refl)
 
-      pub counts-put : {n : ℕ} → n ≡ unitAt 10 piece → {m₃ : List ℕ} {r₃ : ℕ} → Put m₂ r₂ (ended (numberLine hintKey n)) m₃ r₃
+      pub counts-put : {n : ℕ} → n ≡ unitAt hintUnit piece → {m₃ : List ℕ} {r₃ : ℕ} → Put m₂ r₂ (ended (numberLine hintKey n)) m₃ r₃
           → Put d at (linesText (countLines (referralOf piece))) m₃ r₃
       unfolding counted halt
       counts-put e p₃ =
           left-done d at (linesText (countLines (referralOf piece)))
-          (left-next (countLine hintKey (unitAt 10 piece)) [] counts-2 refl (put-same (ap (λ (x : ℕ). ended (numberLine hintKey x)) e) p₃)) refl refl refl
+          (left-next (countLine hintKey (unitAt hintUnit piece)) [] counts-2 refl (put-same (ap (λ (x : ℕ). ended (numberLine hintKey x)) e) p₃)) refl refl refl
 
 -- the three parts of an entry
 module _ (d : List ℕ) (at : ℕ) (piece : List ℕ) (fits : at + length (entryText (referralOf piece)) ≤ length d) where

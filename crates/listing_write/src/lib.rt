@@ -59,9 +59,9 @@ fn head_units(cache: &[u16], i: usize) -> usize
     ensures { λ r. ⌜ r ≡ length (linesText (settingLines (referralOf (placeAt i (now (cache .entry)))) ++ countLines (referralOf (placeAt i (now (cache .entry)))))) ⌝ }
 {
     let prefix = path_units(7, cache::places::text(cache, i, 0));
-    let ttl = number_units(4, cache::places::wide(cache, i, 22));
-    let taken = number_units(6, cache::places::wide(cache, i, 24));
-    let hint = number_units(5, cache::places::unit(cache, i, 10) as u32);
+    let ttl = number_units(4, cache::places::wide(cache, i, cache::places::TTL));
+    let taken = number_units(6, cache::places::wide(cache, i, cache::places::TAKEN));
+    let hint = number_units(5, cache::places::unit(cache, i, cache::places::HINT) as u32);
     prefix + 33 + ttl + taken + hint
 }
 
@@ -170,9 +170,9 @@ fn put_settings(cache: &[u16], i: usize, out: &mut [u16], at: usize) -> usize
     let interlink = INTERLINK;
     let failback = FAILBACK;
     let a = put_path(out, at, &prefix, cache::places::text(cache, i, 0));
-    let b = put_kind(out, a, flag(cache, i, 19));
-    let c = put_flag(out, b, &interlink, flag(cache, i, 20));
-    put_flag(out, c, &failback, flag(cache, i, 21))
+    let b = put_kind(out, a, flag(cache, i, cache::places::ROOT));
+    let c = put_flag(out, b, &interlink, flag(cache, i, cache::places::INTERLINK));
+    put_flag(out, c, &failback, flag(cache, i, cache::places::FAILBACK))
 }
 
 fn put_counts(cache: &[u16], i: usize, out: &mut [u16], at: usize) -> usize
@@ -182,9 +182,24 @@ fn put_counts(cache: &[u16], i: usize, out: &mut [u16], at: usize) -> usize
     let ttl = TTL;
     let taken = TAKEN;
     let hint = HINT;
-    let a = put_number(out, at, &ttl, cache::places::wide(cache, i, 22));
-    let b = put_number(out, a, &taken, cache::places::wide(cache, i, 24));
-    put_number(out, b, &hint, cache::places::unit(cache, i, 10) as u32)
+    let a = put_number(
+        out,
+        at,
+        &ttl,
+        cache::places::wide(cache, i, cache::places::TTL),
+    );
+    let b = put_number(
+        out,
+        a,
+        &taken,
+        cache::places::wide(cache, i, cache::places::TAKEN),
+    );
+    put_number(
+        out,
+        b,
+        &hint,
+        cache::places::unit(cache, i, cache::places::HINT) as u32,
+    )
 }
 
 fn put_targets(cache: &[u16], i: usize, out: &mut [u16], at: usize) -> usize

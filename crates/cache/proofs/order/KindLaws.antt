@@ -18,7 +18,7 @@ use Rattle.laws.proofs.Listed.{listed-same, listed-getD, getD-map}
 use mathlib.Core.Logic.{_⊎_, inl, inr}
 use Rattle.unc.specs.names.Names.{goodName, goodComponent, nothingOrDots}
 use Rattle.unc.specs.names.Paths.{normalisedCount, isNormalised, componentCount}
-use Rattle.cache.specs.places.Layout.{unitAt, wideAt, flagAt, flagUnit, textAt, listCount, written}
+use Rattle.cache.specs.places.Layout.{unitAt, wideAt, flagAt, flagUnit, textAt, listCount, written, countUnit, hintUnit, rootUnit, headUnits}
 use Rattle.cache.proofs.places.WrittenLaws.{Shaped, length-written, written-length, written-count, written-hint, written-mark, written-setting, written-text}
 use Rattle.cache.specs.order.Entries.{Target, Referral, Domain}
 use Rattle.cache.specs.order.Order.{goodPrefix, goodTarget, firstOpensNone, goodReferral, goodDomain, goodDCHint}
@@ -61,7 +61,7 @@ flag-back false = refl
 module _ (key : List ℕ) (list : List (List ℕ)) (hint : ℕ) (marks settings : List ℕ) (shape : Shaped (key ∷ list) marks settings) where
   pub count-back : listCount (written (key ∷ list) hint marks settings) ≡ length list
   count-back =
-      let c : unitAt 9 (written (key ∷ list) hint marks settings) ≡ length (key ∷ list) - 1 = written-count _ _ _ _ shape in
+      let c : unitAt countUnit (written (key ∷ list) hint marks settings) ≡ length (key ∷ list) - 1 = written-count _ _ _ _ shape in
       let f : length (key ∷ list) ≤ 9 = shape .fewTexts in
       omega arith
 
@@ -179,17 +179,17 @@ module _ (e : Referral) (good : goodReferral e ≡ true) where
   unfolding referralUnits
   referral-shows = key-shows _ _ _ _ _ referral-shape (prefix-some _ (g .prefixed))
 
-  setting-flag : (j : ℕ) (b : Bool) → j < 13 → getD (referralSettings e) j 0 ≡ flagUnit b → flagAt (19 + j) (referralUnits e) ≡ b
+  setting-flag : (j : ℕ) (b : Bool) → j < headUnits - rootUnit → getD (referralSettings e) j 0 ≡ flagUnit b → flagAt (rootUnit + j) (referralUnits e) ≡ b
   unfolding referralUnits flagAt
   setting-flag j b h q = ap (λ (u : ℕ). eqb u 1) (written-setting _ _ _ _ referral-shape j h ∙ q) ∙ flag-back b
 
-  setting-wide : (j n : ℕ) → 19 + j + 1 < 32 → getD (referralSettings e) j 0 ≡ n % 65536 → getD (referralSettings e) (j + 1) 0 ≡ n / 65536
-      → wideAt (19 + j) (referralUnits e) ≡ n
+  setting-wide : (j n : ℕ) → rootUnit + j + 1 < 32 → getD (referralSettings e) j 0 ≡ n % 65536 → getD (referralSettings e) (j + 1) 0 ≡ n / 65536
+      → wideAt (rootUnit + j) (referralUnits e) ≡ n
   unfolding referralUnits wideAt
   setting-wide j n h p q =
-      let a : unitAt (19 + j) (referralUnits e) ≡ getD (referralSettings e) j 0 = written-setting _ _ _ _ referral-shape j (omega arith) in
-      let b : unitAt (19 + (j + 1)) (referralUnits e) ≡ getD (referralSettings e) (j + 1) 0 = written-setting _ _ _ _ referral-shape (j + 1) (omega arith) in
-      rw (add-assoc 19 j 1) (omega arith)
+      let a : unitAt (rootUnit + j) (referralUnits e) ≡ getD (referralSettings e) j 0 = written-setting _ _ _ _ referral-shape j (omega arith) in
+      let b : unitAt (rootUnit + (j + 1)) (referralUnits e) ≡ getD (referralSettings e) (j + 1) 0 = written-setting _ _ _ _ referral-shape (j + 1) (omega arith) in
+      rw (add-assoc rootUnit j 1) (omega arith)
 
   target-back : (j : ℕ) → j < length (e .targets) → targetOf j (referralUnits e) ≡ getD (e .targets) j noTarget
   unfolding targetOf referralUnits flagAt
@@ -212,7 +212,7 @@ module _ (e : Referral) (good : goodReferral e ≡ true) where
   unfolding referralOf referralUnits referralSettings
   referral-back =
       let p : textAt 0 (referralUnits e) ≡ e .prefix = written-text _ _ _ _ referral-shape 0 (omega arith) in
-      let h : unitAt 10 (referralUnits e) ≡ e .hint = written-hint _ _ _ _ referral-shape in
+      let h : unitAt hintUnit (referralUnits e) ≡ e .hint = written-hint _ _ _ _ referral-shape in
       λ i. record {
         prefix = p i;
         root = setting-flag 0 (e .root) (omega arith) refl i;
@@ -262,7 +262,7 @@ module _ (d : Domain) (good : goodDomain d ≡ true) where
   unfolding domainOf domainUnits
   domain-back =
       let p : textAt 0 (domainUnits d) ≡ d .name = written-text _ _ _ _ domain-shape 0 (omega arith) in
-      let h : unitAt 10 (domainUnits d) ≡ d .hint = written-hint _ _ _ _ domain-shape in
+      let h : unitAt hintUnit (domainUnits d) ≡ d .hint = written-hint _ _ _ _ domain-shape in
       λ i. record { name = p i; dcs = dcs-back i; hint = h i }
 
 pub domains-lawful : Lawful domains

@@ -18,7 +18,7 @@ use Rattle.laws.proofs.Tests.{both-ways, refuted, not-both}
 use Rattle.laws.proofs.Parts.{roomed-blank}
 use Rattle.laws.proofs.Listed.{length-listed, getD-listed, listed-same, map-listed, every-listed, listed-every, sameList-true}
 use Rattle.unc.specs.names.Names.{goodName}
-use Rattle.cache.specs.places.Layout.{unitAt, wideAt, flagAt, flagUnit, textAt, listCount, written}
+use Rattle.cache.specs.places.Layout.{unitAt, wideAt, flagAt, flagUnit, textAt, listCount, written, countUnit, hintUnit, markUnits, rootUnit, ttlUnit, takenUnit, freeUnits, headUnits}
 use Rattle.cache.specs.places.Code.{placeTexts, marksOf, settingsOf, tidy, zeros}
 use Rattle.cache.proofs.places.WrittenLaws.{same-written, written-mark, written-setting}
 use Rattle.cache.proofs.places.TidyLaws.{tidy-told}
@@ -82,29 +82,29 @@ first-opens (suc n) f h = refl
 pub record ReferralTests (piece : List ℕ) : Type 0 where
   pub tidied : tidy piece ≡ true
   pub flags : goodFlags piece ≡ true
-  pub first : unitAt 11 piece ≡ 0
-  pub hinted : unitAt 10 piece < unitAt 9 piece
+  pub first : unitAt markUnits piece ≡ 0
+  pub hinted : unitAt hintUnit piece < unitAt countUnit piece
   pub texts : goodTexts false piece ≡ true
 
-module _ (piece : List ℕ) (whole : length piece ≡ 2336) (low : unitAt 22 piece < 65536) (low′ : unitAt 24 piece < 65536) where
-  flag-at : goodFlags piece ≡ true → (j : ℕ) → j < 11 → unitAt (11 + j) piece ≤ 1
+module _ (piece : List ℕ) (whole : length piece ≡ 2336) (low : unitAt ttlUnit piece < 65536) (low′ : unitAt takenUnit piece < 65536) where
+  flag-at : goodFlags piece ≡ true → (j : ℕ) → j < ttlUnit - markUnits → unitAt (markUnits + j) piece ≤ 1
   unfolding goodFlags
-  flag-at h j u = leb-true _ 1 (every-listed (λ v. leb v 1) 11 (λ i. unitAt (11 + i) piece) h j u)
+  flag-at h j u = leb-true _ 1 (every-listed (λ v. leb v 1) (ttlUnit - markUnits) (λ i. unitAt (markUnits + i) piece) h j u)
 
   marks-again : goodFlags piece ≡ true → map (λ t. flagUnit (t .opens)) (referralOf piece .targets) ≡ marksOf piece
   unfolding referralOf targetOf flagAt marksOf
   marks-again h =
       map-listed (λ (t : Target). flagUnit (t .opens)) (listCount piece) (λ j. targetOf j piece)
-      ∙ listed-same (listCount piece) (λ j. flagUnit (eqb (unitAt (11 + j) piece) 1)) (λ j. unitAt (11 + j) piece)
+      ∙ listed-same (listCount piece) (λ j. flagUnit (eqb (unitAt (markUnits + j) piece) 1)) (λ j. unitAt (markUnits + j) piece)
       (λ j u. flag-unit _ (flag-at h j (omega arith)))
 
   settings-again : goodFlags piece ≡ true → referralSettings (referralOf piece) ≡ settingsOf piece
   unfolding referralSettings referralOf flagAt wideAt settingsOf listed
   settings-again h =
-      let a : (unitAt 22 piece + 65536 * unitAt 23 piece) % 65536 ≡ unitAt 22 piece = omega arith in
-      let b : (unitAt 22 piece + 65536 * unitAt 23 piece) / 65536 ≡ unitAt 23 piece = omega arith in
-      let c : (unitAt 24 piece + 65536 * unitAt 25 piece) % 65536 ≡ unitAt 24 piece = omega arith in
-      let d : (unitAt 24 piece + 65536 * unitAt 25 piece) / 65536 ≡ unitAt 25 piece = omega arith in
+      let a : (unitAt ttlUnit piece + 65536 * unitAt (ttlUnit + 1) piece) % 65536 ≡ unitAt ttlUnit piece = omega arith in
+      let b : (unitAt ttlUnit piece + 65536 * unitAt (ttlUnit + 1) piece) / 65536 ≡ unitAt (ttlUnit + 1) piece = omega arith in
+      let c : (unitAt takenUnit piece + 65536 * unitAt (takenUnit + 1) piece) % 65536 ≡ unitAt takenUnit piece = omega arith in
+      let d : (unitAt takenUnit piece + 65536 * unitAt (takenUnit + 1) piece) / 65536 ≡ unitAt (takenUnit + 1) piece = omega arith in
       λ i. flag-unit _ (flag-at h 8 (omega arith)) i
       ∷ flag-unit _ (flag-at h 9 (omega arith)) i
       ∷ flag-unit _ (flag-at h 10 (omega arith)) i
@@ -112,9 +112,9 @@ module _ (piece : List ℕ) (whole : length piece ≡ 2336) (low : unitAt 22 pie
 
   -- with its flags 0 or 1 a place is written again as it is read
   written-again : goodFlags piece ≡ true
-      → referralUnits (referralOf piece) ≡ written (placeTexts piece) (unitAt 10 piece) (marksOf piece) (settingsOf piece)
+      → referralUnits (referralOf piece) ≡ written (placeTexts piece) (unitAt hintUnit piece) (marksOf piece) (settingsOf piece)
   unfolding referralUnits referralOf
-  written-again h = λ i. written (sym (referral-texts piece) i) (unitAt 10 piece) (marks-again h i) (settings-again h i)
+  written-again h = λ i. written (sym (referral-texts piece) i) (unitAt hintUnit piece) (marks-again h i) (settings-again h i)
 
   units-tidy : goodFlags piece ≡ true → sameList (referralUnits (referralOf piece)) piece ≡ tidy piece
   unfolding tidy
@@ -125,34 +125,34 @@ module _ (piece : List ℕ) (whole : length piece ≡ 2336) (low : unitAt 22 pie
   unfolding referralOf
   count-targets = length-listed (listCount piece) (λ j. targetOf j piece)
 
-  first-mark : 0 < listCount piece → firstOpensNone (referralOf piece .targets) ≡ not (flagAt 11 piece)
+  first-mark : 0 < listCount piece → firstOpensNone (referralOf piece .targets) ≡ not (flagAt markUnits piece)
   unfolding referralOf targetOf
   first-mark h = first-opens (listCount piece) (λ j. targetOf j piece) h
 
-  flag-off : unitAt 11 piece ≡ 0 → flagAt 11 piece ≡ false
+  flag-off : unitAt markUnits piece ≡ 0 → flagAt markUnits piece ≡ false
   unfolding flagAt
-  flag-off h = ne-eqb (unitAt 11 piece) 1 (λ e. omega arith)
+  flag-off h = ne-eqb (unitAt markUnits piece) 1 (λ e. omega arith)
 
-  off-flag : flagAt 11 piece ≡ false → unitAt 11 piece ≡ 1 → ⊥
+  off-flag : flagAt markUnits piece ≡ false → unitAt markUnits piece ≡ 1 → ⊥
   unfolding flagAt
-  off-flag h = eqb-false (unitAt 11 piece) 1 h
+  off-flag h = eqb-false (unitAt markUnits piece) 1 h
 
-  hint-below : {n m : ℕ} → unitAt 10 piece < n → n ≤ m → referralOf piece .hint < m
+  hint-below : {n m : ℕ} → unitAt hintUnit piece < n → n ≤ m → referralOf piece .hint < m
   unfolding referralOf
   hint-below h u = omega arith
 
-  below-hint : {n : ℕ} → referralOf piece .hint < n → unitAt 10 piece < n
+  below-hint : {n : ℕ} → referralOf piece .hint < n → unitAt hintUnit piece < n
   unfolding referralOf
   below-hint h = h
 
   pub referral-passes : ReferralTests piece → (goodReferral (referralOf piece) && sameList (referralUnits (referralOf piece)) piece) ≡ true
   unfolding goodTexts goodText choose every
   referral-passes t =
-      let f : unitAt 9 piece ≤ 8 = tidy-told piece whole (t .tidied) .few in
+      let f : unitAt countUnit piece ≤ 8 = tidy-told piece whole (t .tidied) .few in
       let n : length (referralOf piece .targets) ≡ listCount piece = count-targets in
       let x : every goodPrefix (referralOf piece .prefix ∷ map (λ u. u .path) (referralOf piece .targets)) ≡ true =
       subst (λ (ts : List (List ℕ)). every goodPrefix ts ≡ true) (referral-texts piece) (t .texts) in
-      let h : unitAt 10 piece < unitAt 9 piece = t .hinted in
+      let h : unitAt hintUnit piece < unitAt countUnit piece = t .hinted in
       and-both
       (good-referral (referralOf piece) (record {
         prefixed = and-left _ _ x;
@@ -171,32 +171,32 @@ module _ (piece : List ℕ) (whole : length piece ≡ 2336) (low : unitAt 22 pie
     told-units : piece ≡ referralUnits (referralOf piece)
     told-units = sym (sameList-true _ piece (and-right (goodReferral (referralOf piece)) _ h))
 
-    small-flag : (j : ℕ) → j < 11 → unitAt (11 + j) piece ≤ 1
+    small-flag : (j : ℕ) → j < ttlUnit - markUnits → unitAt (markUnits + j) piece ≤ 1
     unfolding referralUnits
     small-flag j u = go (lt-or-le j 8)
       where
-        go : (j < 8) ⊎ (8 ≤ j) → unitAt (11 + j) piece ≤ 1
+        go : (j < 8) ⊎ (8 ≤ j) → unitAt (markUnits + j) piece ≤ 1
         go (inl v) =
-            subst (λ (n : ℕ). n ≤ 1) (sym (ap (unitAt (11 + j)) told-units ∙ written-mark _ _ _ _ (referral-shape (referralOf piece) (and-left _ _ h)) j v))
+            subst (λ (n : ℕ). n ≤ 1) (sym (ap (unitAt (markUnits + j)) told-units ∙ written-mark _ _ _ _ (referral-shape (referralOf piece) (and-left _ _ h)) j v))
             (small-marks (referralOf piece .targets) j)
         go (inr v) =
-            let e : 11 + j ≡ 19 + (j - 8) = omega arith in
+            let e : markUnits + j ≡ rootUnit + (j - 8) = omega arith in
             rw e
             (subst (λ (n : ℕ). n ≤ 1)
-            (sym (ap (unitAt (19 + (j - 8))) told-units ∙ written-setting _ _ _ _ (referral-shape (referralOf piece) (and-left _ _ h)) (j - 8) (omega arith)))
+            (sym (ap (unitAt (rootUnit + (j - 8))) told-units ∙ written-setting _ _ _ _ (referral-shape (referralOf piece) (and-left _ _ h)) (j - 8) (omega arith)))
             (small-settings (referralOf piece) (j - 8) (omega arith)))
 
     pub referral-tests : ReferralTests piece
     unfolding goodFlags goodTexts goodText choose every
     referral-tests =
-        let flagged : goodFlags piece ≡ true = listed-every (λ v. leb v 1) 11 (λ i. unitAt (11 + i) piece) (λ j u. le-leb (unitAt (11 + j) piece) 1 (small-flag j u)) in
+        let flagged : goodFlags piece ≡ true = listed-every (λ v. leb v 1) (ttlUnit - markUnits) (λ i. unitAt (markUnits + i) piece) (λ j u. le-leb (unitAt (markUnits + j) piece) 1 (small-flag j u)) in
         let tidied : tidy piece ≡ true = sym (units-tidy flagged) ∙ and-right (goodReferral (referralOf piece)) _ h in
         let n : length (referralOf piece .targets) ≡ listCount piece = count-targets in
-        let f : unitAt 9 piece ≤ 8 = tidy-told piece whole tidied .few in
+        let f : unitAt countUnit piece ≤ 8 = tidy-told piece whole tidied .few in
         let s : 1 ≤ length (referralOf piece .targets) = told-good .some in
-        let b : unitAt 10 piece < length (referralOf piece .targets) = below-hint (told-good .hinted) in
-        let m : unitAt 11 piece ≤ 1 = small-flag 0 (omega arith) in
-        let z : unitAt 11 piece ≢ 1 = off-flag (not-true _ (sym (first-mark (omega arith)) ∙ told-good .first)) in
+        let b : unitAt hintUnit piece < length (referralOf piece .targets) = below-hint (told-good .hinted) in
+        let m : unitAt markUnits piece ≤ 1 = small-flag 0 (omega arith) in
+        let z : unitAt markUnits piece ≢ 1 = off-flag (not-true _ (sym (first-mark (omega arith)) ∙ told-good .first)) in
         record {
           tidied = tidied;
           flags = flagged;
@@ -209,8 +209,8 @@ module _ (piece : List ℕ) (whole : length piece ≡ 2336) (low : unitAt 22 pie
 -- what the test of a used place of the domain cache looks at
 pub record DomainTests (piece : List ℕ) : Type 0 where
   pub tidied : tidy piece ≡ true
-  pub bare : zeros (part 11 15 piece) ≡ true
-  pub hinted : (unitAt 10 piece ≡ 0) ⊎ (unitAt 10 piece < unitAt 9 piece)
+  pub bare : zeros (part markUnits (freeUnits - markUnits) piece) ≡ true
+  pub hinted : (unitAt hintUnit piece ≡ 0) ⊎ (unitAt hintUnit piece < unitAt countUnit piece)
   pub texts : goodTexts true piece ≡ true
 
 -- DCHint is 0, or below the number of DCs
@@ -228,24 +228,24 @@ good-hint (d ∷ dcs) h t =
     inr (ltb-true h (length (d ∷ dcs)) (sym (choose-no (eqb h 0) (ltb h (length (d ∷ dcs))) (ne-eqb (length (d ∷ dcs)) 0 (λ z. omega arith))) ∙ t))
 
 module _ (piece : List ℕ) (whole : length piece ≡ 2336) where
-  bare-at : zeros (part 11 15 piece) ≡ true → (i : ℕ) → 11 ≤ i → i < 26 → unitAt i piece ≡ 0
-  bare-at h i a b = zero-at piece 11 15 i h (omega arith) a b
+  bare-at : zeros (part markUnits (freeUnits - markUnits) piece) ≡ true → (i : ℕ) → markUnits ≤ i → i < freeUnits → unitAt i piece ≡ 0
+  bare-at h i a b = zero-at piece markUnits (freeUnits - markUnits) i h (omega arith) a b
 
   -- without marks and settings a place is written again as it is read
-  bare-again : zeros (part 11 15 piece) ≡ true
-      → domainUnits (domainOf piece) ≡ written (placeTexts piece) (unitAt 10 piece) (marksOf piece) (settingsOf piece)
+  bare-again : zeros (part markUnits (freeUnits - markUnits) piece) ≡ true
+      → domainUnits (domainOf piece) ≡ written (placeTexts piece) (unitAt hintUnit piece) (marksOf piece) (settingsOf piece)
   unfolding domainUnits domainOf marksOf settingsOf
   bare-again h =
-      ap (λ (ts : List (List ℕ)). written ts (unitAt 10 piece) [] []) (sym (domain-texts piece))
-      ∙ sym (same-written (placeTexts piece) (unitAt 10 piece) (marksOf piece) (settingsOf piece) [] []
+      ap (λ (ts : List (List ℕ)). written ts (unitAt hintUnit piece) [] []) (sym (domain-texts piece))
+      ∙ sym (same-written (placeTexts piece) (unitAt hintUnit piece) (marksOf piece) (settingsOf piece) [] []
       (roomed-blank 8 (marksOf piece) (simp length-listed (omega arith))
       (λ i u. let v : i < listCount piece = simp length-listed at u in
-      getD-listed (listCount piece) (λ k. unitAt (11 + k) piece) i 0 v ∙ bare-at h (11 + i) (omega arith) (omega arith)))
-      (roomed-blank 13 (settingsOf piece) (simp length-listed (omega arith))
+      getD-listed (listCount piece) (λ k. unitAt (markUnits + k) piece) i 0 v ∙ bare-at h (markUnits + i) (omega arith) (omega arith)))
+      (roomed-blank (headUnits - rootUnit) (settingsOf piece) (simp length-listed (omega arith))
       (λ i u. let v : i < 7 = simp length-listed at u in
-      getD-listed 7 (λ k. unitAt (19 + k) piece) i 0 v ∙ bare-at h (19 + i) (omega arith) (omega arith))))
+      getD-listed (freeUnits - rootUnit) (λ k. unitAt (rootUnit + k) piece) i 0 v ∙ bare-at h (rootUnit + i) (omega arith) (omega arith))))
 
-  bare-tidy : zeros (part 11 15 piece) ≡ true → sameList (domainUnits (domainOf piece)) piece ≡ tidy piece
+  bare-tidy : zeros (part markUnits (freeUnits - markUnits) piece) ≡ true → sameList (domainUnits (domainOf piece)) piece ≡ tidy piece
   unfolding tidy
   bare-tidy h = ap (λ (x : List ℕ). sameList x piece) (bare-again h)
 
@@ -253,14 +253,14 @@ module _ (piece : List ℕ) (whole : length piece ≡ 2336) where
   unfolding domainOf
   count-dcs = length-listed (listCount piece) (λ j. textAt (1 + j) piece)
 
-  domain-hint : domainOf piece .hint ≡ unitAt 10 piece
+  domain-hint : domainOf piece .hint ≡ unitAt hintUnit piece
   unfolding domainOf
   domain-hint = refl
 
   pub domain-passes : DomainTests piece → (goodDomain (domainOf piece) && sameList (domainUnits (domainOf piece)) piece) ≡ true
   unfolding goodTexts goodText choose every
   domain-passes t =
-      let f : unitAt 9 piece ≤ 8 = tidy-told piece whole (t .tidied) .few in
+      let f : unitAt countUnit piece ≤ 8 = tidy-told piece whole (t .tidied) .few in
       let n : length (domainOf piece .dcs) ≡ listCount piece = count-dcs in
       let x : every goodName (domainOf piece .name ∷ domainOf piece .dcs) ≡ true =
       subst (λ (ts : List (List ℕ)). every goodName ts ≡ true) (domain-texts piece) (t .texts) in
@@ -273,7 +273,7 @@ module _ (piece : List ℕ) (whole : length piece ≡ 2336) where
       }))
       (bare-tidy (t .bare) ∙ t .tidied)
     where
-      at : length (domainOf piece .dcs) ≡ listCount piece → unitAt 9 piece ≤ 8 → (unitAt 10 piece ≡ 0) ⊎ (unitAt 10 piece < unitAt 9 piece)
+      at : length (domainOf piece .dcs) ≡ listCount piece → unitAt countUnit piece ≤ 8 → (unitAt hintUnit piece ≡ 0) ⊎ (unitAt hintUnit piece < unitAt countUnit piece)
           → (domainOf piece .hint ≡ 0) ⊎ (domainOf piece .hint < length (domainOf piece .dcs))
       at n f (inl e) = inl (domain-hint ∙ e)
       at n f (inr u) = inr (rw domain-hint (omega arith))
@@ -285,24 +285,24 @@ module _ (piece : List ℕ) (whole : length piece ≡ 2336) where
     told-dunits : piece ≡ domainUnits (domainOf piece)
     told-dunits = sym (sameList-true _ piece (and-right (goodDomain (domainOf piece)) _ h))
 
-    bare-unit : (i : ℕ) → 11 ≤ i → i < 26 → unitAt i piece ≡ 0
+    bare-unit : (i : ℕ) → markUnits ≤ i → i < freeUnits → unitAt i piece ≡ 0
     unfolding domainUnits
-    bare-unit i a b = go (lt-or-le i 19)
+    bare-unit i a b = go (lt-or-le i rootUnit)
       where
-        go : (i < 19) ⊎ (19 ≤ i) → unitAt i piece ≡ 0
+        go : (i < rootUnit) ⊎ (rootUnit ≤ i) → unitAt i piece ≡ 0
         go (inl u) =
-            let e : i ≡ 11 + (i - 11) = omega arith in
-            rw e (ap (unitAt (11 + (i - 11))) told-dunits
-            ∙ written-mark _ _ _ _ (domain-shape (domainOf piece) (and-left _ _ h)) (i - 11) (omega arith))
+            let e : i ≡ markUnits + (i - markUnits) = omega arith in
+            rw e (ap (unitAt (markUnits + (i - markUnits))) told-dunits
+            ∙ written-mark _ _ _ _ (domain-shape (domainOf piece) (and-left _ _ h)) (i - markUnits) (omega arith))
         go (inr u) =
-            let e : i ≡ 19 + (i - 19) = omega arith in
-            rw e (ap (unitAt (19 + (i - 19))) told-dunits
-            ∙ written-setting _ _ _ _ (domain-shape (domainOf piece) (and-left _ _ h)) (i - 19) (omega arith))
+            let e : i ≡ rootUnit + (i - rootUnit) = omega arith in
+            rw e (ap (unitAt (rootUnit + (i - rootUnit))) told-dunits
+            ∙ written-setting _ _ _ _ (domain-shape (domainOf piece) (and-left _ _ h)) (i - rootUnit) (omega arith))
 
     pub domain-tests : DomainTests piece
     unfolding goodTexts goodText choose every
     domain-tests =
-        let bared : zeros (part 11 15 piece) ≡ true = zeros-all piece 11 15 (omega arith) bare-unit in
+        let bared : zeros (part markUnits (freeUnits - markUnits) piece) ≡ true = zeros-all piece markUnits (freeUnits - markUnits) (omega arith) bare-unit in
         let tidied : tidy piece ≡ true = sym (bare-tidy bared) ∙ and-right (goodDomain (domainOf piece)) _ h in
         let n : length (domainOf piece .dcs) ≡ listCount piece = count-dcs in
         record {
@@ -313,12 +313,12 @@ module _ (piece : List ℕ) (whole : length piece ≡ 2336) where
         }
       where
         at : length (domainOf piece .dcs) ≡ listCount piece → (domainOf piece .hint ≡ 0) ⊎ (domainOf piece .hint < length (domainOf piece .dcs))
-            → (unitAt 10 piece ≡ 0) ⊎ (unitAt 10 piece < unitAt 9 piece)
+            → (unitAt hintUnit piece ≡ 0) ⊎ (unitAt hintUnit piece < unitAt countUnit piece)
         at n (inl e) = inl (sym domain-hint ∙ e)
-        at n (inr u) = inr (let v : unitAt 10 piece < length (domainOf piece .dcs) = rw (sym domain-hint) u in omega arith)
+        at n (inr u) = inr (let v : unitAt hintUnit piece < length (domainOf piece .dcs) = rw (sym domain-hint) u in omega arith)
 
 -- the ways out of the test of a used place
-module _ (piece : List ℕ) (whole : length piece ≡ 2336) (low : unitAt 22 piece < 65536) (low′ : unitAt 24 piece < 65536) where
+module _ (piece : List ℕ) (whole : length piece ≡ 2336) (low : unitAt ttlUnit piece < 65536) (low′ : unitAt takenUnit piece < 65536) where
   referral-fails : (ReferralTests piece → ⊥) → false ≡ (goodReferral (referralOf piece) && sameList (referralUnits (referralOf piece)) piece)
   referral-fails f = sym (refuted _ (λ h. f (referral-tests piece whole low low′ h)))
 
@@ -328,14 +328,14 @@ module _ (piece : List ℕ) (whole : length piece ≡ 2336) (low : unitAt 22 pie
   pub referral-unflagged : {r : Bool} → r ≡ goodFlags piece → r ≡ false → false ≡ (goodReferral (referralOf piece) && sameList (referralUnits (referralOf piece)) piece)
   referral-unflagged e h = referral-fails (λ t. not-both (e ∙ t .flags) h)
 
-  pub referral-opens : (unitAt 11 piece ≡ 0 → ⊥) → false ≡ (goodReferral (referralOf piece) && sameList (referralUnits (referralOf piece)) piece)
+  pub referral-opens : (unitAt markUnits piece ≡ 0 → ⊥) → false ≡ (goodReferral (referralOf piece) && sameList (referralUnits (referralOf piece)) piece)
   referral-opens n = referral-fails (λ t. n (t .first))
 
-  pub referral-unhinted : unitAt 9 piece ≤ unitAt 10 piece → false ≡ (goodReferral (referralOf piece) && sameList (referralUnits (referralOf piece)) piece)
-  referral-unhinted h = referral-fails (λ t. let u : unitAt 10 piece < unitAt 9 piece = t .hinted in omega arith)
+  pub referral-unhinted : unitAt countUnit piece ≤ unitAt hintUnit piece → false ≡ (goodReferral (referralOf piece) && sameList (referralUnits (referralOf piece)) piece)
+  referral-unhinted h = referral-fails (λ t. let u : unitAt hintUnit piece < unitAt countUnit piece = t .hinted in omega arith)
 
   pub referral-rest : {a b r : Bool} → a ≡ tidy piece → a ≡ true → b ≡ goodFlags piece → b ≡ true → r ≡ goodTexts false piece
-      → unitAt 11 piece ≡ 0 → unitAt 10 piece < unitAt 9 piece
+      → unitAt markUnits piece ≡ 0 → unitAt hintUnit piece < unitAt countUnit piece
       → r ≡ (goodReferral (referralOf piece) && sameList (referralUnits (referralOf piece)) piece)
   referral-rest ea ha eb hb e z u =
       e ∙ both-ways _ _
@@ -349,19 +349,19 @@ module _ (piece : List ℕ) (whole : length piece ≡ 2336) where
   pub domain-untidy : {r : Bool} → r ≡ tidy piece → r ≡ false → false ≡ (goodDomain (domainOf piece) && sameList (domainUnits (domainOf piece)) piece)
   domain-untidy e h = domain-fails (λ t. not-both (e ∙ t .tidied) h)
 
-  pub domain-marked : {r : Bool} → r ≡ zeros (part 11 15 piece) → r ≡ false → false ≡ (goodDomain (domainOf piece) && sameList (domainUnits (domainOf piece)) piece)
+  pub domain-marked : {r : Bool} → r ≡ zeros (part markUnits (freeUnits - markUnits) piece) → r ≡ false → false ≡ (goodDomain (domainOf piece) && sameList (domainUnits (domainOf piece)) piece)
   domain-marked e h = domain-fails (λ t. not-both (e ∙ t .bare) h)
 
-  pub domain-unhinted : (unitAt 10 piece ≡ 0 → ⊥) → unitAt 9 piece ≤ unitAt 10 piece → false ≡ (goodDomain (domainOf piece) && sameList (domainUnits (domainOf piece)) piece)
+  pub domain-unhinted : (unitAt hintUnit piece ≡ 0 → ⊥) → unitAt countUnit piece ≤ unitAt hintUnit piece → false ≡ (goodDomain (domainOf piece) && sameList (domainUnits (domainOf piece)) piece)
   domain-unhinted n h = domain-fails (λ t. ⊎-elim n (λ u. omega arith) (t .hinted))
 
-  pub domain-rest : {a b r : Bool} → a ≡ tidy piece → a ≡ true → b ≡ zeros (part 11 15 piece) → b ≡ true → r ≡ goodTexts true piece
-      → (unitAt 10 piece ≡ 0) ⊎ (unitAt 10 piece < unitAt 9 piece)
+  pub domain-rest : {a b r : Bool} → a ≡ tidy piece → a ≡ true → b ≡ zeros (part markUnits (freeUnits - markUnits) piece) → b ≡ true → r ≡ goodTexts true piece
+      → (unitAt hintUnit piece ≡ 0) ⊎ (unitAt hintUnit piece < unitAt countUnit piece)
       → r ≡ (goodDomain (domainOf piece) && sameList (domainUnits (domainOf piece)) piece)
   domain-rest ea ha eb hb e u =
       e ∙ both-ways _ _
       (λ t. domain-passes piece whole (record { tidied = sym ea ∙ ha; bare = sym eb ∙ hb; hinted = u; texts = t }))
       (λ h. domain-tests piece whole h .texts)
 
-  pub tidy-few : {r : Bool} → r ≡ tidy piece → r ≡ true → unitAt 9 piece ≤ 8
+  pub tidy-few : {r : Bool} → r ≡ tidy piece → r ≡ true → unitAt countUnit piece ≤ 8
   tidy-few e h = tidy-told piece whole (sym e ∙ h) .few

@@ -21,7 +21,7 @@ use Rattle.laws.proofs.Listed.{length-listed, getD-listed, drop-listed, drop-li
 use Rattle.unc.specs.names.Names.{sameName, goodName}
 use Rattle.unc.specs.names.Paths.{normalisedCount}
 use Rattle.unc.proofs.names.NameLaws.{sameName-unlike}
-use Rattle.cache.specs.places.Layout.{placeCount, placeAt, unitAt, roomAt, textAt, listCount, blank}
+use Rattle.cache.specs.places.Layout.{placeCount, placeAt, unitAt, roomAt, textAt, listCount, blank, countUnit, markUnits, ttlUnit}
 use Rattle.cache.specs.places.Code.{placeTexts, zeros}
 use Rattle.cache.proofs.places.LayoutLaws.{length-place}
 use Rattle.cache.specs.order.Entries.{Place}
@@ -53,44 +53,44 @@ pub texts-start : (d : Bool) (piece : List ℕ) → goodTexts d piece ≡ textsF
 unfolding goodTexts textsFrom
 texts-start d piece = refl
 
-module _ (d : Bool) (piece : List ℕ) (j : ℕ) (whole : length piece ≡ 2336) (few : unitAt 9 piece ≤ 8) where
+module _ (d : Bool) (piece : List ℕ) (j : ℕ) (whole : length piece ≡ 2336) (few : unitAt countUnit piece ≤ 8) where
   text-tested : {r : Bool} {t : List ℕ} → t ≡ textAt j (placeAt 0 piece) → r ≡ goodText d t → goodText d (textAt j piece) ≡ r
   text-tested e f = ap (λ (p : List ℕ). goodText d (textAt j p)) (sym (place-alone piece whole)) ∙ (ap (goodText d) (sym e) ∙ sym f)
 
-  pub texts-more : {r : Bool} {t : List ℕ} → t ≡ textAt j (placeAt 0 piece) → r ≡ goodText d t → r ≡ true → j ≤ unitAt 9 piece
+  pub texts-more : {r : Bool} {t : List ℕ} → t ≡ textAt j (placeAt 0 piece) → r ≡ goodText d t → r ≡ true → j ≤ unitAt countUnit piece
       → textsFrom d piece j ≡ textsFrom d piece (j + 1)
   unfolding textsFrom placeTexts
   texts-more e f h u = every-next (goodText d) (1 + listCount piece) (λ i. textAt i piece) j (omega arith) (text-tested e f ∙ h)
 
-  pub texts-stop : {r : Bool} {t : List ℕ} → t ≡ textAt j (placeAt 0 piece) → r ≡ goodText d t → r ≡ false → j ≤ unitAt 9 piece
+  pub texts-stop : {r : Bool} {t : List ℕ} → t ≡ textAt j (placeAt 0 piece) → r ≡ goodText d t → r ≡ false → j ≤ unitAt countUnit piece
       → textsFrom d piece j ≡ false
   unfolding textsFrom placeTexts
   texts-stop e f h u = every-stop (goodText d) (1 + listCount piece) (λ i. textAt i piece) j (omega arith) (text-tested e f ∙ h)
 
-  pub texts-end : unitAt 9 piece < j → textsFrom d piece j ≡ true
+  pub texts-end : unitAt countUnit piece < j → textsFrom d piece j ≡ true
   unfolding textsFrom placeTexts
   texts-end u = every-end (goodText d) (1 + listCount piece) (λ i. textAt i piece) j (omega arith)
 
 -- the loop over the flags
 pub flagsFrom : List ℕ → ℕ → Bool
-flagsFrom piece j = every (λ u. leb u 1) (drop j (listed 11 (λ k. unitAt (11 + k) piece)))
+flagsFrom piece j = every (λ u. leb u 1) (drop j (listed (ttlUnit - markUnits) (λ k. unitAt (markUnits + k) piece)))
 
 pub flags-start : (piece : List ℕ) → goodFlags piece ≡ flagsFrom piece 0
 unfolding goodFlags flagsFrom
 flags-start piece = refl
 
 module _ (piece : List ℕ) (j : ℕ) where
-  pub flags-more : j < 11 → unitAt (11 + j) piece ≤ 1 → flagsFrom piece j ≡ flagsFrom piece (j + 1)
+  pub flags-more : j < ttlUnit - markUnits → unitAt (markUnits + j) piece ≤ 1 → flagsFrom piece j ≡ flagsFrom piece (j + 1)
   unfolding flagsFrom
-  flags-more h u = every-next (λ v. leb v 1) 11 (λ k. unitAt (11 + k) piece) j h (le-leb _ _ u)
+  flags-more h u = every-next (λ v. leb v 1) (ttlUnit - markUnits) (λ k. unitAt (markUnits + k) piece) j h (le-leb _ _ u)
 
-  pub flags-stop : j < 11 → 1 < unitAt (11 + j) piece → flagsFrom piece j ≡ false
+  pub flags-stop : j < ttlUnit - markUnits → 1 < unitAt (markUnits + j) piece → flagsFrom piece j ≡ false
   unfolding flagsFrom
-  flags-stop h u = every-stop (λ v. leb v 1) 11 (λ k. unitAt (11 + k) piece) j h (lt-leb _ _ u)
+  flags-stop h u = every-stop (λ v. leb v 1) (ttlUnit - markUnits) (λ k. unitAt (markUnits + k) piece) j h (lt-leb _ _ u)
 
-  pub flags-end : 11 ≤ j → flagsFrom piece j ≡ true
+  pub flags-end : ttlUnit - markUnits ≤ j → flagsFrom piece j ≡ true
   unfolding flagsFrom
-  flags-end h = every-end (λ v. leb v 1) 11 (λ k. unitAt (11 + k) piece) j h
+  flags-end h = every-end (λ v. leb v 1) (ttlUnit - markUnits) (λ k. unitAt (markUnits + k) piece) j h
 
 -- the loop over the places
 pub orderedFrom : Bool → List ℕ → ℕ → Bool

@@ -12,7 +12,7 @@ use Rattle.laws.proofs.Orders.{lt-or-le}
 use Rattle.laws.proofs.Tests.{eq-or-ne}
 use Rattle.laws.proofs.Pasting.{getD-pasted-low, getD-pasted-in, getD-pasted-high, length-pasted, part-pasted-low, part-pasted-high, part-pasted, getD-part, length-part, length-roomed}
 use Rattle.laws.proofs.Parts.{getD-roomed}
-use Rattle.cache.specs.places.Layout.{unitAt, roomAt, blank, headOf, roomsOf, written}
+use Rattle.cache.specs.places.Layout.{unitAt, roomAt, blank, headOf, roomsOf, written, countUnit, hintUnit, markUnits, rootUnit, headUnits}
 use Rattle.cache.specs.places.Code.{putUnit, putText, putSettings, keyOnly}
 use Rattle.cache.proofs.places.WriterLaws.{length-putUnit}
 use Rattle.cache.proofs.places.WrittenLaws.{HeadUnit, a-length, the-count, the-hint, a-mark, a-setting, same-place, Shaped, length-written, written-length, written-count, written-hint, written-mark, written-setting, written-room}
@@ -68,9 +68,9 @@ module _ {ℓ} {A : Type ℓ} (xs : List A) (x : A) where
 -- a unit written into a written place: it is another written place where the two agree in all other units
 module _ {ts ts′ : List (List ℕ)} {marks settings marks′ settings′ : List ℕ} (hint hint′ : ℕ) (s : Shaped ts marks settings) (s′ : Shaped ts′ marks′ settings′)
     (j v : ℕ) (fits : j < 32) where
-  pub put-written : ((i : ℕ) → i < 9 → i ≢ j → length (getD ts i []) ≡ length (getD ts′ i [])) → (9 ≢ j → length ts - 1 ≡ length ts′ - 1)
-      → (10 ≢ j → hint ≡ hint′) → ((i : ℕ) → i < 8 → 11 + i ≢ j → getD marks i 0 ≡ getD marks′ i 0)
-      → ((i : ℕ) → i < 13 → 19 + i ≢ j → getD settings i 0 ≡ getD settings′ i 0) → unitAt j (written ts′ hint′ marks′ settings′) ≡ v
+  pub put-written : ((i : ℕ) → i < 9 → i ≢ j → length (getD ts i []) ≡ length (getD ts′ i [])) → (countUnit ≢ j → length ts - 1 ≡ length ts′ - 1)
+      → (hintUnit ≢ j → hint ≡ hint′) → ((i : ℕ) → i < 8 → markUnits + i ≢ j → getD marks i 0 ≡ getD marks′ i 0)
+      → ((i : ℕ) → i < headUnits - rootUnit → rootUnit + i ≢ j → getD settings i 0 ≡ getD settings′ i 0) → unitAt j (written ts′ hint′ marks′ settings′) ≡ v
       → ((i : ℕ) → i < 9 → getD ts i [] ≡ getD ts′ i [])
       → putUnit j v (written ts hint marks settings) ≡ written ts′ hint′ marks′ settings′
   put-written a b c d e f g =
@@ -86,9 +86,9 @@ module _ {ts ts′ : List (List ℕ)} {marks settings marks′ settings′ : Lis
       other i (a-setting k u) n = written-setting _ _ _ _ s k u ∙ (e k u n ∙ sym (written-setting _ _ _ _ s′ k u))
 
 module _ (ts : List (List ℕ)) (hint : ℕ) (marks settings : List ℕ) (shape : Shaped ts marks settings) where
-  pub put-hint : (h : ℕ) → putUnit 10 h (written ts hint marks settings) ≡ written ts h marks settings
+  pub put-hint : (h : ℕ) → putUnit hintUnit h (written ts hint marks settings) ≡ written ts h marks settings
   put-hint h =
-      put-written hint h shape shape 10 h (omega arith)
+      put-written hint h shape shape hintUnit h (omega arith)
       (λ i u n. refl) (λ n. refl) (λ n. absurd (n refl)) (λ i u n. refl) (λ i u n. refl)
       (written-hint ts h marks settings shape) (λ i u. refl)
 
@@ -101,11 +101,11 @@ module _ (ts : List (List ℕ)) (hint : ℕ) (marks settings : List ℕ) (shape 
   }
 
   -- one mark more
-  pub put-mark : (m : ℕ) → length marks < 8 → putUnit (11 + length marks) m (written ts hint marks settings) ≡ written ts hint (marks ++ (m ∷ [])) settings
+  pub put-mark : (m : ℕ) → length marks < 8 → putUnit (markUnits + length marks) m (written ts hint marks settings) ≡ written ts hint (marks ++ (m ∷ [])) settings
   put-mark m u =
-      put-written hint hint shape (shape-mark m u) (11 + length marks) m (omega arith)
+      put-written hint hint shape (shape-mark m u) (markUnits + length marks) m (omega arith)
       (λ i v n. refl) (λ n. refl) (λ n. refl)
-      (λ i v n. sym (more-other marks m i 0 (λ e. n (ap (λ (x : ℕ). 11 + x) e))))
+      (λ i v n. sym (more-other marks m i 0 (λ e. n (ap (λ (x : ℕ). markUnits + x) e))))
       (λ i v n. refl)
       (written-mark ts hint (marks ++ (m ∷ [])) settings (shape-mark m u) (length marks) u ∙ more-at marks m 0)
       (λ i v. refl)
@@ -182,7 +182,7 @@ module _ (ts : List (List ℕ)) (hint : ℕ) (marks settings : List ℕ) (shape 
         go (inr n) (inr u) =
             part-pasted-high sized (32 + length ts * 256) (roomed 256 t) (32 + r * 256) 256 (omega (arith, length-sized)) (omega (arith, roomy)) ∙ kept n
 
-    text-other : (i : ℕ) → HeadUnit i → i ≢ 9 → unitAt i texted ≡ unitAt i new
+    text-other : (i : ℕ) → HeadUnit i → i ≢ countUnit → unitAt i texted ≡ unitAt i new
     unfolding new old
     text-other i (a-length u) n = go (eq-or-ne i (length ts))
       where
@@ -194,19 +194,19 @@ module _ (ts : List (List ℕ)) (hint : ℕ) (marks settings : List ℕ) (shape 
             ∙ (ap length (sym (more-other ts t i [] e)) ∙ sym (written-length (ts ++ (t ∷ [])) hint marks settings shaped i u)))
     text-other i the-count n = absurd (n refl)
     text-other i the-hint n =
-        text-units 10 (omega arith) (λ e. omega arith)
+        text-units hintUnit (omega arith) (λ e. omega arith)
         ∙ (written-hint ts hint marks settings shape ∙ sym (written-hint (ts ++ (t ∷ [])) hint marks settings shaped))
     text-other i (a-mark j u) n =
-        text-units (11 + j) (omega arith) (λ e. omega arith)
+        text-units (markUnits + j) (omega arith) (λ e. omega arith)
         ∙ (written-mark ts hint marks settings shape j u ∙ sym (written-mark (ts ++ (t ∷ [])) hint marks settings shaped j u))
     text-other i (a-setting j u) n =
-        text-units (19 + j) (omega arith) (λ e. omega arith)
+        text-units (rootUnit + j) (omega arith) (λ e. omega arith)
         ∙ (written-setting ts hint marks settings shape j u ∙ sym (written-setting (ts ++ (t ∷ [])) hint marks settings shaped j u))
 
-    pub put-text : putUnit 9 (length ts) (putText (length ts) t (written ts hint marks settings)) ≡ written (ts ++ (t ∷ [])) hint marks settings
+    pub put-text : putUnit countUnit (length ts) (putText (length ts) t (written ts hint marks settings)) ≡ written (ts ++ (t ∷ [])) hint marks settings
     unfolding putText texted sized old new
     put-text =
-        put-is 9 (length ts) texted (length-pasted sized (32 + length ts * 256) (roomed 256 t) inside ∙ length-sized) (omega arith)
+        put-is countUnit (length ts) texted (length-pasted sized (32 + length ts * 256) (roomed 256 t) inside ∙ length-sized) (omega arith)
         new (length-written (ts ++ (t ∷ [])) hint marks settings shaped) text-other
         (written-count (ts ++ (t ∷ [])) hint marks settings shaped ∙ rw (length-more ts t) (omega arith))
         (λ r h. text-room r h ∙ sym (written-room (ts ++ (t ∷ [])) hint marks settings shaped r h))
@@ -235,11 +235,11 @@ module _ (ts : List (List ℕ)) (hint : ℕ) (marks settings settings′ : List 
   pub put-settings : putSettings settings′ (written ts hint marks settings) ≡ written ts hint marks settings′
   unfolding putSettings
   put-settings =
-      same-place (pasted old 19 settings′) (written ts hint marks settings′)
-      (length-pasted old 19 settings′ (omega (arith, whole, s′ .fewSettings)) ∙ whole)
+      same-place (pasted old rootUnit settings′) (written ts hint marks settings′)
+      (length-pasted old rootUnit settings′ (omega (arith, whole, s′ .fewSettings)) ∙ whole)
       (length-written _ _ _ _ s′)
       unit
-      (λ r h. head-rooms old 19 settings′ whole (omega (arith, s′ .fewSettings)) r h ∙ (written-room _ _ _ _ s r h ∙ sym (written-room _ _ _ _ s′ r h)))
+      (λ r h. head-rooms old rootUnit settings′ whole (omega (arith, s′ .fewSettings)) r h ∙ (written-room _ _ _ _ s r h ∙ sym (written-room _ _ _ _ s′ r h)))
     where
       old : List ℕ
       old = written ts hint marks settings
@@ -247,21 +247,21 @@ module _ (ts : List (List ℕ)) (hint : ℕ) (marks settings settings′ : List 
       whole : length old ≡ 2336
       whole = length-written _ _ _ _ s
 
-      below : (i : ℕ) → i < 19 → unitAt i (pasted old 19 settings′) ≡ unitAt i old
-      below i h = head-out old 19 settings′ whole (omega (arith, s′ .fewSettings)) i (inl h)
+      below : (i : ℕ) → i < rootUnit → unitAt i (pasted old rootUnit settings′) ≡ unitAt i old
+      below i h = head-out old rootUnit settings′ whole (omega (arith, s′ .fewSettings)) i (inl h)
 
-      setting : (j : ℕ) → j < 13 → (j < length settings′) ⊎ (length settings′ ≤ j) → unitAt (19 + j) (pasted old 19 settings′) ≡ getD settings′ j 0
-      setting j h (inl u) = head-in old 19 settings′ whole (omega (arith, s′ .fewSettings)) j u
+      setting : (j : ℕ) → j < headUnits - rootUnit → (j < length settings′) ⊎ (length settings′ ≤ j) → unitAt (rootUnit + j) (pasted old rootUnit settings′) ≡ getD settings′ j 0
+      setting j h (inl u) = head-in old rootUnit settings′ whole (omega (arith, s′ .fewSettings)) j u
       setting j h (inr u) =
-          head-out old 19 settings′ whole (omega (arith, s′ .fewSettings)) (19 + j) (inr (omega arith))
+          head-out old rootUnit settings′ whole (omega (arith, s′ .fewSettings)) (rootUnit + j) (inr (omega arith))
           ∙ (written-setting _ _ _ _ s j h
           ∙ (List·getD-eq-default settings 0 {n = j} (omega arith) ∙ sym (List·getD-eq-default settings′ 0 {n = j} u)))
 
-      unit : (i : ℕ) → HeadUnit i → unitAt i (pasted old 19 settings′) ≡ unitAt i (written ts hint marks settings′)
+      unit : (i : ℕ) → HeadUnit i → unitAt i (pasted old rootUnit settings′) ≡ unitAt i (written ts hint marks settings′)
       unit i (a-length u) = below i (omega arith) ∙ (written-length _ _ _ _ s i u ∙ sym (written-length _ _ _ _ s′ i u))
-      unit i the-count = below 9 (omega arith) ∙ (written-count _ _ _ _ s ∙ sym (written-count _ _ _ _ s′))
-      unit i the-hint = below 10 (omega arith) ∙ (written-hint _ _ _ _ s ∙ sym (written-hint _ _ _ _ s′))
-      unit i (a-mark j u) = below (11 + j) (omega arith) ∙ (written-mark _ _ _ _ s j u ∙ sym (written-mark _ _ _ _ s′ j u))
+      unit i the-count = below countUnit (omega arith) ∙ (written-count _ _ _ _ s ∙ sym (written-count _ _ _ _ s′))
+      unit i the-hint = below hintUnit (omega arith) ∙ (written-hint _ _ _ _ s ∙ sym (written-hint _ _ _ _ s′))
+      unit i (a-mark j u) = below (markUnits + j) (omega arith) ∙ (written-mark _ _ _ _ s j u ∙ sym (written-mark _ _ _ _ s′ j u))
       unit i (a-setting j u) = setting j u (lt-or-le j (length settings′)) ∙ sym (written-setting _ _ _ _ s′ j u)
 
 -- a part of zeros
@@ -361,10 +361,10 @@ module _ (key : List ℕ) (list : List (List ℕ)) (hint : ℕ) (marks settings 
               getD-pasted-low old 1 (replicate n 0) (omega (arith, zn, whole)) 0 0 (omega arith)
               ∙ (written-length _ _ _ _ s 0 (omega arith) ∙ sym (written-length _ _ _ _ shape-key 0 (omega arith)))
           go (suc j) v = zero-at (suc j) (omega arith) (omega arith) ∙ sym (written-length _ _ _ _ shape-key (suc j) v)
-      unit i the-count = zero-at 9 (omega arith) (omega arith) ∙ sym (written-count _ _ _ _ shape-key)
-      unit i the-hint = zero-at 10 (omega arith) (omega arith) ∙ sym (written-hint _ _ _ _ shape-key)
-      unit i (a-mark j u) = zero-at (11 + j) (omega arith) (omega arith) ∙ sym (written-mark _ _ _ _ shape-key j u)
-      unit i (a-setting j u) = zero-at (19 + j) (omega arith) (omega arith) ∙ sym (written-setting _ _ _ _ shape-key j u)
+      unit i the-count = zero-at countUnit (omega arith) (omega arith) ∙ sym (written-count _ _ _ _ shape-key)
+      unit i the-hint = zero-at hintUnit (omega arith) (omega arith) ∙ sym (written-hint _ _ _ _ shape-key)
+      unit i (a-mark j u) = zero-at (markUnits + j) (omega arith) (omega arith) ∙ sym (written-mark _ _ _ _ shape-key j u)
+      unit i (a-setting j u) = zero-at (rootUnit + j) (omega arith) (omega arith) ∙ sym (written-setting _ _ _ _ shape-key j u)
 
       room : (r : ℕ) → r < 9 → (r ≡ 0) ⊎ (r ≡ 0 → ⊥) → roomAt r (pasted (pasted old 1 (replicate n 0)) 288 (replicate k 0)) ≡ roomAt r (written (key ∷ []) 0 [] [])
       room r h (inl e) =

@@ -17,17 +17,17 @@ use Rattle.laws.proofs.Tests.{both-ways, refuted, not-both}
 use Rattle.laws.proofs.Pasting.{getD-part, length-part}
 use Rattle.laws.proofs.Parts.{getD-roomed, roomed-take}
 use Rattle.laws.proofs.Listed.{length-listed, getD-listed, every-next, every-stop, every-end, every-listed, listed-every, sameList-true, same-sameList}
-use Rattle.cache.specs.places.Layout.{unitAt, roomAt, textAt, listCount, written}
+use Rattle.cache.specs.places.Layout.{unitAt, roomAt, textAt, listCount, written, countUnit, hintUnit, markUnits, rootUnit, freeUnits, headUnits}
 use Rattle.cache.specs.places.Code.{placeTexts, marksOf, settingsOf, tidy, zeros, tidyRoom, tidyRooms}
 use Rattle.cache.proofs.places.ZeroLaws.{zero-at, zeros-all}
 use Rattle.cache.proofs.places.WrittenLaws.{HeadUnit, a-length, the-count, the-hint, a-mark, a-setting, same-place, Shaped, length-written, written-length, written-count, written-hint, written-mark, written-setting, written-room}
 
 -- what the test looks at
 pub record Tidy (piece : List ℕ) : Type 0 where
-  pub few : unitAt 9 piece ≤ 8
-  pub lengths : zeros (part (1 + unitAt 9 piece) (9 - (1 + unitAt 9 piece)) piece) ≡ true
-  pub marks : zeros (part (11 + unitAt 9 piece) (19 - (11 + unitAt 9 piece)) piece) ≡ true
-  pub rest : zeros (part 26 6 piece) ≡ true
+  pub few : unitAt countUnit piece ≤ 8
+  pub lengths : zeros (part (1 + unitAt countUnit piece) (9 - (1 + unitAt countUnit piece)) piece) ≡ true
+  pub marks : zeros (part (markUnits + unitAt countUnit piece) (rootUnit - (markUnits + unitAt countUnit piece)) piece) ≡ true
+  pub rest : zeros (part freeUnits (headUnits - freeUnits) piece) ≡ true
   pub rooms : tidyRooms piece ≡ true
 
 -- the loop over the rooms: what is left to test from room j on
@@ -93,19 +93,19 @@ module _ (piece : List ℕ) (whole : length piece ≡ 2336) where
       at j (inl h) = rw (textsOf-past j h) (omega arith)
       at j (inr h) = rw (textsOf-at j h) (length-text j)
 
-  marksOf-at : (j : ℕ) → j < listCount piece → getD (marksOf piece) j 0 ≡ unitAt (11 + j) piece
+  marksOf-at : (j : ℕ) → j < listCount piece → getD (marksOf piece) j 0 ≡ unitAt (markUnits + j) piece
   unfolding marksOf
-  marksOf-at j h = getD-listed (listCount piece) (λ k. unitAt (11 + k) piece) j 0 h
+  marksOf-at j h = getD-listed (listCount piece) (λ k. unitAt (markUnits + k) piece) j 0 h
 
   marksOf-past : (j : ℕ) → listCount piece ≤ j → getD (marksOf piece) j 0 ≡ 0
   unfolding marksOf
   marksOf-past j h = List·getD-eq-default (marksOf piece) 0 {n = j} (simp length-listed h)
 
-  settingsOf-at : (j : ℕ) → j < 7 → getD (settingsOf piece) j 0 ≡ unitAt (19 + j) piece
+  settingsOf-at : (j : ℕ) → j < freeUnits - rootUnit → getD (settingsOf piece) j 0 ≡ unitAt (rootUnit + j) piece
   unfolding settingsOf
-  settingsOf-at j h = getD-listed 7 (λ k. unitAt (19 + k) piece) j 0 h
+  settingsOf-at j h = getD-listed (freeUnits - rootUnit) (λ k. unitAt (rootUnit + k) piece) j 0 h
 
-  settingsOf-past : (j : ℕ) → 7 ≤ j → getD (settingsOf piece) j 0 ≡ 0
+  settingsOf-past : (j : ℕ) → freeUnits - rootUnit ≤ j → getD (settingsOf piece) j 0 ≡ 0
   unfolding settingsOf
   settingsOf-past j h = List·getD-eq-default (settingsOf piece) 0 {n = j} (simp length-listed h)
 
@@ -129,8 +129,8 @@ module _ (piece : List ℕ) (whole : length piece ≡ 2336) where
     -- past the list the lengths are 0, and the texts are empty
     none-past : (j : ℕ) → listCount piece < j → j < 9 → unitAt j piece ≡ 0
     none-past j h u =
-        let f : unitAt 9 piece ≤ 8 = t .few in
-        zero-at piece (1 + unitAt 9 piece) (9 - (1 + unitAt 9 piece)) j (t .lengths) (omega arith) (omega arith) (omega arith)
+        let f : unitAt countUnit piece ≤ 8 = t .few in
+        zero-at piece (1 + unitAt countUnit piece) (9 - (1 + unitAt countUnit piece)) j (t .lengths) (omega arith) (omega arith) (omega arith)
 
     text-of : (j : ℕ) → j < 9 → getD (placeTexts piece) j [] ≡ textAt j piece
     unfolding textAt
@@ -155,25 +155,25 @@ module _ (piece : List ℕ) (whole : length piece ≡ 2336) where
         (λ o a b. room-unit j o b
         ∙ zero-at piece (32 + j * 256 + unitAt j piece) (256 - unitAt j piece) (32 + j * 256 + o) (past-at j h) (omega arith) (omega arith) (omega arith))
 
-    head-of : (i : ℕ) → HeadUnit i → unitAt i (written (placeTexts piece) (unitAt 10 piece) (marksOf piece) (settingsOf piece)) ≡ unitAt i piece
+    head-of : (i : ℕ) → HeadUnit i → unitAt i (written (placeTexts piece) (unitAt hintUnit piece) (marksOf piece) (settingsOf piece)) ≡ unitAt i piece
     head-of j (a-length h) = written-length _ _ _ _ shape-of j h ∙ (ap length (text-of j h) ∙ length-of j h)
     head-of i the-count =
-        let f : unitAt 9 piece ≤ 8 = t .few in
+        let f : unitAt countUnit piece ≤ 8 = t .few in
         written-count _ _ _ _ shape-of ∙ rw length-textsOf (omega arith)
     head-of i the-hint = written-hint _ _ _ _ shape-of
     head-of i (a-mark j h) = written-mark _ _ _ _ shape-of j h ∙ go (lt-or-le j (listCount piece))
       where
-        go : (j < listCount piece) ⊎ (listCount piece ≤ j) → getD (marksOf piece) j 0 ≡ unitAt (11 + j) piece
+        go : (j < listCount piece) ⊎ (listCount piece ≤ j) → getD (marksOf piece) j 0 ≡ unitAt (markUnits + j) piece
         go (inl u) = marksOf-at j u
         go (inr u) =
-            let f : unitAt 9 piece ≤ 8 = t .few in
+            let f : unitAt countUnit piece ≤ 8 = t .few in
             marksOf-past j u
-            ∙ sym (zero-at piece (11 + unitAt 9 piece) (19 - (11 + unitAt 9 piece)) (11 + j) (t .marks) (omega arith) (omega arith) (omega arith))
-    head-of i (a-setting j h) = written-setting _ _ _ _ shape-of j h ∙ go (lt-or-le j 7)
+            ∙ sym (zero-at piece (markUnits + unitAt countUnit piece) (rootUnit - (markUnits + unitAt countUnit piece)) (markUnits + j) (t .marks) (omega arith) (omega arith) (omega arith))
+    head-of i (a-setting j h) = written-setting _ _ _ _ shape-of j h ∙ go (lt-or-le j (freeUnits - rootUnit))
       where
-        go : (j < 7) ⊎ (7 ≤ j) → getD (settingsOf piece) j 0 ≡ unitAt (19 + j) piece
+        go : (j < freeUnits - rootUnit) ⊎ (freeUnits - rootUnit ≤ j) → getD (settingsOf piece) j 0 ≡ unitAt (rootUnit + j) piece
         go (inl u) = settingsOf-at j u
-        go (inr u) = settingsOf-past j u ∙ sym (zero-at piece 26 6 (19 + j) (t .rest) (omega arith) (omega arith) (omega arith))
+        go (inr u) = settingsOf-past j u ∙ sym (zero-at piece freeUnits (headUnits - freeUnits) (rootUnit + j) (t .rest) (omega arith) (omega arith) (omega arith))
 
     pub tidy-yes : tidy piece ≡ true
     unfolding tidy
@@ -184,7 +184,7 @@ module _ (piece : List ℕ) (whole : length piece ≡ 2336) where
 
   -- and the other way: a place that is what it writes passes each test
   module _ (t : tidy piece ≡ true) where
-    pub tidy-written : written (placeTexts piece) (unitAt 10 piece) (marksOf piece) (settingsOf piece) ≡ piece
+    pub tidy-written : written (placeTexts piece) (unitAt hintUnit piece) (marksOf piece) (settingsOf piece) ≡ piece
     unfolding tidy
     tidy-written = sameList-true _ piece t
 
@@ -202,17 +202,17 @@ module _ (piece : List ℕ) (whole : length piece ≡ 2336) where
         ∙ (ap (λ (x : List ℕ). getD x o 0) (written-room _ _ _ _ shape-of j h)
         ∙ (getD-roomed 256 (getD (placeTexts piece) j []) o ∙ List·getD-eq-default (getD (placeTexts piece) j []) 0 {n = o} (omega arith))))
 
-    few-told : unitAt 9 piece ≤ 8
+    few-told : unitAt countUnit piece ≤ 8
     few-told =
-        let e : unitAt 9 piece ≡ length (placeTexts piece) - 1 = ap (unitAt 9) (sym tidy-written) ∙ written-count _ _ _ _ shape-of in
+        let e : unitAt countUnit piece ≡ length (placeTexts piece) - 1 = ap (unitAt countUnit) (sym tidy-written) ∙ written-count _ _ _ _ shape-of in
         let l : length (placeTexts piece) ≡ 1 + listCount piece = length-textsOf in
         omega arith
 
-    mark-told : (j : ℕ) → j < 8 → unitAt 9 piece ≤ j → unitAt (11 + j) piece ≡ 0
-    mark-told j h u = ap (unitAt (11 + j)) (sym tidy-written) ∙ (written-mark _ _ _ _ shape-of j h ∙ marksOf-past j (omega arith))
+    mark-told : (j : ℕ) → j < 8 → unitAt countUnit piece ≤ j → unitAt (markUnits + j) piece ≡ 0
+    mark-told j h u = ap (unitAt (markUnits + j)) (sym tidy-written) ∙ (written-mark _ _ _ _ shape-of j h ∙ marksOf-past j (omega arith))
 
-    rest-told : (j : ℕ) → j < 13 → 7 ≤ j → unitAt (19 + j) piece ≡ 0
-    rest-told j h u = ap (unitAt (19 + j)) (sym tidy-written) ∙ (written-setting _ _ _ _ shape-of j h ∙ settingsOf-past j u)
+    rest-told : (j : ℕ) → j < headUnits - rootUnit → freeUnits - rootUnit ≤ j → unitAt (rootUnit + j) piece ≡ 0
+    rest-told j h u = ap (unitAt (rootUnit + j)) (sym tidy-written) ∙ (written-setting _ _ _ _ shape-of j h ∙ settingsOf-past j u)
 
     room-told : (j : ℕ) → j < 9 → tidyRoom piece j ≡ true
     unfolding tidyRoom
@@ -227,30 +227,30 @@ module _ (piece : List ℕ) (whole : length piece ≡ 2336) where
     unfolding tidyRooms
     tidy-told = record {
       few = few-told;
-      lengths = zeros-all piece (1 + unitAt 9 piece) (9 - (1 + unitAt 9 piece)) (omega (arith, few-told))
+      lengths = zeros-all piece (1 + unitAt countUnit piece) (9 - (1 + unitAt countUnit piece)) (omega (arith, few-told))
           (λ i a b. length-told i (omega (arith, few-told)) ∙ ap length (textsOf-past i (omega (arith, few-told))));
-      marks = zeros-all piece (11 + unitAt 9 piece) (19 - (11 + unitAt 9 piece)) (omega (arith, few-told))
-          (λ i a b. shifted 11 i (mark-told (i - 11) (omega (arith, few-told)) (omega (arith, few-told))) (omega (arith, few-told)));
-      rest = zeros-all piece 26 6 (omega arith) (λ i a b. shifted 19 i (rest-told (i - 19) (omega arith) (omega arith)) (omega arith));
+      marks = zeros-all piece (markUnits + unitAt countUnit piece) (rootUnit - (markUnits + unitAt countUnit piece)) (omega (arith, few-told))
+          (λ i a b. shifted markUnits i (mark-told (i - markUnits) (omega (arith, few-told)) (omega (arith, few-told))) (omega (arith, few-told)));
+      rest = zeros-all piece freeUnits (headUnits - freeUnits) (omega arith) (λ i a b. shifted rootUnit i (rest-told (i - rootUnit) (omega arith) (omega arith)) (omega arith));
       rooms = listed-every (tidyRoom piece) 9 (λ k. k) room-told;
     }
 
   -- the ways out of the test
-  pub not-few : 8 < unitAt 9 piece → tidy piece ≡ false
-  not-few h = refuted _ (λ t. let u : unitAt 9 piece ≤ 8 = tidy-told t .few in omega arith)
+  pub not-few : 8 < unitAt countUnit piece → tidy piece ≡ false
+  not-few h = refuted _ (λ t. let u : unitAt countUnit piece ≤ 8 = tidy-told t .few in omega arith)
 
-  pub not-lengths : {r : Bool} → r ≡ zeros (part (1 + unitAt 9 piece) (9 - (1 + unitAt 9 piece)) piece) → r ≡ false → tidy piece ≡ false
+  pub not-lengths : {r : Bool} → r ≡ zeros (part (1 + unitAt countUnit piece) (9 - (1 + unitAt countUnit piece)) piece) → r ≡ false → tidy piece ≡ false
   not-lengths e f = refuted _ (λ t. not-both (e ∙ tidy-told t .lengths) f)
 
-  pub not-marks : {r : Bool} → r ≡ zeros (part (11 + unitAt 9 piece) (19 - (11 + unitAt 9 piece)) piece) → r ≡ false → tidy piece ≡ false
+  pub not-marks : {r : Bool} → r ≡ zeros (part (markUnits + unitAt countUnit piece) (rootUnit - (markUnits + unitAt countUnit piece)) piece) → r ≡ false → tidy piece ≡ false
   not-marks e f = refuted _ (λ t. not-both (e ∙ tidy-told t .marks) f)
 
-  pub not-rest : {r : Bool} → r ≡ zeros (part 26 6 piece) → r ≡ false → tidy piece ≡ false
+  pub not-rest : {r : Bool} → r ≡ zeros (part freeUnits (headUnits - freeUnits) piece) → r ≡ false → tidy piece ≡ false
   not-rest e f = refuted _ (λ t. not-both (e ∙ tidy-told t .rest) f)
 
-  pub tidy-rooms : {a b c r : Bool} → a ≡ zeros (part (1 + unitAt 9 piece) (9 - (1 + unitAt 9 piece)) piece) → a ≡ true
-      → b ≡ zeros (part (11 + unitAt 9 piece) (19 - (11 + unitAt 9 piece)) piece) → b ≡ true → c ≡ zeros (part 26 6 piece) → c ≡ true
-      → r ≡ tidyRooms piece → unitAt 9 piece ≤ 8 → r ≡ tidy piece
+  pub tidy-rooms : {a b c r : Bool} → a ≡ zeros (part (1 + unitAt countUnit piece) (9 - (1 + unitAt countUnit piece)) piece) → a ≡ true
+      → b ≡ zeros (part (markUnits + unitAt countUnit piece) (rootUnit - (markUnits + unitAt countUnit piece)) piece) → b ≡ true → c ≡ zeros (part freeUnits (headUnits - freeUnits) piece) → c ≡ true
+      → r ≡ tidyRooms piece → unitAt countUnit piece ≤ 8 → r ≡ tidy piece
   tidy-rooms ea ta eb tb ec tc er h =
       er ∙ both-ways _ _
       (λ u. tidy-yes (record { few = h; lengths = sym ea ∙ ta; marks = sym eb ∙ tb; rest = sym ec ∙ tc; rooms = u }))

@@ -8,7 +8,7 @@ use lib.ListN.{length, take, drop, replicate, drop-of-length-le, length-replicat
 use Rattle.laws.specs.Lists.{pasted, roomed}
 use Rattle.laws.proofs.Pasting.{length-pasted, pasted-join, length-roomed}
 use Rattle.laws.proofs.Parts.{part-slice}
-use Rattle.cache.specs.places.Layout.{placeCount, placeAt, wideUnits, blank}
+use Rattle.cache.specs.places.Layout.{placeCount, placeAt, wideUnits, blank, rootUnit, interlinkUnit, failbackUnit, ttlUnit, takenUnit}
 use Rattle.cache.specs.places.Code.{changed, putUnit, putWide, putText, putSettings, keyOnly}
 use Rattle.cache.proofs.places.LayoutLaws.{length-place, changed-pasted, changed-then}
 
@@ -99,13 +99,13 @@ module _ (raw : List ℕ) (i : ℕ) (fits : i < placeCount raw) where
       ∙ (λ j. changed i (λ x. pasted (pasted x 1 (replicate (p j) 0)) 288 (replicate (q j) 0)) raw)
 
   -- settings, one after the other
-  pub settings-put : (a b c d e : ℕ) {m₁ m₂ m₃ m₄ o : List ℕ} → m₁ ≡ changed i (putUnit 19 a) raw → m₂ ≡ changed i (putUnit 20 b) m₁
-      → m₃ ≡ changed i (putUnit 21 c) m₂ → m₄ ≡ changed i (putWide 22 d) m₃ → o ≡ changed i (putWide 24 e) m₄
+  pub settings-put : (a b c d e : ℕ) {m₁ m₂ m₃ m₄ o : List ℕ} → m₁ ≡ changed i (putUnit rootUnit a) raw → m₂ ≡ changed i (putUnit interlinkUnit b) m₁
+      → m₃ ≡ changed i (putUnit failbackUnit c) m₂ → m₄ ≡ changed i (putWide ttlUnit d) m₃ → o ≡ changed i (putWide takenUnit e) m₄
       → o ≡ changed i (putSettings (a ∷ b ∷ c ∷ (wideUnits d ++ wideUnits e))) raw
   unfolding putUnit putWide putSettings
   settings-put a b c d e h₁ h₂ h₃ h₄ h =
-      touching 19 (a ∷ b ∷ c ∷ wideUnits d) 24 (wideUnits e)
-      (touching 19 (a ∷ b ∷ c ∷ []) 22 (wideUnits d)
-      (touching 19 (a ∷ b ∷ []) 21 (c ∷ []) (touching 19 (a ∷ []) 20 (b ∷ []) h₁ h₂ refl (omega arith)) h₃ refl (omega arith))
+      touching rootUnit (a ∷ b ∷ c ∷ wideUnits d) takenUnit (wideUnits e)
+      (touching rootUnit (a ∷ b ∷ c ∷ []) ttlUnit (wideUnits d)
+      (touching rootUnit (a ∷ b ∷ []) failbackUnit (c ∷ []) (touching rootUnit (a ∷ []) interlinkUnit (b ∷ []) h₁ h₂ refl (omega arith)) h₃ refl (omega arith))
       h₄ refl (omega arith))
       h refl (omega arith)

@@ -13,28 +13,28 @@ use Rattle.laws.proofs.Orders.{lt-or-le}
 use Rattle.laws.proofs.Pasting.{getD-part, length-part, length-roomed, take-roomed}
 use Rattle.laws.proofs.Parts.{part-whole, part-join, part-past, getD-past, getD-roomed}
 use Rattle.laws.proofs.Listed.{length-listed, getD-listed, listed-same, flatten-parts, length-flatten, part-flatten}
-use Rattle.cache.specs.places.Layout.{unitAt, roomAt, textAt, headOf, roomsOf, written}
+use Rattle.cache.specs.places.Layout.{unitAt, roomAt, textAt, headOf, roomsOf, written, countUnit, hintUnit, markUnits, rootUnit, headUnits}
 
 -- what each unit of a head is for
 pub data HeadUnit : ℕ → Type 0 where
   a-length : {j : ℕ} → j < 9 → HeadUnit j
-  the-count : HeadUnit 9
-  the-hint : HeadUnit 10
-  a-mark : (j : ℕ) → j < 8 → HeadUnit (11 + j)
-  a-setting : (j : ℕ) → j < 13 → HeadUnit (19 + j)
+  the-count : HeadUnit countUnit
+  the-hint : HeadUnit hintUnit
+  a-mark : (j : ℕ) → j < 8 → HeadUnit (markUnits + j)
+  a-setting : (j : ℕ) → j < headUnits - rootUnit → HeadUnit (rootUnit + j)
 
 pub head-unit : (i : ℕ) → i < 32 → HeadUnit i
-head-unit i h = go (lt-or-le i 9) (lt-or-le i 10) (lt-or-le i 11) (lt-or-le i 19)
+head-unit i h = go (lt-or-le i countUnit) (lt-or-le i hintUnit) (lt-or-le i markUnits) (lt-or-le i rootUnit)
   where
     is : (k : ℕ) → k ≡ i → HeadUnit k → HeadUnit i
     is k e u = subst HeadUnit e u
 
-    go : (i < 9) ⊎ (9 ≤ i) → (i < 10) ⊎ (10 ≤ i) → (i < 11) ⊎ (11 ≤ i) → (i < 19) ⊎ (19 ≤ i) → HeadUnit i
+    go : (i < countUnit) ⊎ (countUnit ≤ i) → (i < hintUnit) ⊎ (hintUnit ≤ i) → (i < markUnits) ⊎ (markUnits ≤ i) → (i < rootUnit) ⊎ (rootUnit ≤ i) → HeadUnit i
     go (inl a) b c d = a-length a
-    go (inr a) (inl b) c d = is 9 (omega arith) the-count
-    go (inr a) (inr b) (inl c) d = is 10 (omega arith) the-hint
-    go (inr a) (inr b) (inr c) (inl d) = is (11 + (i - 11)) (omega arith) (a-mark (i - 11) (omega arith))
-    go (inr a) (inr b) (inr c) (inr d) = is (19 + (i - 19)) (omega arith) (a-setting (i - 19) (omega arith))
+    go (inr a) (inl b) c d = is countUnit (omega arith) the-count
+    go (inr a) (inr b) (inl c) d = is hintUnit (omega arith) the-hint
+    go (inr a) (inr b) (inr c) (inl d) = is (markUnits + (i - markUnits)) (omega arith) (a-mark (i - markUnits) (omega arith))
+    go (inr a) (inr b) (inr c) (inr d) = is (rootUnit + (i - rootUnit)) (omega arith) (a-setting (i - rootUnit) (omega arith))
 
 -- two places with equal heads and equal rooms
 pub same-place : (a b : List ℕ) → length a ≡ 2336 → length b ≡ 2336
@@ -61,10 +61,10 @@ pub record Shaped (ts : List (List ℕ)) (marks settings : List ℕ) : Type 0 wh
   pub fewTexts : length ts ≤ 9
   pub short : (j : ℕ) → length (getD ts j []) ≤ 256
   pub fewMarks : length marks ≤ 8
-  pub fewSettings : length settings ≤ 13
+  pub fewSettings : length settings ≤ headUnits - rootUnit
 
 -- only their rooms in the head count of marks and settings
-pub same-written : (ts : List (List ℕ)) (hint : ℕ) (ms ss ms′ ss′ : List ℕ) → roomed 8 ms ≡ roomed 8 ms′ → roomed 13 ss ≡ roomed 13 ss′
+pub same-written : (ts : List (List ℕ)) (hint : ℕ) (ms ss ms′ ss′ : List ℕ) → roomed 8 ms ≡ roomed 8 ms′ → roomed (headUnits - rootUnit) ss ≡ roomed (headUnits - rootUnit) ss′
     → written ts hint ms ss ≡ written ts hint ms′ ss′
 unfolding written headOf
 same-written ts hint ms ss ms′ ss′ p q =
@@ -74,8 +74,8 @@ module _ (ts : List (List ℕ)) (hint : ℕ) (marks settings : List ℕ) (shape 
   length-marks : length (roomed 8 marks) ≡ 8
   length-marks = length-roomed 8 marks (shape .fewMarks)
 
-  length-settings : length (roomed 13 settings) ≡ 13
-  length-settings = length-roomed 13 settings (shape .fewSettings)
+  length-settings : length (roomed (headUnits - rootUnit) settings) ≡ headUnits - rootUnit
+  length-settings = length-roomed (headUnits - rootUnit) settings (shape .fewSettings)
 
   length-lengths : length (listed 9 (λ j. length (getD ts j []))) ≡ 9
   length-lengths = length-listed 9 (λ j. length (getD ts j []))
@@ -107,32 +107,32 @@ module _ (ts : List (List ℕ)) (hint : ℕ) (marks settings : List ℕ) (shape 
       ∙ getD-listed 9 (λ k. length (getD ts k [])) j 0 h)
 
   past-lengths : (i z : ℕ) → 9 + i < 32
-      → getD (written ts hint marks settings) (9 + i) z ≡ getD (((length ts - 1) ∷ hint ∷ []) ++ (roomed 8 marks ++ roomed 13 settings)) i z
+      → getD (written ts hint marks settings) (9 + i) z ≡ getD (((length ts - 1) ∷ hint ∷ []) ++ (roomed 8 marks ++ roomed (headUnits - rootUnit) settings)) i z
   unfolding headOf
   past-lengths i z h = in-head (9 + i) z h ∙ getD-past (listed 9 (λ k. length (getD ts k []))) _ 9 i z length-lengths
 
-  pub written-count : unitAt 9 (written ts hint marks settings) ≡ length ts - 1
+  pub written-count : unitAt countUnit (written ts hint marks settings) ≡ length ts - 1
   written-count = past-lengths 0 0 (omega arith)
 
-  pub written-hint : unitAt 10 (written ts hint marks settings) ≡ hint
+  pub written-hint : unitAt hintUnit (written ts hint marks settings) ≡ hint
   written-hint = past-lengths 1 0 (omega arith)
 
-  past-hint : (i z : ℕ) → 11 + i < 32 → getD (written ts hint marks settings) (11 + i) z ≡ getD (roomed 8 marks ++ roomed 13 settings) i z
+  past-hint : (i z : ℕ) → markUnits + i < 32 → getD (written ts hint marks settings) (markUnits + i) z ≡ getD (roomed 8 marks ++ roomed (headUnits - rootUnit) settings) i z
   past-hint i z h =
-      let e : 11 + i ≡ 9 + (2 + i) = omega arith in
+      let e : markUnits + i ≡ 9 + (2 + i) = omega arith in
       rw e (past-lengths (2 + i) z (omega arith)
-      ∙ getD-past ((length ts - 1) ∷ hint ∷ []) (roomed 8 marks ++ roomed 13 settings) 2 i z refl)
+      ∙ getD-past ((length ts - 1) ∷ hint ∷ []) (roomed 8 marks ++ roomed (headUnits - rootUnit) settings) 2 i z refl)
 
-  pub written-mark : (j : ℕ) → j < 8 → unitAt (11 + j) (written ts hint marks settings) ≡ getD marks j 0
+  pub written-mark : (j : ℕ) → j < 8 → unitAt (markUnits + j) (written ts hint marks settings) ≡ getD marks j 0
   written-mark j h =
       past-hint j 0 (omega arith)
-      ∙ (List·getD-append (roomed 8 marks) (roomed 13 settings) 0 j (rw length-marks h) ∙ getD-roomed 8 marks j)
+      ∙ (List·getD-append (roomed 8 marks) (roomed (headUnits - rootUnit) settings) 0 j (rw length-marks h) ∙ getD-roomed 8 marks j)
 
-  pub written-setting : (j : ℕ) → j < 13 → unitAt (19 + j) (written ts hint marks settings) ≡ getD settings j 0
+  pub written-setting : (j : ℕ) → j < headUnits - rootUnit → unitAt (rootUnit + j) (written ts hint marks settings) ≡ getD settings j 0
   written-setting j h =
-      let e : 19 + j ≡ 11 + (8 + j) = omega arith in
+      let e : rootUnit + j ≡ markUnits + (8 + j) = omega arith in
       rw e (past-hint (8 + j) 0 (omega arith)
-      ∙ (getD-past (roomed 8 marks) (roomed 13 settings) 8 j 0 length-marks ∙ getD-roomed 13 settings j))
+      ∙ (getD-past (roomed 8 marks) (roomed (headUnits - rootUnit) settings) 8 j 0 length-marks ∙ getD-roomed (headUnits - rootUnit) settings j))
 
   pub written-room : (j : ℕ) → j < 9 → roomAt j (written ts hint marks settings) ≡ roomed 256 (getD ts j [])
   unfolding roomAt written roomsOf

@@ -1,5 +1,5 @@
 -- Shapes of the code, proved equal to the rules; nothing here is to be believed.
-use Prim.Native.Nat.{ℕ, _+_}
+use Prim.Native.Nat.{ℕ, _+_, _-_}
 use mathlib.Core.Bool.{Bool, true, _&&_, _||_, not}
 use mathlib.Core.List.{List, [], _∷_}
 use lib.Dec.{leb, eqb}
@@ -8,7 +8,7 @@ use Rattle.laws.specs.Choice.{choose}
 use Rattle.laws.specs.Lists.{every}
 use Rattle.laws.specs.Listed.{listed, sameList}
 use Rattle.unc.specs.names.Names.{sameName, goodName}
-use Rattle.cache.specs.places.Layout.{placeCount, placeAt, unitAt, textAt}
+use Rattle.cache.specs.places.Layout.{placeCount, placeAt, unitAt, textAt, markUnits, ttlUnit}
 use Rattle.cache.specs.places.Code.{placeTexts}
 use Rattle.cache.specs.order.Order.{goodPrefix}
 use Rattle.cache.specs.order.Memory.{referrals, domains, inOrder, Kind, goodPlace, placeOf, pieceOf}
@@ -30,7 +30,7 @@ goodTexts domain piece = every (goodText domain) (placeTexts piece)
 
 -- the set boundaries, root, Interlink and TargetFailback are 0 or 1
 unfoldable pub goodFlags : List ℕ → Bool
-goodFlags piece = every (λ u. leb u 1) (listed 11 (λ j. unitAt (11 + j) piece))
+goodFlags piece = every (λ u. leb u 1) (listed (ttlUnit - markUnits) (λ j. unitAt (markUnits + j) piece))
 
 -- the order of one place of the domain cache, or else of the referral cache
 unfoldable pub orderedAs : Bool → List ℕ → Bool

@@ -7,28 +7,28 @@ use lib.Dec.{leb, eqb}
 use Rattle.laws.specs.Choice.{choose}
 use Rattle.laws.specs.Lists.{every}
 use Rattle.laws.specs.Listed.{listed, sameList}
-use Rattle.cache.specs.places.Layout.{placeCount, placeAt, unitAt, wideAt, wideUnits, flagAt, flagUnit, textAt, listCount, blank, written}
+use Rattle.cache.specs.places.Layout.{placeCount, placeAt, unitAt, wideAt, wideUnits, flagAt, flagUnit, textAt, listCount, blank, written, hintUnit, markUnits, rootUnit, interlinkUnit, failbackUnit, ttlUnit, takenUnit}
 use Rattle.cache.specs.order.Entries.{Target, Referral, Domain, Place, free, used}
 use Rattle.cache.specs.order.Order.{goodReferral, goodDomain, distinct}
 
 -- target j of a place: text 1 + j, and mark j
 unfoldable pub targetOf : ℕ → List ℕ → Target
-targetOf j piece = record { path = textAt (1 + j) piece; opens = flagAt (11 + j) piece }
+targetOf j piece = record { path = textAt (1 + j) piece; opens = flagAt (markUnits + j) piece }
 
 -- a place read as a referral entry
 unfoldable pub referralOf : List ℕ → Referral
 referralOf piece = record {
   prefix = textAt 0 piece;
-  root = flagAt 19 piece;
-  interlink = flagAt 20 piece;
-  failback = flagAt 21 piece;
-  ttl = wideAt 22 piece;
-  taken = wideAt 24 piece;
+  root = flagAt rootUnit piece;
+  interlink = flagAt interlinkUnit piece;
+  failback = flagAt failbackUnit piece;
+  ttl = wideAt ttlUnit piece;
+  taken = wideAt takenUnit piece;
   targets = listed (listCount piece) (λ j. targetOf j piece);
-  hint = unitAt 10 piece;
+  hint = unitAt hintUnit piece;
 }
 
--- the settings of a referral entry: units 19 to 25 of its place
+-- the settings of a referral entry, from the unit of root on
 unfoldable pub referralSettings : Referral → List ℕ
 referralSettings e = flagUnit (e .root) ∷ flagUnit (e .interlink) ∷ flagUnit (e .failback) ∷ (wideUnits (e .ttl) ++ wideUnits (e .taken))
 
@@ -39,7 +39,7 @@ referralUnits e =
 
 -- a place read as a domain entry
 unfoldable pub domainOf : List ℕ → Domain
-domainOf piece = record { name = textAt 0 piece; dcs = listed (listCount piece) (λ j. textAt (1 + j) piece); hint = unitAt 10 piece }
+domainOf piece = record { name = textAt 0 piece; dcs = listed (listCount piece) (λ j. textAt (1 + j) piece); hint = unitAt hintUnit piece }
 
 -- the place that a domain entry writes: no marks and no settings
 unfoldable pub domainUnits : Domain → List ℕ

@@ -6,7 +6,7 @@ use lib.ListN.{length, replicate}
 use lib.Dec.{eqb, leb}
 use Rattle.laws.specs.Lists.{every, pasted, part, roomed}
 use Rattle.laws.specs.Listed.{listed, sameList}
-use Rattle.cache.specs.places.Layout.{placeAt, listCount, textAt, unitAt, written, wideUnits}
+use Rattle.cache.specs.places.Layout.{placeAt, listCount, textAt, unitAt, written, wideUnits, hintUnit, markUnits, rootUnit, freeUnits}
 
 -- the memory with place i changed by f, and all else as it was
 unfoldable pub changed : ℕ → (List ℕ → List ℕ) → List ℕ → List ℕ
@@ -18,15 +18,15 @@ placeTexts piece = listed (1 + listCount piece) (λ j. textAt j piece)
 
 -- the marks of the list
 unfoldable pub marksOf : List ℕ → List ℕ
-marksOf piece = listed (listCount piece) (λ j. unitAt (11 + j) piece)
+marksOf piece = listed (listCount piece) (λ j. unitAt (markUnits + j) piece)
 
--- the settings, of which seven units are in use
+-- the settings: the units in use
 unfoldable pub settingsOf : List ℕ → List ℕ
-settingsOf piece = listed 7 (λ j. unitAt (19 + j) piece)
+settingsOf piece = listed (freeUnits - rootUnit) (λ j. unitAt (rootUnit + j) piece)
 
 -- the unused room of a used place is zero: the place is exactly what its texts, hint, marks and settings write
 unfoldable pub tidy : List ℕ → Bool
-tidy piece = sameList (written (placeTexts piece) (unitAt 10 piece) (marksOf piece) (settingsOf piece)) piece
+tidy piece = sameList (written (placeTexts piece) (unitAt hintUnit piece) (marksOf piece) (settingsOf piece)) piece
 
 -- every unit is zero
 unfoldable pub zeros : List ℕ → Bool
@@ -52,9 +52,9 @@ putWide j v piece = pasted piece j (wideUnits v)
 unfoldable pub putText : ℕ → List ℕ → List ℕ → List ℕ
 putText j t piece = pasted (putUnit j (length t) piece) (32 + j * 256) (roomed 256 t)
 
--- settings in units 19 and on
+-- settings
 unfoldable pub putSettings : List ℕ → List ℕ → List ℕ
-putSettings settings piece = pasted piece 19 settings
+putSettings settings piece = pasted piece rootUnit settings
 
 -- all but the key becomes zero
 unfoldable pub keyOnly : List ℕ → List ℕ

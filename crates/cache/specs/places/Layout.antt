@@ -1,10 +1,5 @@
 -- The layout of lent memory, one for both caches. A place is 2,336 units: a head of 32, and nine rooms of 256 for its texts.
--- Text 0 is the key (a prefix or a domain's name), texts 1 to 8 are the list (targets or DCs). The head:
---     0 .. 8     the lengths of the texts; unit 0 is 0 where the place is free
---     9          how many texts the list has
---     10         the hint
---     11 .. 18   a mark for each text of the list (a set boundary)
---     19 .. 31   settings
+-- Text 0 is the key (a prefix or a domain's name), texts 1 to 8 are the list (targets or DCs).
 use Prim.Native.Nat.{ℕ, _+_, _-_, _*_, _/_, _%_, min}
 use mathlib.Core.Bool.{Bool}
 use mathlib.Core.List.{List, [], _∷_, _++_, flatten}
@@ -13,6 +8,43 @@ use lib.Dec.{eqb}
 use Rattle.laws.specs.Choice.{choose}
 use Rattle.laws.specs.Lists.{part, roomed}
 use Rattle.laws.specs.Listed.{listed}
+
+-- The units of the head, of which the first nine are the lengths of the texts; unit 0 is 0 where the place is free.
+-- how many texts the list has
+abbrev pub countUnit : ℕ
+countUnit = 9
+
+-- the hint
+abbrev pub hintUnit : ℕ
+hintUnit = 10
+
+-- eight marks, one for each text of the list: a set boundary
+abbrev pub markUnits : ℕ
+markUnits = 11
+
+-- the settings of a referral entry: three flags, and two numbers of two units each
+abbrev pub rootUnit : ℕ
+rootUnit = 19
+
+abbrev pub interlinkUnit : ℕ
+interlinkUnit = 20
+
+abbrev pub failbackUnit : ℕ
+failbackUnit = 21
+
+abbrev pub ttlUnit : ℕ
+ttlUnit = 22
+
+abbrev pub takenUnit : ℕ
+takenUnit = 24
+
+-- units that are in no use yet, and zero
+abbrev pub freeUnits : ℕ
+freeUnits = 26
+
+-- all of them
+abbrev pub headUnits : ℕ
+headUnits = 32
 
 -- how many places the memory has
 abbrev pub placeCount : List ℕ → ℕ
@@ -44,7 +76,7 @@ flagUnit b = choose b 1 0
 
 -- room j: 256 units
 unfoldable pub roomAt : ℕ → List ℕ → List ℕ
-roomAt j piece = part (32 + j * 256) 256 piece
+roomAt j piece = part (headUnits + j * 256) 256 piece
 
 -- text j: the first units of its room, as many as unit j of the head says
 unfoldable pub textAt : ℕ → List ℕ → List ℕ
@@ -52,7 +84,7 @@ textAt j piece = take (unitAt j piece) (roomAt j piece)
 
 -- how many texts the list of a place has
 abbrev pub listCount : List ℕ → ℕ
-listCount piece = min 8 (unitAt 9 piece)
+listCount piece = min 8 (unitAt countUnit piece)
 
 -- a free place: every unit zero
 unfoldable pub blank : List ℕ
@@ -61,7 +93,7 @@ blank = replicate 2336 0
 -- the head of a place that holds these texts, the key first, this hint, these marks and these settings; all else in it is zero
 unfoldable pub headOf : List (List ℕ) → ℕ → List ℕ → List ℕ → List ℕ
 headOf ts hint marks settings =
-    listed 9 (λ j. length (getD ts j [])) ++ (((length ts - 1) ∷ hint ∷ []) ++ (roomed 8 marks ++ roomed 13 settings))
+    listed 9 (λ j. length (getD ts j [])) ++ (((length ts - 1) ∷ hint ∷ []) ++ (roomed 8 marks ++ roomed (headUnits - rootUnit) settings))
 
 -- its rooms: each text with zeros after it
 unfoldable pub roomsOf : List (List ℕ) → List ℕ

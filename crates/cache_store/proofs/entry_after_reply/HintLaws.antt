@@ -7,6 +7,7 @@ use native.Mathlib.Numerals.{add-one}
 use native.Mathlib.Omega.{arith}
 use lib.ListN.{length, getD, take, drop, drop-of-length-le, length-drop, length-take}
 use lib.Seq.{drop-cons, getD-take, getD-drop}
+use Rattle.cache.specs.places.Layout.{hintUnit}
 use Rattle.laws.specs.Lists.{every}
 use Rattle.laws.specs.Choice.{choose}
 use Rattle.laws.proofs.Choices.{choose-yes, choose-no, and-no-right}
@@ -90,16 +91,16 @@ set-end n ts k h =
 
 -- failback, in its three ways
 module _ (failback : Bool) (ts : List Target) (hint i : ℕ) (raw : List ℕ) where
-  pub back-off : {o : List ℕ} → o ≡ changed i (putUnit 10 hint) raw → failback ≡ false → o ≡ changed i (putUnit 10 (failedBack failback ts hint)) raw
+  pub back-off : {o : List ℕ} → o ≡ changed i (putUnit hintUnit hint) raw → failback ≡ false → o ≡ changed i (putUnit hintUnit (failedBack failback ts hint)) raw
   unfolding failedBack choose
   back-off e h = e ∙ rw h
 
-  pub back-in : {o : List ℕ} {r : Bool} → o ≡ changed i (putUnit 10 hint) raw → r ≡ inFirstSet hint ts → r ≡ true
-      → o ≡ changed i (putUnit 10 (failedBack failback ts hint)) raw
+  pub back-in : {o : List ℕ} {r : Bool} → o ≡ changed i (putUnit hintUnit hint) raw → r ≡ inFirstSet hint ts → r ≡ true
+      → o ≡ changed i (putUnit hintUnit (failedBack failback ts hint)) raw
   unfolding failedBack
-  back-in {r = r} e h k = e ∙ ap (λ (x : ℕ). changed i (putUnit 10 x) raw) (sym (choose-no 0 hint (and-no-right failback (rw (← h, k)))))
+  back-in {r = r} e h k = e ∙ ap (λ (x : ℕ). changed i (putUnit hintUnit x) raw) (sym (choose-no 0 hint (and-no-right failback (rw (← h, k)))))
 
-  pub back-first : {o : List ℕ} {r : Bool} → o ≡ changed i (putUnit 10 0) raw → failback ≡ true → r ≡ inFirstSet hint ts → r ≡ false
-      → o ≡ changed i (putUnit 10 (failedBack failback ts hint)) raw
+  pub back-first : {o : List ℕ} {r : Bool} → o ≡ changed i (putUnit hintUnit 0) raw → failback ≡ true → r ≡ inFirstSet hint ts → r ≡ false
+      → o ≡ changed i (putUnit hintUnit (failedBack failback ts hint)) raw
   unfolding failedBack choose
   back-first e f h k = e ∙ rw (f, ← h, k)

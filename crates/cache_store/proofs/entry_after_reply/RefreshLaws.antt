@@ -11,7 +11,7 @@ use Rattle.laws.specs.Lists.{pasted}
 use Rattle.laws.proofs.Choices.{choose-yes, choose-no}
 use Rattle.laws.proofs.Orders.{told}
 use Rattle.unc.specs.names.Names.{sameName}
-use Rattle.cache.specs.places.Layout.{placeCount, placeAt}
+use Rattle.cache.specs.places.Layout.{placeCount, placeAt, hintUnit}
 use Rattle.cache.specs.places.Code.{changed, putUnit, putSettings, keyOnly}
 use Rattle.cache.proofs.places.LayoutLaws.{place-changed, length-changed}
 use Rattle.cache.specs.order.Entries.{Target, Referral}
@@ -68,12 +68,12 @@ module _ (raw : List ℕ) (i : ℕ) (fits : i < placeCount raw) (e : Referral) (
   unfolding entryAt
   held-entry = ap (λ (x : List ℕ). referralOf (placeAt i x)) h ∙ (ap referralOf (place-changed raw i fits (λ q. referralUnits e) long) ∙ referrals-lawful .back e good)
 
-  pub held-hinted : (failback : Bool) (hint : ℕ) {o : List ℕ} → o ≡ changed i (putUnit 10 (failedBack failback (entryAt referrals i m .targets) hint)) m
+  pub held-hinted : (failback : Bool) (hint : ℕ) {o : List ℕ} → o ≡ changed i (putUnit hintUnit (failedBack failback (entryAt referrals i m .targets) hint)) m
       → o ≡ changed i (λ q. referralUnits (targetHintTo (failedBack failback (e .targets) hint) e)) raw
   held-hinted failback hint {o} c =
-      then-changed raw i fits (λ q. referralUnits e) (putUnit 10 (failedBack failback (e .targets) hint)) (λ q l. long) (keeps-unit 10 _ (omega arith)) h
-      (c ∙ ap (λ (x : Referral). changed i (putUnit 10 (failedBack failback (x .targets) hint)) m) held-entry)
-      ∙ changed-same raw i fits (λ q. putUnit 10 (failedBack failback (e .targets) hint) (referralUnits e)) (λ q. referralUnits (targetHintTo (failedBack failback (e .targets) hint) e))
+      then-changed raw i fits (λ q. referralUnits e) (putUnit hintUnit (failedBack failback (e .targets) hint)) (λ q l. long) (keeps-unit hintUnit _ (omega arith)) h
+      (c ∙ ap (λ (x : Referral). changed i (putUnit hintUnit (failedBack failback (x .targets) hint)) m) held-entry)
+      ∙ changed-same raw i fits (λ q. putUnit hintUnit (failedBack failback (e .targets) hint) (referralUnits e)) (λ q. referralUnits (targetHintTo (failedBack failback (e .targets) hint) e))
       (target-hint-units (failedBack failback (e .targets) hint) e good)
 
 -- the entry as a refresh leaves it before its hint is set
@@ -150,7 +150,7 @@ module _ (raw : List ℕ) (i : ℕ) (place : HeldEntry i raw) (r : List ℕ) (f 
         )
 
     pub held-done : {o : List ℕ} → equivalent (f .version) (entryAt referrals i raw .targets) (targetsIn (referralShown r f)) ≡ true
-        → o ≡ changed i (putUnit 10 (failedBack (f .failback) (entryAt referrals i m .targets) hint)) m
+        → o ≡ changed i (putUnit hintUnit (failedBack (f .failback) (entryAt referrals i m .targets) hint)) m
         → o ≡ changed i (λ p. referralUnits (refreshed (entryAt referrals i raw) (referralShown r f) interlink clock)) raw
     unfolding referralShown
     held-done v c =
@@ -188,7 +188,7 @@ module _ (raw : List ℕ) (i : ℕ) (place : HeldEntry i raw) (r : List ℕ) (f 
           )
 
       pub given-done : {o : List ℕ} → equivalent (f .version) ((entryAt referrals i raw) .targets) (targetsIn (referralShown r f)) ≡ false
-          → o ≡ changed i (putUnit 10 (failedBack (f .failback) (entryAt referrals i m .targets) hint)) m
+          → o ≡ changed i (putUnit hintUnit (failedBack (f .failback) (entryAt referrals i m .targets) hint)) m
           → o ≡ changed i (λ p. referralUnits (refreshed (entryAt referrals i raw) (referralShown r f) interlink clock)) raw
       unfolding referralShown
       given-done v d =

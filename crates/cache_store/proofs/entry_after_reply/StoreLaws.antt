@@ -5,7 +5,7 @@ use mathlib.Core.List.{List, [], _∷_, map}
 use Prim.Native.Nat.{ℕ, _+_, _≤_, _<_}
 use native.Mathlib.Omega.{arith}
 use lib.ListN.{length, take, length-map, length-take}
-use Rattle.cache.specs.places.Layout.{placeCount, placeAt}
+use Rattle.cache.specs.places.Layout.{placeCount, placeAt, rootUnit}
 use Rattle.cache.specs.places.Code.{changed, putSettings}
 use Rattle.reply_bytes.specs.texts.Code.{spanned}
 use Rattle.reply_bytes.proofs.texts.UnitLaws.{length-spanned}
@@ -52,7 +52,7 @@ keeps-begun t h = keeps-both (λ q. _) (addText 0 t) keeps-blank (keeps-added 0 
 
 pub keeps-settled : (root interlink failback : Bool) (ttl taken : ℕ) → Keeps (putSettings (settings root interlink failback ttl taken))
 unfolding putSettings settings
-keeps-settled root interlink failback ttl taken = keeps-pasted 19 (settings root interlink failback ttl taken) (omega arith)
+keeps-settled root interlink failback ttl taken = keeps-pasted rootUnit (settings root interlink failback ttl taken) (omega arith)
 
 few-kept : (r : List ℕ) (ks : List Kept) (n : ℕ) → n ≤ 8 → 0 + length (map (heldTarget r) (take n ks)) ≤ 8
 few-kept r ks n h = simp (length-map, length-take) (omega arith)

@@ -21,7 +21,7 @@ use Rattle.laws.proofs.Parts.{part-cons, part-part, part-whole}
 use Rattle.laws.proofs.Listed.{getD-map, length-listed, getD-listed, map-listed}
 use Rattle.reply_read.specs.referral.Code.{targetShown}
 use Rattle.reply_read.specs.declared.referral.Kept.{Kept}
-use Rattle.cache.specs.places.Layout.{placeAt, unitAt, flagAt, listCount}
+use Rattle.cache.specs.places.Layout.{placeAt, unitAt, flagAt, listCount, markUnits}
 use Rattle.cache.specs.order.Entries.{Target}
 use Rattle.cache.specs.order.Memory.{referralOf, targetOf}
 use Rattle.cache_lookup.specs.Code.{entryAt}
@@ -64,25 +64,25 @@ module _ (bs : List Bool) (e : ℕ) where
   end-last h = rw (drop-of-length-le bs h) (omega arith)
 
 -- the boundaries of an entry's targets
-held-boundaries : (raw : List ℕ) (i : ℕ) → boundaries (heldTargets i raw) ≡ listed (listCount (placeAt i raw)) (λ j. flagAt (11 + j) (placeAt i raw))
+held-boundaries : (raw : List ℕ) (i : ℕ) → boundaries (heldTargets i raw) ≡ listed (listCount (placeAt i raw)) (λ j. flagAt (markUnits + j) (placeAt i raw))
 unfolding boundaries heldTargets entryAt referralOf targetOf
 held-boundaries raw i = map-listed (λ t. t .opens) (listCount (placeAt i raw)) (λ j. targetOf j (placeAt i raw))
 
 module _ (raw : List ℕ) (i : ℕ) where
   held-long : length (boundaries (heldTargets i raw)) ≡ listCount (placeAt i raw)
-  held-long = ap length (held-boundaries raw i) ∙ length-listed (listCount (placeAt i raw)) (λ j. flagAt (11 + j) (placeAt i raw))
+  held-long = ap length (held-boundaries raw i) ∙ length-listed (listCount (placeAt i raw)) (λ j. flagAt (markUnits + j) (placeAt i raw))
 
   module _ (e : ℕ) where
-    held-opens : e < listCount (placeAt i raw) → getD (boundaries (heldTargets i raw)) e false ≡ flagAt (11 + e) (placeAt i raw)
+    held-opens : e < listCount (placeAt i raw) → getD (boundaries (heldTargets i raw)) e false ≡ flagAt (markUnits + e) (placeAt i raw)
     held-opens h =
         ap (λ (l : List Bool). getD l e false) (held-boundaries raw i)
-        ∙ getD-listed (listCount (placeAt i raw)) (λ j. flagAt (11 + j) (placeAt i raw)) e false h
+        ∙ getD-listed (listCount (placeAt i raw)) (λ j. flagAt (markUnits + j) (placeAt i raw)) e false h
 
-    pub held-stop : {u : ℕ} → u ≡ unitAt (11 + e) (placeAt i raw) → u ≡ 1 → e < listCount (placeAt i raw) → endFrom e (boundaries (heldTargets i raw)) ≡ e
+    pub held-stop : {u : ℕ} → u ≡ unitAt (markUnits + e) (placeAt i raw) → u ≡ 1 → e < listCount (placeAt i raw) → endFrom e (boundaries (heldTargets i raw)) ≡ e
     unfolding flagAt
     held-stop is k h = end-stop (boundaries (heldTargets i raw)) e (omega (arith, held-long)) (held-opens h ∙ eq-eqb _ _ (sym is ∙ k))
 
-    pub held-more : {u : ℕ} → u ≡ unitAt (11 + e) (placeAt i raw) → (u ≡ 1 → ⊥) → e < listCount (placeAt i raw)
+    pub held-more : {u : ℕ} → u ≡ unitAt (markUnits + e) (placeAt i raw) → (u ≡ 1 → ⊥) → e < listCount (placeAt i raw)
         → endFrom e (boundaries (heldTargets i raw)) ≡ endFrom (e + 1) (boundaries (heldTargets i raw))
     unfolding flagAt
     held-more is k h = end-more (boundaries (heldTargets i raw)) e (omega (arith, held-long)) (held-opens h ∙ ne-eqb _ _ (λ q. k (is ∙ q)))

@@ -8,7 +8,7 @@ use lib.ListN.{length, length-append}
 use borrow.Author.Tests.{leb-true}
 use Rattle.laws.specs.Lists.{every}
 use Rattle.laws.proofs.Choices.{and-left, and-right}
-use Rattle.cache.specs.places.Layout.{written, flagUnit}
+use Rattle.cache.specs.places.Layout.{written, flagUnit, countUnit, markUnits}
 use Rattle.cache.specs.places.Code.{putUnit, putText}
 use Rattle.cache.proofs.places.WrittenLaws.{Shaped}
 use Rattle.cache.proofs.places.PutLaws.{put-text, put-mark, shape-text, shape-mark, blank-written}
@@ -32,9 +32,9 @@ module _ (key : List ℕ) (ps : List (List ℕ)) (hint : ℕ) (ms ss : List ℕ)
   unfolding addTarget addText
   target-written =
       let e : 1 + n ≡ length (key ∷ ps) = omega arith in
-      let f : 11 + n ≡ 11 + length ms = omega arith in
-      ap (λ (x : ℕ). putUnit (11 + n) (flagUnit (t .opens)) (putUnit 9 x (putText x (t .path) (written (key ∷ ps) hint ms ss)))) e
-      ∙ (ap (putUnit (11 + n) (flagUnit (t .opens))) (put-text (key ∷ ps) hint ms ss h (t .path) (omega arith) k)
+      let f : markUnits + n ≡ markUnits + length ms = omega arith in
+      ap (λ (x : ℕ). putUnit (markUnits + n) (flagUnit (t .opens)) (putUnit countUnit x (putText x (t .path) (written (key ∷ ps) hint ms ss)))) e
+      ∙ (ap (putUnit (markUnits + n) (flagUnit (t .opens))) (put-text (key ∷ ps) hint ms ss h (t .path) (omega arith) k)
       ∙ (ap (λ (x : ℕ). putUnit x (flagUnit (t .opens)) (written (key ∷ (ps ++ (t .path ∷ []))) hint ms ss)) f
       ∙ put-mark (key ∷ (ps ++ (t .path ∷ []))) hint ms ss (shape-text (key ∷ ps) hint ms ss h (t .path) (omega arith) k) (flagUnit (t .opens)) (omega arith)))
 
@@ -64,7 +64,7 @@ dcs-written key ps hint n (t ∷ ts) h l few k =
     let s : length t ≤ 256 = leb-true _ _ (and-left (shortName t) _ k) in
     let e : 1 + n ≡ length (key ∷ ps) = omega arith in
     ap (addAll addDc (n + 1) ts)
-    (ap (λ (x : ℕ). putUnit 9 x (putText x t (written (key ∷ ps) hint [] []))) e ∙ put-text (key ∷ ps) hint [] [] h t (omega arith) s)
+    (ap (λ (x : ℕ). putUnit countUnit x (putText x t (written (key ∷ ps) hint [] []))) e ∙ put-text (key ∷ ps) hint [] [] h t (omega arith) s)
     ∙ (dcs-written key (ps ++ (t ∷ [])) hint (n + 1) ts (shape-text (key ∷ ps) hint [] [] h t (omega arith) s)
     (simp length-append (omega arith)) (omega arith) (and-right (shortName t) _ k)
     ∙ ap (λ (x : List (List ℕ)). written (key ∷ x) hint [] []) (append-assoc ps (t ∷ []) ts))
@@ -76,5 +76,5 @@ key-shape key h = shape-text [] 0 [] [] (record { fewTexts = omega arith; short 
 pub begun-written : (key q : List ℕ) → length key ≤ 256 → begun key q ≡ written (key ∷ []) 0 [] []
 unfolding begun addText
 begun-written key q h =
-    ap (λ (x : List ℕ). putUnit 9 0 (putText 0 key x)) blank-written
+    ap (λ (x : List ℕ). putUnit countUnit 0 (putText 0 key x)) blank-written
     ∙ put-text [] 0 [] [] (record { fewTexts = omega arith; short = λ j. omega arith; fewMarks = omega arith; fewSettings = omega arith }) key (omega arith) h

@@ -19,7 +19,7 @@ use Rattle.reply_bytes.proofs.texts.UnitLaws.{length-spanned}
 use Rattle.cache.specs.order.Entries.{Target}
 use Rattle.cache.proofs.order.MemoryLaws.{length-blank}
 use Rattle.reply_read.specs.declared.referral.Kept.{Kept}
-use Rattle.cache.specs.places.Layout.{placeCount, placeAt, flagUnit, wideUnits, blank}
+use Rattle.cache.specs.places.Layout.{placeCount, placeAt, flagUnit, wideUnits, blank, countUnit, markUnits}
 use Rattle.cache.specs.places.Code.{changed, putUnit, putText, putSettings}
 use Rattle.cache.proofs.places.LayoutLaws.{length-place, changed-again, changed-none}
 use Rattle.cache.proofs.places.WriterLaws.{length-putUnit, text-put}
@@ -57,7 +57,7 @@ keeps-blank q e = length-blank
 
 pub keeps-added : (n : ℕ) (t : List ℕ) → n < 9 → length t ≤ 256 → Keeps (addText n t)
 unfolding addText
-keeps-added n t h k = keeps-both (putText n t) (putUnit 9 n) (keeps-text n t h k) (keeps-unit 9 n (omega arith))
+keeps-added n t h k = keeps-both (putText n t) (putUnit countUnit n) (keeps-text n t h k) (keeps-unit countUnit n (omega arith))
 
 -- a path, and a name, that fits its room
 abbrev pub short : Target → Bool
@@ -69,7 +69,7 @@ shortName t = leb (length t) 256
 pub keeps-target : (n : ℕ) (t : Target) → n < 8 → short t ≡ true → Keeps (addTarget n t)
 unfolding addTarget
 keeps-target n t h k =
-    keeps-both (addText (1 + n) (t .path)) (putUnit (11 + n) (flagUnit (t .opens))) (keeps-added (1 + n) (t .path) (omega arith) (leb-true _ _ k)) (keeps-unit (11 + n) _ (omega arith))
+    keeps-both (addText (1 + n) (t .path)) (putUnit (markUnits + n) (flagUnit (t .opens))) (keeps-added (1 + n) (t .path) (omega arith) (leb-true _ _ k)) (keeps-unit (markUnits + n) _ (omega arith))
 
 pub keeps-dc : (n : ℕ) (t : List ℕ) → n < 8 → shortName t ≡ true → Keeps (addDc n t)
 unfolding addDc
@@ -127,10 +127,10 @@ module _ (raw : List ℕ) (i : ℕ) (fits : i < placeCount raw) where
   changed-same f g e = ap (pasted raw (i * 2336)) e
 
   pub text-added : (n units : ℕ) (t : List ℕ) {l m o : List ℕ} → units ≡ length t → l ≡ pasted raw (i * 2336 + n) (units ∷ [])
-      → m ≡ pasted l (i * 2336 + 32 + n * 256) (roomed 256 t) → o ≡ changed i (putUnit 9 n) m → n < 9 → length t ≤ 256 → o ≡ changed i (addText n t) raw
+      → m ≡ pasted l (i * 2336 + 32 + n * 256) (roomed 256 t) → o ≡ changed i (putUnit countUnit n) m → n < 9 → length t ≤ 256 → o ≡ changed i (addText n t) raw
   unfolding addText
   text-added n units t u a b c h k =
-      then-changed (putText n t) (putUnit 9 n) (keeps-text n t h k) (keeps-unit 9 n (omega arith))
+      then-changed (putText n t) (putUnit countUnit n) (keeps-text n t h k) (keeps-unit countUnit n (omega arith))
       (text-put raw i fits n t (a ∙ ap (λ (x : ℕ). pasted raw (i * 2336 + n) (x ∷ [])) u) b k h) c
 
   pub settings-written : (root interlink failback : Bool) (a b c x y : ℕ) {o : List ℕ} → a ≡ flagUnit root → b ≡ flagUnit interlink → c ≡ flagUnit failback
@@ -139,12 +139,12 @@ module _ (raw : List ℕ) (i : ℕ) (fits : i < placeCount raw) where
   settings-written root interlink failback a b c x y u v w h = h ∙ (λ j. changed i (putSettings (u j ∷ v j ∷ w j ∷ (wideUnits x ++ wideUnits y))) raw)
 
   pub target-added : (n v : ℕ) (r : List ℕ) (k : Kept) {m o : List ℕ} → keptFits r k ≡ true → n < 8 → v ≡ flagUnit (k .opens)
-      → m ≡ changed i (addText (1 + n) (spanned r (k .path))) raw → o ≡ changed i (putUnit (11 + n) v) m → o ≡ changed i (addTarget n (heldTarget r k)) raw
+      → m ≡ changed i (addText (1 + n) (spanned r (k .path))) raw → o ≡ changed i (putUnit (markUnits + n) v) m → o ≡ changed i (addTarget n (heldTarget r k)) raw
   unfolding addTarget heldTarget
   target-added n v r k {m} f h e a c =
-      then-changed (addText (1 + n) (spanned r (k .path))) (putUnit (11 + n) (flagUnit (k .opens)))
+      then-changed (addText (1 + n) (spanned r (k .path))) (putUnit (markUnits + n) (flagUnit (k .opens)))
       (keeps-added (1 + n) (spanned r (k .path)) (omega arith) (rw (length-spanned r (k .path)) (kept-short r k f)))
-      (keeps-unit (11 + n) (flagUnit (k .opens)) (omega arith)) a (c ∙ ap (λ (x : ℕ). changed i (putUnit (11 + n) x) m) e)
+      (keeps-unit (markUnits + n) (flagUnit (k .opens)) (omega arith)) a (c ∙ ap (λ (x : ℕ). changed i (putUnit (markUnits + n) x) m) e)
 
   pub entry-begun : (t : List ℕ) {m o : List ℕ} → m ≡ changed i (λ q. blank) raw → o ≡ changed i (addText 0 t) m → length t ≤ 256 → o ≡ changed i (begun t) raw
   unfolding begun

@@ -6,18 +6,18 @@ use mathlib.Core.List.{List, [], _∷_, _++_}
 use lib.ListN.{length}
 use lib.Dec.{leb}
 use Rattle.cache.specs.places.Code.{putUnit, putText}
-use Rattle.cache.specs.places.Layout.{flagUnit, wideUnits, blank}
+use Rattle.cache.specs.places.Layout.{flagUnit, wideUnits, blank, countUnit, markUnits}
 use Rattle.cache.specs.order.Entries.{Target}
 use Rattle.reply_bytes.specs.texts.Code.{spanned}
 use Rattle.reply_read.specs.declared.referral.Kept.{Kept}
 
 -- text n, as the last of its place
 unfoldable pub addText : ℕ → List ℕ → List ℕ → List ℕ
-addText n t piece = putUnit 9 n (putText n t piece)
+addText n t piece = putUnit countUnit n (putText n t piece)
 
 -- target n, with its boundary
 unfoldable pub addTarget : ℕ → Target → List ℕ → List ℕ
-addTarget n t piece = putUnit (11 + n) (flagUnit (t .opens)) (addText (1 + n) (t .path) piece)
+addTarget n t piece = putUnit (markUnits + n) (flagUnit (t .opens)) (addText (1 + n) (t .path) piece)
 
 -- DC n
 unfoldable pub addDc : ℕ → List ℕ → List ℕ → List ℕ

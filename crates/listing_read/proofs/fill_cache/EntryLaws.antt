@@ -15,7 +15,7 @@ use Rattle.laws.specs.Lists.{every}
 use Rattle.laws.proofs.Choices.{and-both, and-left, and-right}
 use Rattle.laws.proofs.Every.{every-at}
 use Rattle.laws.proofs.Orders.{lt-or-le}
-use Rattle.cache.specs.places.Layout.{placeCount, flagUnit, written, blank}
+use Rattle.cache.specs.places.Layout.{placeCount, flagUnit, written, blank, hintUnit, rootUnit}
 use Rattle.cache.specs.places.Code.{changed, putUnit, putSettings}
 use Rattle.cache.proofs.places.LayoutLaws.{changed-step}
 use Rattle.cache.proofs.places.WrittenLaws.{Shaped, length-written}
@@ -91,7 +91,7 @@ module _ (ls : List (List ℕ)) (rest : List ℕ) where
 
 keeps-settings : (ss : List ℕ) → length ss ≡ 7 → Keeps (putSettings ss)
 unfolding putSettings
-keeps-settings ss h = keeps-pasted 19 ss (omega arith)
+keeps-settings ss h = keeps-pasted rootUnit ss (omega arith)
 
 settings-of : (e : Referral) {a b c : Bool} {x y : ℕ} → a ≡ e .root → b ≡ e .interlink → c ≡ e .failback → x ≡ e .ttl → y ≡ e .taken
     → settings a b c x y ≡ referralSettings e
@@ -197,14 +197,14 @@ module _ (text : List ℕ) (i n : ℕ) (at : LinesAt text i n (drop 1 (entryLine
         }
 
         pub settings-read : (raw : List ℕ) → i < placeCount raw → {x y z : Bool} {m o : List ℕ} → x ≡ eqb (getD text (n + 5) 0) 114 → y ≡ eqb (getD text (n + 20) 0) 49
-            → z ≡ eqb (getD text (n + 31) 0) 49 → m ≡ changed i (putSettings (settings x y z (t .value) (k .value))) raw → o ≡ changed i (putUnit 10 (h .value)) m
+            → z ≡ eqb (getD text (n + 31) 0) 49 → m ≡ changed i (putSettings (settings x y z (t .value) (k .value))) raw → o ≡ changed i (putUnit hintUnit (h .value)) m
             → SettingsRead text i raw o (h .next)
         unfolding settled
         settings-read raw fits {x} {y} {z} {m} {o} p q r u v =
             let s = settings-of e (p ∙ root-there) (q ∙ interlink-there) (r ∙ failback-there) ttl-said taken-said in
             record {
-              memory = then-changed raw i fits (putSettings (referralSettings e)) (putUnit 10 (e .hint)) (keeps-settings (referralSettings e) (long-settings e)) (keeps-unit 10 (e .hint) (omega arith))
-                  (u ∙ ap (λ (w : List ℕ). changed i (putSettings w) raw) s) (v ∙ ap (λ (w : ℕ). changed i (putUnit 10 w) m) hint-said);
+              memory = then-changed raw i fits (putSettings (referralSettings e)) (putUnit hintUnit (e .hint)) (keeps-settings (referralSettings e) (long-settings e)) (keeps-unit hintUnit (e .hint) (omega arith))
+                  (u ∙ ap (λ (w : List ℕ). changed i (putSettings w) raw) s) (v ∙ ap (λ (w : ℕ). changed i (putUnit hintUnit w) m) hint-said);
               next = after-hint;
             }
 
@@ -340,7 +340,7 @@ module _ (e : Referral) (good : goodReferral e ≡ true) where
   settled-written : settled e (written (e .prefix ∷ []) 0 [] []) ≡ written (e .prefix ∷ []) (e .hint) [] (referralSettings e)
   unfolding settled
   settled-written =
-      ap (putUnit 10 (e .hint)) (put-settings (e .prefix ∷ []) 0 [] [] (referralSettings e) keyShape setShape (omega arith))
+      ap (putUnit hintUnit (e .hint)) (put-settings (e .prefix ∷ []) 0 [] [] (referralSettings e) keyShape setShape (omega arith))
       ∙ put-hint (e .prefix ∷ []) 0 [] (referralSettings e) setShape (e .hint)
 
   all-written : addAll addTarget 0 (e .targets) (written (e .prefix ∷ []) (e .hint) [] (referralSettings e)) ≡ referralUnits e

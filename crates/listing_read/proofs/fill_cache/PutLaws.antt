@@ -8,7 +8,7 @@ use Rattle.laws.specs.Choice.{choose}
 use Rattle.laws.specs.Lists.{pasted, roomed}
 use Rattle.laws.proofs.Orders.{Lies, low, within, high, lies}
 use Rattle.laws.proofs.Pasting.{length-pasted, getD-pasted-low, getD-pasted-in, getD-pasted-high, by-parts, pasted-room, length-roomed}
-use Rattle.cache.specs.places.Layout.{placeCount, flagUnit}
+use Rattle.cache.specs.places.Layout.{placeCount, flagUnit, countUnit, markUnits}
 use Rattle.cache.specs.places.Code.{changed, putUnit}
 use Rattle.listing_spelling.specs.spell.Spelling.{Put}
 use Rattle.cache_store.specs.write_entry.Code.{addText, addTarget}
@@ -47,7 +47,7 @@ pasted-swap d a p b q h k =
 -- a text, the zeros after it, its length, and that it is the last
 pub value-put : (raw : List ℕ) (i : ℕ) → i < placeCount raw → (j : ℕ) (t : List ℕ) → j < 9 → length t ≤ 256 → {a b c o : List ℕ} {stop : ℕ}
     → Put raw (i * 2336 + 32 + j * 256) t a stop → b ≡ pasted a stop (replicate (i * 2336 + 32 + j * 256 + 256 - stop) 0)
-    → c ≡ pasted b (i * 2336 + j) ((stop - (i * 2336 + 32 + j * 256)) ∷ []) → o ≡ changed i (putUnit 9 j) c → o ≡ changed i (addText j t) raw
+    → c ≡ pasted b (i * 2336 + j) ((stop - (i * 2336 + 32 + j * 256)) ∷ []) → o ≡ changed i (putUnit countUnit j) c → o ≡ changed i (addText j t) raw
 value-put raw i fits j t h k {a} {b} {c} {o} {stop} w e f g =
     let s : ℕ = i * 2336 + 32 + j * 256 in
     let m : stop ≡ s + length t = w .end in
@@ -60,11 +60,11 @@ value-put raw i fits j t h k {a} {b} {c} {o} {stop} w e f g =
 
 -- a target, and that it opens no set
 pub target-put : (raw : List ℕ) (i : ℕ) → i < placeCount raw → (m n : ℕ) (text : List ℕ) → m < 8 → PathAt (drop n text) → {a o : List ℕ} {r : ℕ}
-    → PathRead n text i (1 + m) raw a r → o ≡ changed i (putUnit (11 + m) 0) a → TargetRead n text i m raw o r
+    → PathRead n text i (1 + m) raw a r → o ≡ changed i (putUnit (markUnits + m) 0) a → TargetRead n text i m raw o r
 unfolding addTarget flagUnit choose
 target-put raw i fits m n text h p w e =
     let t : List ℕ = unspelled (valueAt 7 (drop n text)) in
     record {
-      memory = then-changed raw i fits (addText (1 + m) t) (putUnit (11 + m) 0) (keeps-added (1 + m) t (omega arith) (p .short)) (keeps-unit (11 + m) 0 (omega arith)) (w .memory) e;
+      memory = then-changed raw i fits (addText (1 + m) t) (putUnit (markUnits + m) 0) (keeps-added (1 + m) t (omega arith) (p .short)) (keeps-unit (markUnits + m) 0 (omega arith)) (w .memory) e;
       next = w .next;
     }

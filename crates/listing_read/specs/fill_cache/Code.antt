@@ -5,6 +5,7 @@ use mathlib.Core.Path.{_≡_}
 use mathlib.Core.Bool.{true, false}
 use mathlib.Core.List.{List, [], _++_, map}
 use lib.ListN.{length, getD, take, drop}
+use Rattle.cache.specs.places.Layout.{hintUnit}
 use Rattle.cache.specs.places.Code.{changed, putUnit, putSettings}
 use Rattle.cache.specs.order.Entries.{Referral, used}
 use Rattle.cache.specs.order.Memory.{referralSettings, referralUnits}
@@ -70,7 +71,7 @@ pub record TargetsRead (text : List ℕ) (i : ℕ) (raw o : List ℕ) (r : ℕ) 
 
 -- the settings of an entry, and its hint
 unfoldable pub settled : Referral → List ℕ → List ℕ
-settled e piece = putUnit 10 (e .hint) (putSettings (referralSettings e) piece)
+settled e piece = putUnit hintUnit (e .hint) (putSettings (referralSettings e) piece)
 
 pub record SettingsRead (text : List ℕ) (i : ℕ) (raw o : List ℕ) (r : ℕ) : Type 0 where
   pub memory : o ≡ changed i (settled (saidAt text i)) raw

@@ -3,16 +3,17 @@ use Prim.Native.Nat.{_-_, _≤_}
 use mathlib.Core.Path.{_≡_, sym, _∙_}
 use native.Mathlib.Omega.{arith}
 use borrow.Author.Needs.{needs}
+use Rattle.cache.specs.places.Layout.{markUnits, ttlUnit}
 use Rattle.cache.specs.order.Code.{goodFlags}
 use Rattle.cache.proofs.order.TestLaws.{flagsFrom, flags-start, flags-more, flags-stop, flags-end}
 use Rattle.cache.proofs.order.flags_good.Statement.{statement}
 use Rattle.cache.proofs.order.flags_good.Tie as tie
 
 abbrev Inv-loop : tie.InvT-loop
-Inv-loop piece j₀ j = (j ≤ 11) × (goodFlags piece ≡ flagsFrom piece j)
+Inv-loop piece j₀ j = (j ≤ ttlUnit - markUnits) × (goodFlags piece ≡ flagsFrom piece j)
 
 abbrev μ-loop : tie.MeasureT-loop
-μ-loop piece j₀ j = 11 - j
+μ-loop piece j₀ j = ttlUnit - markUnits - j
 
 loop-holds : tie.Need-loop-holds Inv-loop μ-loop
 loop-holds c = (search needs, flags-start _)

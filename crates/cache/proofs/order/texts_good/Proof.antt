@@ -4,6 +4,7 @@ use borrow.Author.Tests.{not-true, not-false}
 use mathlib.Core.Path.{_≡_, sym, _∙_}
 use native.Mathlib.Omega.{arith}
 use borrow.Author.Needs.{needs}
+use Rattle.cache.specs.places.Layout.{countUnit}
 use Rattle.cache.specs.order.Code.{goodTexts}
 use Rattle.cache.proofs.order.TestLaws.{textsFrom, texts-start, texts-more, texts-stop, texts-end}
 use Rattle.cache.proofs.order.texts_good.Statement.{statement}
@@ -19,7 +20,7 @@ shared-slice-read-count : tie.Need-shared-slice-read-count Inv-loop μ-loop
 shared-slice-read-count c = search needs
 
 cast-count : tie.Need-cast-count Inv-loop μ-loop
-cast-count c = omega (arith, c .shared-slice-known2 .given 9)
+cast-count c = omega (arith, c .shared-slice-known2 .given countUnit)
 
 loop-holds : tie.Need-loop-holds Inv-loop μ-loop
 loop-holds c = (search needs, texts-start _ _)

@@ -3,12 +3,13 @@ use borrow.Author.Tests.{not-true, not-false}
 use mathlib.Core.Path.{sym}
 use native.Mathlib.Omega.{arith}
 use borrow.Author.Needs.{needs}
+use Rattle.cache.specs.places.Layout.{countUnit}
 use Rattle.cache.proofs.places.TidyLaws.{not-few, not-lengths, not-marks, not-rest, tidy-rooms}
 use Rattle.cache.proofs.places.is_tidy.Statement.{statement}
 use Rattle.cache.proofs.places.is_tidy.Tie as tie
 
 cast-count : tie.Need-cast-count
-cast-count c = omega (arith, c .shared-slice-known2 .given 9)
+cast-count c = omega (arith, c .shared-slice-known2 .given countUnit)
 
 returns : tie.Need-returns
 returns c = sym (not-few _ (omega arith) (omega arith))

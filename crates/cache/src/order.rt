@@ -4,7 +4,7 @@ ghost use mathlib.Core.Bool.{_&&_};
 ghost use Prim.Native.Nat.{_/_, _≤_, _<_};
 ghost use lib.ListN.{length};
 ghost use Rattle.laws.specs.Listed.{sameList};
-ghost use Rattle.cache.specs.places.Layout.{placeCount, unitAt, countUnit};
+ghost use Rattle.cache.specs.places.Layout.{placeCount, unitAt, countUnit, placeUnits};
 ghost use Rattle.cache.specs.order.Order.{goodReferral, goodDomain};
 ghost use Rattle.cache.specs.order.Memory.{referrals, domains, referralOf, referralUnits, domainOf, domainUnits, rightSize, inOrder};
 ghost use Rattle.cache.specs.order.Code.{goodText, goodTexts, goodFlags, orderedAs, allOrdered, inOrderAs, keyApart, keysApart};
@@ -15,7 +15,7 @@ use crate::places::MARKS;
 use crate::places::PLACE;
 use crate::places::TTL;
 
-const PLACES: usize = 32;
+pub const PLACES: usize = 32;
 
 // The marks, root, Interlink and TargetFailback stand side by side.
 const FLAGS: usize = TTL - MARKS;
@@ -31,7 +31,7 @@ fn text_good(text: &[u16], domain: bool) -> bool
 
 // Whether the key and the texts of the list of a place are good.
 fn texts_good(piece: &[u16], domain: bool) -> bool
-    requires { ⌜ (length (now piece) ≡ 2336) × (unitAt countUnit (now piece) ≤ 8) ⌝ }
+    requires { ⌜ (length (now piece) ≡ placeUnits) × (unitAt countUnit (now piece) ≤ 8) ⌝ }
     ensures { λ r. ⌜ r ≡ goodTexts domain (now (piece .entry)) ⌝ }
 {
     let count = piece[COUNT] as usize;
@@ -47,7 +47,7 @@ fn texts_good(piece: &[u16], domain: bool) -> bool
 
 // Whether the set boundaries and the flags of a referral entry are 0 or 1.
 fn flags_good(piece: &[u16]) -> bool
-    requires { ⌜ length (now piece) ≡ 2336 ⌝ }
+    requires { ⌜ length (now piece) ≡ placeUnits ⌝ }
     ensures { λ r. ⌜ r ≡ goodFlags (now (piece .entry)) ⌝ }
 {
     let mut j = 0;
@@ -62,7 +62,7 @@ fn flags_good(piece: &[u16]) -> bool
 
 // The order of a used place of the referral cache.
 fn referral_ordered(piece: &[u16]) -> bool
-    requires { ⌜ length (now piece) ≡ 2336 ⌝ }
+    requires { ⌜ length (now piece) ≡ placeUnits ⌝ }
     ensures { λ r. ⌜ r ≡ (goodReferral (referralOf (now (piece .entry))) && sameList (referralUnits (referralOf (now (piece .entry)))) (now (piece .entry))) ⌝ }
 {
     if !crate::places::is_tidy(piece) {
@@ -82,7 +82,7 @@ fn referral_ordered(piece: &[u16]) -> bool
 
 // The order of a used place of the domain cache.
 fn domain_ordered(piece: &[u16]) -> bool
-    requires { ⌜ length (now piece) ≡ 2336 ⌝ }
+    requires { ⌜ length (now piece) ≡ placeUnits ⌝ }
     ensures { λ r. ⌜ r ≡ (goodDomain (domainOf (now (piece .entry))) && sameList (domainUnits (domainOf (now (piece .entry)))) (now (piece .entry))) ⌝ }
 {
     if !crate::places::is_tidy(piece) {
@@ -100,7 +100,7 @@ fn domain_ordered(piece: &[u16]) -> bool
 }
 
 fn place_ordered(piece: &[u16], domain: bool) -> bool
-    requires { ⌜ length (now piece) ≡ 2336 ⌝ }
+    requires { ⌜ length (now piece) ≡ placeUnits ⌝ }
     ensures { λ r. ⌜ r ≡ orderedAs domain (now (piece .entry)) ⌝ }
 {
     if piece[0] == 0 {

@@ -4,13 +4,8 @@ ghost use mathlib.Core.List.{_∷_, _++_};
 ghost use Prim.Native.Nat.{_+_, _-_, _/_, _≤_, _<_};
 ghost use lib.ListN.{length};
 ghost use Rattle.laws.specs.Lists.{part};
-ghost use Rattle.cache.specs.places.Layout.{placeCount, placeAt, unitAt, wideAt, roomAt, textAt, listCount, blank, wideUnits};
+ghost use Rattle.cache.specs.places.Layout.{placeCount, placeAt, unitAt, wideAt, roomAt, textAt, listCount, blank, wideUnits, roomUnits, placeUnits};
 ghost use Rattle.cache.specs.places.Code.{changed, zeros, tidyRooms, tidy, putUnit, putWide, putSettings, keyOnly};
-
-pub const PLACE: usize = 2336;
-
-// The units of the room of a text.
-pub const ROOM: usize = 256;
 
 // The texts of a place. Their lengths are the first units of its head.
 const TEXTS: usize = 9;
@@ -36,11 +31,16 @@ pub const TAKEN: usize = 24;
 // The units from here on are not in use, and zero.
 pub const FREE: usize = 26;
 
-const HEAD: usize = 32;
+pub const HEAD: usize = 32;
+
+// The units of the room of a text: as many as a path may have.
+pub const ROOM: usize = unc::path_form::PATH_UNITS;
+
+pub const PLACE: usize = HEAD + TEXTS * ROOM;
 
 // Unit j of place i.
 pub fn unit(cache: &[u16], i: usize, j: usize) -> u16
-    requires { ⌜ (i < placeCount (now cache)) × (j < 2336) ⌝ }
+    requires { ⌜ (i < placeCount (now cache)) × (j < placeUnits) ⌝ }
     ensures { λ r. ⌜ r ≡ unitAt j (placeAt i (now (cache .entry))) ⌝ }
 {
     cache[i * PLACE + j]
@@ -48,7 +48,7 @@ pub fn unit(cache: &[u16], i: usize, j: usize) -> u16
 
 // The number of 32 bits at units j and j + 1 of place i.
 pub fn wide(cache: &[u16], i: usize, j: usize) -> u32
-    requires { ⌜ (i < placeCount (now cache)) × (j + 1 < 2336) ⌝ }
+    requires { ⌜ (i < placeCount (now cache)) × (j + 1 < placeUnits) ⌝ }
     ensures { λ r. ⌜ r ≡ wideAt j (placeAt i (now (cache .entry))) ⌝ }
 {
     let at = i * PLACE + j;
@@ -74,7 +74,7 @@ pub fn text(cache: &[u16], i: usize, j: usize) -> &[u16]
 // The room of text j of place i.
 pub fn room(cache: &[u16], i: usize, j: usize) -> &[u16]
     requires { ⌜ (i < placeCount (now cache)) × (j < 9) ⌝ }
-    ensures { λ r. ⌜ (now r ≡ roomAt j (placeAt i (now (cache .entry)))) × (length (now r) ≡ 256) ⌝ }
+    ensures { λ r. ⌜ (now r ≡ roomAt j (placeAt i (now (cache .entry)))) × (length (now r) ≡ roomUnits) ⌝ }
 {
     let start = i * PLACE + HEAD + j * ROOM;
     let end = start + ROOM;
@@ -94,7 +94,7 @@ pub fn list_count(cache: &[u16], i: usize) -> usize
 }
 
 pub fn put_unit(cache: &mut [u16], i: usize, j: usize, v: u16)
-    requires { ⌜ (i < placeCount (now cache)) × (j < 2336) ⌝ }
+    requires { ⌜ (i < placeCount (now cache)) × (j < placeUnits) ⌝ }
     ensures { λ r. ⌜ now (cache .exit) ≡ changed i (putUnit j v) (now (cache .entry)) ⌝ }
 {
     memory::put_unit(cache, i * PLACE + j, v);
@@ -102,7 +102,7 @@ pub fn put_unit(cache: &mut [u16], i: usize, j: usize, v: u16)
 
 // A number of 32 bits into units j and j + 1 of place i.
 pub fn put_wide(cache: &mut [u16], i: usize, j: usize, v: u32)
-    requires { ⌜ (i < placeCount (now cache)) × (j + 1 < 2336) ⌝ }
+    requires { ⌜ (i < placeCount (now cache)) × (j + 1 < placeUnits) ⌝ }
     ensures { λ r. ⌜ now (cache .exit) ≡ changed i (putWide j v) (now (cache .entry)) ⌝ }
 {
     let at = i * PLACE + j;
@@ -141,7 +141,7 @@ pub fn clear_place(cache: &mut [u16], i: usize)
 
 // Keeps place i, to be put back by `put_place`.
 pub fn save_place(cache: &[u16], i: usize, saved: &mut [u16])
-    requires { ⌜ (i < placeCount (now cache)) × (length (now saved) ≡ 2336) ⌝ }
+    requires { ⌜ (i < placeCount (now cache)) × (length (now saved) ≡ placeUnits) ⌝ }
     ensures { λ r. ⌜ now (saved .exit) ≡ placeAt i (now (cache .entry)) ⌝ }
 {
     let at = i * PLACE;
@@ -150,7 +150,7 @@ pub fn save_place(cache: &[u16], i: usize, saved: &mut [u16])
 }
 
 pub fn put_place(cache: &mut [u16], i: usize, saved: &[u16])
-    requires { ⌜ (i < placeCount (now cache)) × (length (now saved) ≡ 2336) ⌝ }
+    requires { ⌜ (i < placeCount (now cache)) × (length (now saved) ≡ placeUnits) ⌝ }
     ensures { λ r. ⌜ now (cache .exit) ≡ changed i (λ q. now (saved .entry)) (now (cache .entry)) ⌝ }
 {
     memory::copy_units(cache, i * PLACE, saved);
@@ -172,7 +172,7 @@ pub fn all_zero(s: &[u16], from: usize, to: usize) -> bool
 
 // Whether nothing stands in the nine rooms of a place past their texts.
 fn rooms_tidy(piece: &[u16]) -> bool
-    requires { ⌜ length (now piece) ≡ 2336 ⌝ }
+    requires { ⌜ length (now piece) ≡ placeUnits ⌝ }
     ensures { λ r. ⌜ r ≡ tidyRooms (now (piece .entry)) ⌝ }
 {
     let mut j = 0;
@@ -192,7 +192,7 @@ fn rooms_tidy(piece: &[u16]) -> bool
 
 // Whether the unused room of a used place is zero.
 pub fn is_tidy(piece: &[u16]) -> bool
-    requires { ⌜ length (now piece) ≡ 2336 ⌝ }
+    requires { ⌜ length (now piece) ≡ placeUnits ⌝ }
     ensures { λ r. ⌜ r ≡ tidy (now (piece .entry)) ⌝ }
 {
     let count = piece[COUNT] as usize;

@@ -3,7 +3,7 @@ ghost use mathlib.Core.Path.{_≡_};
 ghost use mathlib.Core.Bool.{true, false};
 ghost use Prim.Native.Nat.{_+_, _/_, _≤_, _<_};
 ghost use lib.ListN.{length};
-ghost use Rattle.cache.specs.places.Layout.{placeCount, placeAt};
+ghost use Rattle.cache.specs.places.Layout.{placeCount, placeAt, roomUnits};
 ghost use Rattle.cache.specs.order.Memory.{referrals, domains, placeOf, decode, encode, inOrder};
 ghost use Rattle.cache_lookup.specs.Lookup.{longerMatch, longestMatch, withKey, age, expired, firstFreeFrom, placeAge, oldest, newPlace, targetPath, dcName, targetHinted, dcHinted};
 ghost use Rattle.cache_lookup.specs.Code.{entryAt, targetOpens, keyIs, keyPlace, LowBits, Passed, bestFound};
@@ -39,7 +39,7 @@ fn four_units(s: &[u16], k: usize) -> u64
 // Whether the prefix of place i may match by its last four units. Paths of one namespace begin alike, so that their ends tell most of them apart. A prefix that
 // is longer than the path is compared where the path ends: it does not match anyway, and a test for it would often be guessed wrong.
 fn may_match(cache: &[u16], i: usize, path: &[u16]) -> bool
-    requires { ⌜ (i < placeCount (now cache)) × ((4 ≤ length (now path)) × (length (now path) ≤ 256)) ⌝ }
+    requires { ⌜ (i < placeCount (now cache)) × ((4 ≤ length (now path)) × (length (now path) ≤ roomUnits)) ⌝ }
     ensures { λ r. ⌜ (r ≡ false → longerMatch (now (path .entry)) 0 (placeOf referrals (placeAt i (now (cache .entry)))) ≡ false) ⌝ }
 {
     let units = cache::places::unit(cache, i, 0) as usize;
@@ -53,7 +53,7 @@ fn may_match(cache: &[u16], i: usize, path: &[u16]) -> bool
 
 // Of the places of a turn, from i on, how many come before the first whose prefix may match.
 fn passed(cache: &[u16], i: usize, path: &[u16]) -> usize
-    requires { ⌜ (i + 4 ≤ placeCount (now cache)) × ((4 ≤ length (now path)) × (length (now path) ≤ 256)) ⌝ }
+    requires { ⌜ (i + 4 ≤ placeCount (now cache)) × ((4 ≤ length (now path)) × (length (now path) ≤ roomUnits)) ⌝ }
     ensures { λ r. ⌜ (r ≤ 4) × Passed (now (cache .entry)) (now (path .entry)) i (i + r) ⌝ }
 {
     let mut k = 0;

@@ -24,14 +24,11 @@ use reply_read::name_lists::DcsFound;
 use reply_read::referral::Answer;
 use reply_read::referral::Asked;
 use reply_read::referral::TextRead;
-
-// The least and the most bytes of a reply that may be asked for.
-const LEAST_SIZE: u32 = 1024;
-
-const MOST_SIZE: u32 = 57344;
+use reply_read::request::LEAST_SIZE;
+use reply_read::request::MOST_SIZE;
 
 // One name more than a cache has places.
-const NAMES: usize = 33;
+const NAMES: usize = cache::order::PLACES + 1;
 
 // What reading a domain reply answers.
 pub enum DomainsRead {

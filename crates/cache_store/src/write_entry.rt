@@ -6,16 +6,14 @@ ghost use Prim.Native.Nat.{_≤_, _<_};
 ghost use lib.ListN.{take};
 ghost use Rattle.laws.specs.Lists.{every};
 ghost use Rattle.reply_bytes.specs.texts.Code.{spanned, Inside};
-ghost use Rattle.cache.specs.places.Layout.{placeCount, flagUnit};
+ghost use Rattle.cache.specs.places.Layout.{placeCount, flagUnit, roomUnits};
 ghost use Rattle.cache.specs.places.Code.{changed, putSettings};
 ghost use Rattle.cache_store.specs.write_entry.Code.{addText, addTarget, addAll, begun, settings, heldTarget, keptFits};
+use cache::places::HEAD;
 use cache::places::PLACE;
+use cache::places::ROOM;
 use reply_bytes::texts::Span;
 use reply_read::referral::Kept;
-
-const HEAD: usize = 32;
-
-const ROOM: usize = 256;
 
 fn flag_unit(b: bool) -> u16
     ensures { λ r. ⌜ r ≡ flagUnit b ⌝ }
@@ -25,7 +23,7 @@ fn flag_unit(b: bool) -> u16
 
 // Text n of place i from the reply, as the last text of the place.
 pub fn add_text(cache: &mut [u16], i: usize, n: usize, reply: &[u8], s: Span)
-    requires { ⌜ (i < placeCount (now cache)) × ((n < 9) × (Inside (now reply) s × (s .units ≤ 256))) ⌝ }
+    requires { ⌜ (i < placeCount (now cache)) × ((n < 9) × (Inside (now reply) s × (s .units ≤ roomUnits))) ⌝ }
     ensures { λ r. ⌜ now (cache .exit) ≡ changed i (addText n (spanned (now (reply .entry)) s)) (now (cache .entry)) ⌝ }
 {
     let at = i * PLACE;
@@ -60,7 +58,7 @@ pub fn add_targets(cache: &mut [u16], i: usize, reply: &[u8], kept: [Kept; 8], c
 
 // Place i with a prefix from the reply and nothing else.
 pub fn begin_entry(cache: &mut [u16], i: usize, reply: &[u8], s: Span)
-    requires { ⌜ (i < placeCount (now cache)) × (Inside (now reply) s × (s .units ≤ 256)) ⌝ }
+    requires { ⌜ (i < placeCount (now cache)) × (Inside (now reply) s × (s .units ≤ roomUnits)) ⌝ }
     ensures { λ r. ⌜ now (cache .exit) ≡ changed i (begun (spanned (now (reply .entry)) s)) (now (cache .entry)) ⌝ }
 {
     cache::places::clear_place(cache, i);

@@ -6,28 +6,18 @@ ghost use Rattle.cache.specs.order.Order.{distinct};
 ghost use Rattle.listing_read.specs.check_listing.Code.{checked};
 ghost use Rattle.listing_read.specs.check_listing.Code.{isNumberLine, isKindLine, laterLine, goodLine, hintStep, stepOf, counted, isEnded, prefixLines, apartFrom};
 use listing_spelling::unspell::Number;
-
-const LINE_END: u16 = 10;
+use listing_write::FAILBACK;
+use listing_write::HINT;
+use listing_write::INTERLINK;
+use listing_write::KIND_LINK;
+use listing_write::KIND_ROOT;
+use listing_write::LINE_END;
+use listing_write::PREFIX;
+use listing_write::TAKEN;
+use listing_write::TARGET;
+use listing_write::TTL;
 
 const OPENING: u16 = 112;
-
-const PREFIX: [u16; 7] = [112, 114, 101, 102, 105, 120, 61];
-
-const INTERLINK: [u16; 10] = [105, 110, 116, 101, 114, 108, 105, 110, 107, 61];
-
-const FAILBACK: [u16; 9] = [102, 97, 105, 108, 98, 97, 99, 107, 61];
-
-const TTL: [u16; 4] = [116, 116, 108, 61];
-
-const TAKEN: [u16; 6] = [116, 97, 107, 101, 110, 61];
-
-const HINT: [u16; 5] = [104, 105, 110, 116, 61];
-
-const TARGET: [u16; 7] = [116, 97, 114, 103, 101, 116, 61];
-
-const KIND_ROOT: [u16; 9] = [107, 105, 110, 100, 61, 114, 111, 111, 116];
-
-const KIND_LINK: [u16; 9] = [107, 105, 110, 100, 61, 108, 105, 110, 107];
 
 const MOST: u32 = 4294967295;
 

@@ -3,7 +3,7 @@ ghost use mathlib.Core.Path.{_≡_};
 ghost use mathlib.Core.Bool.{true};
 ghost use Prim.Native.Nat.{_+_, _-_, _≤_, _<_};
 ghost use lib.ListN.{length, take, drop};
-ghost use Rattle.cache.specs.places.Layout.{placeCount};
+ghost use Rattle.cache.specs.places.Layout.{placeCount, roomUnits};
 ghost use Rattle.cache.specs.places.Code.{changed};
 ghost use Rattle.cache.specs.order.Memory.{referrals, rightSize, encode};
 ghost use Rattle.listing_write.specs.Form.{targetLines, entryLines};
@@ -12,12 +12,10 @@ ghost use Rattle.cache_store.specs.write_entry.Code.{addText};
 ghost use Rattle.listing_read.specs.listing_rules.Entries.{entriesSaid};
 ghost use Rattle.listing_read.specs.listing_rules.Read.{isListing, placed};
 ghost use Rattle.listing_read.specs.fill_cache.Code.{saidAt, NumberAt, NumberRead, PathAt, PathRead, TargetRead, SettingsRead, TargetsRead, EntryRead, LinesAt};
+use cache::places::HEAD;
 use cache::places::PLACE;
+use cache::places::ROOM;
 use listing_spelling::unspell::Number;
-
-const HEAD: usize = 32;
-
-const ROOM: usize = 256;
 
 // The units of "prefix=" and of "target=".
 const PATH_KEY: usize = 7;
@@ -58,7 +56,7 @@ fn number_at(text: &[u16], at: usize, key: usize) -> Read
 
 // Text j of place i, as the last text of the place, from the spelling between `from` and `end`.
 fn put_value(text: &[u16], from: usize, end: usize, refs: &mut [u16], i: usize, j: usize)
-    requires { ⌜ (i < placeCount (now refs)) × ((j < 9) × ((from ≤ end) × ((end ≤ length (now text)) × ((isSpelled (take (end - from) (drop from (now text))) ≡ true) × (length (unspelled (take (end - from) (drop from (now text)))) ≤ 256))))) ⌝ }
+    requires { ⌜ (i < placeCount (now refs)) × ((j < 9) × ((from ≤ end) × ((end ≤ length (now text)) × ((isSpelled (take (end - from) (drop from (now text))) ≡ true) × (length (unspelled (take (end - from) (drop from (now text)))) ≤ roomUnits))))) ⌝ }
     ensures { λ r. ⌜ now (refs .exit) ≡ changed i (addText j (unspelled (take (end - from) (drop from (now (text .entry)))))) (now (refs .entry)) ⌝ }
 {
     let at = i * PLACE;

@@ -10,10 +10,8 @@ ghost use Rattle.listing_read.specs.line.Lines.{lineLength, lineHasKey, 
 ghost use Rattle.listing_read.specs.line.Code.{isPathLine};
 use listing_spelling::unspell::Number;
 use listing_spelling::unspell::Spelled;
-
-const LINE_END: u16 = 10;
-
-const PATH_UNITS: usize = 256;
+use listing_write::LINE_END;
+use unc::path_form::PATH_UNITS;
 
 // Where the line that stands at `at` ends: the place of its unit 0A hex, or the end of the text.
 pub fn line_end(text: &[u16], at: usize) -> usize

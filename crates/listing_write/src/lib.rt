@@ -3,33 +3,33 @@ ghost use mathlib.Core.Path.{_≡_};
 ghost use mathlib.Core.List.{_++_};
 ghost use Prim.Native.Nat.{_+_, _/_, _≤_, _<_};
 ghost use lib.ListN.{length};
-ghost use Rattle.cache.specs.places.Layout.{placeCount, placeAt, flagAt, flagUnit};
-ghost use Rattle.cache.specs.order.Memory.{referralOf};
+ghost use Rattle.cache.specs.places.Layout.{placeCount, placeAt, flagAt, flagUnit, roomUnits, placeUnits};
+ghost use Rattle.cache.specs.order.Memory.{referralOf, mostPlaces};
 ghost use Rattle.listing_spelling.specs.spell.Spelling.{spelled, decimal, Put};
 ghost use Rattle.listing_write.specs.Form.{kindKey, kindWord, pathLine, numberLine, ended, linesText, targetLines, settingLines, countLines, entryText};
 ghost use Rattle.listing_write.specs.Listed.{textOf, listRefusal, listAnswer, bufferAfter};
 ghost use Rattle.listing_write.specs.Code.{listNumber};
 use cache::places::PLACE;
 
-const LINE_END: u16 = 10;
+pub const LINE_END: u16 = 10;
 
-const PREFIX: [u16; 7] = [112, 114, 101, 102, 105, 120, 61];
+pub const PREFIX: [u16; 7] = [112, 114, 101, 102, 105, 120, 61];
 
-const INTERLINK: [u16; 10] = [105, 110, 116, 101, 114, 108, 105, 110, 107, 61];
+pub const INTERLINK: [u16; 10] = [105, 110, 116, 101, 114, 108, 105, 110, 107, 61];
 
-const FAILBACK: [u16; 9] = [102, 97, 105, 108, 98, 97, 99, 107, 61];
+pub const FAILBACK: [u16; 9] = [102, 97, 105, 108, 98, 97, 99, 107, 61];
 
-const TTL: [u16; 4] = [116, 116, 108, 61];
+pub const TTL: [u16; 4] = [116, 116, 108, 61];
 
-const TAKEN: [u16; 6] = [116, 97, 107, 101, 110, 61];
+pub const TAKEN: [u16; 6] = [116, 97, 107, 101, 110, 61];
 
-const HINT: [u16; 5] = [104, 105, 110, 116, 61];
+pub const HINT: [u16; 5] = [104, 105, 110, 116, 61];
 
-const TARGET: [u16; 7] = [116, 97, 114, 103, 101, 116, 61];
+pub const TARGET: [u16; 7] = [116, 97, 114, 103, 101, 116, 61];
 
-const KIND_ROOT: [u16; 9] = [107, 105, 110, 100, 61, 114, 111, 111, 116];
+pub const KIND_ROOT: [u16; 9] = [107, 105, 110, 100, 61, 114, 111, 111, 116];
 
-const KIND_LINK: [u16; 9] = [107, 105, 110, 100, 61, 108, 105, 110, 107];
+pub const KIND_LINK: [u16; 9] = [107, 105, 110, 100, 61, 108, 105, 110, 107];
 
 // What listing a cache answers.
 pub enum Answer {
@@ -40,7 +40,7 @@ pub enum Answer {
 }
 
 fn path_units(key: usize, s: &[u16]) -> usize
-    requires { ⌜ (key ≤ 16) × (length (now s) ≤ 256) ⌝ }
+    requires { ⌜ (key ≤ 16) × (length (now s) ≤ roomUnits) ⌝ }
     ensures { λ r. ⌜ r ≡ key + length (spelled (now (s .entry))) + 1 ⌝ }
 {
     key + listing_spelling::spell::spelled_units(s) + 1
@@ -82,7 +82,7 @@ fn targets_units(cache: &[u16], i: usize) -> usize
 
 // How many units the listing has.
 fn listing_units(cache: &[u16]) -> usize
-    requires { ⌜ placeCount (now cache) ≤ 32 ⌝ }
+    requires { ⌜ placeCount (now cache) ≤ mostPlaces ⌝ }
     ensures { λ r. ⌜ r ≡ length (textOf (now (cache .entry))) ⌝ }
 {
     let count = cache.len() / PLACE;
@@ -146,7 +146,7 @@ fn put_kind(out: &mut [u16], at: usize, root: bool) -> usize
 
 // Whether flag j of place i is set.
 fn flag(cache: &[u16], i: usize, j: usize) -> bool
-    requires { ⌜ (i < placeCount (now cache)) × (j < 2336) ⌝ }
+    requires { ⌜ (i < placeCount (now cache)) × (j < placeUnits) ⌝ }
     ensures { λ r. ⌜ r ≡ flagAt j (placeAt i (now (cache .entry))) ⌝ }
 {
     cache::places::unit(cache, i, j) == 1

@@ -8,12 +8,9 @@ ghost use Rattle.unc.specs.names.Code.{plainLength, goodCount};
 ghost use Rattle.unc.specs.names.Paths.{leads, withoutTrail, matches};
 ghost use Rattle.reply_bytes.specs.texts.Bytes.{u16At, u32At, textAt};
 ghost use Rattle.reply_bytes.specs.texts.Code.{spanned, Inside, partOf, textEnd};
-
-const BACKSLASH: u16 = 92;
-
-const DOT: u16 = 46;
-
-const NAME_UNITS: usize = 255;
+use unc::names::BACKSLASH;
+use unc::names::DOT;
+use unc::names::NAME_UNITS;
 
 // Units in bytes: where they start, and how many.
 pub struct Span {

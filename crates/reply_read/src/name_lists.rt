@@ -15,8 +15,7 @@ use crate::referral::Answer;
 use crate::referral::TextRead;
 use reply_bytes::texts::Read;
 use reply_bytes::texts::Span;
-
-const BACKSLASH: u16 = 92;
+use unc::names::BACKSLASH;
 
 // A DC reply: the first `count` places of `kept` are the DC names, as spans of the reply.
 pub struct DcsFound {

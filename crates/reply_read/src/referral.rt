@@ -14,9 +14,7 @@ ghost use Rattle.reply_read.specs.referral.Replies.{goodFields, goodEntr
 ghost use Rattle.reply_read.specs.referral.Code.{textShown, textInside, FirstEntry, GoodReply, ReferralInside, noReferral, opensAt, keptFrom, keptInside, targetShown, denoted, asked};
 use reply_bytes::texts::Read;
 use reply_bytes::texts::Span;
-
-// The most units of a normalised path.
-const PATH_UNITS: usize = 256;
+use unc::path_form::PATH_UNITS;
 
 // What a reply is read as.
 pub enum Answer {

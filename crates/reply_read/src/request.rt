@@ -9,6 +9,11 @@ ghost use Rattle.reply_read.specs.referral.Code.{asked};
 ghost use Rattle.reply_read.specs.referral.Request.{bufferWith};
 use crate::referral::Asked;
 
+// The least and the most bytes of a reply that may be asked for.
+pub const LEAST_SIZE: u32 = 1024;
+
+pub const MOST_SIZE: u32 = 57344;
+
 // The number of bytes of a request for a name.
 pub fn request_length(name: &[u16]) -> usize
     ensures { λ v. ⌜ v ≡ length (request (now (name .entry))) ⌝ }

@@ -1,6 +1,6 @@
 // The order test and the look-up for programs in other languages: the benchmark in host/bench links this.
 ghost use mathlib.Core.Path.{_≡_};
-ghost use Rattle.cache.specs.order.Memory.{referrals, decode, inOrder};
+ghost use Rattle.cache.specs.order.Memory.{referrals, decode, inOrder, mostPlaces};
 ghost use Rattle.cache_lookup.specs.Lookup.{longestMatch, foundOr};
 use cache_lookup::Found;
 
@@ -15,10 +15,10 @@ pub extern "C" fn probe_in_order(cache: &[u16]) -> bool
 // The place of the longest match, or 32 where there is none.
 #[no_mangle]
 pub extern "C" fn probe_find(cache: &[u16], path: &[u16]) -> usize
-    ensures { λ r. ⌜ r ≡ foundOr 32 (longestMatch (now (path .entry)) (decode referrals (now (cache .entry)))) ⌝ }
+    ensures { λ r. ⌜ r ≡ foundOr mostPlaces (longestMatch (now (path .entry)) (decode referrals (now (cache .entry)))) ⌝ }
 {
     let Found::At(i) = cache_lookup::find(cache, path) else {
-        return 32;
+        return cache::order::PLACES;
     };
     i
 }

@@ -6,11 +6,11 @@ ghost use lib.ListN.{length, drop};
 ghost use Rattle.unc.specs.names.Names.{folded, sameUnit, sameName, plain, nothingOrDots, goodComponent, goodName};
 ghost use Rattle.unc.specs.names.Code.{SameWithin, plainLength};
 
-const BACKSLASH: u16 = 92;
+pub const BACKSLASH: u16 = 92;
 
 const SLASH: u16 = 47;
 
-const DOT: u16 = 46;
+pub const DOT: u16 = 46;
 
 // Units of a name that are compared at once, folded and as they stand.
 const BLOCK: usize = 8;
@@ -18,7 +18,7 @@ const BLOCK: usize = 8;
 const LONG_BLOCK: usize = 16;
 
 // The most units of a name.
-const NAME_UNITS: usize = 255;
+pub const NAME_UNITS: usize = 255;
 
 // The form of a text as a path.
 pub enum Form {

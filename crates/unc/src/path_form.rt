@@ -5,12 +5,11 @@ ghost use lib.ListN.{length, drop};
 ghost use Rattle.laws.specs.Lists.{roomed};
 ghost use Rattle.unc.specs.names.Code.{goodCount, formWithin, roomAfter};
 ghost use Rattle.unc.specs.names.Paths.{leads, withoutTrail, normalised, normalisedCount};
+use crate::names::BACKSLASH;
 use crate::names::Form;
 
-const BACKSLASH: u16 = 92;
-
 // The most units of a normalised path.
-const PATH_UNITS: usize = 256;
+pub const PATH_UNITS: usize = 256;
 
 // The number of pieces between backslashes where each is a good component, else 0.
 fn good_count(s: &[u16]) -> usize

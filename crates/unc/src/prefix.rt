@@ -5,8 +5,7 @@ ghost use Prim.Native.Nat.{_≤_};
 ghost use lib.ListN.{length, take};
 ghost use Rattle.unc.specs.names.Names.{sameName};
 ghost use Rattle.unc.specs.names.Paths.{firstOf, matches, isSysvol};
-
-const BACKSLASH: u16 = 92;
+use crate::names::BACKSLASH;
 
 const SYSVOL: [u16; 6] = [83, 89, 83, 86, 79, 76];
 

@@ -7,7 +7,7 @@ use lib.Dec.{leb, eqb}
 use Rattle.laws.specs.Choice.{choose}
 use Rattle.laws.specs.Lists.{every}
 use Rattle.laws.specs.Listed.{listed, sameList}
-use Rattle.cache.specs.places.Layout.{placeCount, placeAt, unitAt, wideAt, wideUnits, flagAt, flagUnit, textAt, listCount, blank, written, hintUnit, markUnits, rootUnit, interlinkUnit, failbackUnit, ttlUnit, takenUnit}
+use Rattle.cache.specs.places.Layout.{placeCount, placeAt, unitAt, wideAt, wideUnits, flagAt, flagUnit, textAt, listCount, blank, written, hintUnit, markUnits, rootUnit, interlinkUnit, failbackUnit, ttlUnit, takenUnit, placeUnits}
 use Rattle.cache.specs.order.Entries.{Target, Referral, Domain, Place, free, used}
 use Rattle.cache.specs.order.Order.{goodReferral, goodDomain, distinct}
 
@@ -45,9 +45,13 @@ domainOf piece = record { name = textAt 0 piece; dcs = listed (listCount piece) 
 unfoldable pub domainUnits : Domain → List ℕ
 domainUnits d = written (d .name ∷ d .dcs) (d .hint) [] []
 
+-- the most places of a cache
+abbrev pub mostPlaces : ℕ
+mostPlaces = 32
+
 -- 1 to 32 places, and no part of one left over. Of a cache that a call only overwrites this alone is tested.
 unfoldable pub rightSize : List ℕ → Bool
-rightSize raw = leb 1 (placeCount raw) && (leb (placeCount raw) 32 && eqb (placeCount raw * 2336) (length raw))
+rightSize raw = leb 1 (placeCount raw) && (leb (placeCount raw) mostPlaces && eqb (placeCount raw * placeUnits) (length raw))
 
 -- what differs between the two caches: how a place is read and written, the key, and when an entry is good
 pub record Kind (E : Type 0) : Type 0 where
@@ -95,7 +99,7 @@ module _ {E : Type 0} (k : Kind E) where
 
   -- 1 to 32 places, good entries, no two keys equal
   unfoldable pub goodCache : List (Place E) → Bool
-  goodCache ps = leb 1 (length ps) && (leb (length ps) 32 && (every goodPlace ps && distinct (keys ps)))
+  goodCache ps = leb 1 (length ps) && (leb (length ps) mostPlaces && (every goodPlace ps && distinct (keys ps)))
 
   -- in order: what is held is good, and the memory is exactly what that writes: no part of a place is left over, and unused room is zero
   unfoldable pub inOrder : List ℕ → Bool

@@ -6,11 +6,11 @@ use lib.ListN.{length, replicate}
 use lib.Dec.{eqb, leb}
 use Rattle.laws.specs.Lists.{every, pasted, part, roomed}
 use Rattle.laws.specs.Listed.{listed, sameList}
-use Rattle.cache.specs.places.Layout.{placeAt, listCount, textAt, unitAt, written, wideUnits, hintUnit, markUnits, rootUnit, freeUnits}
+use Rattle.cache.specs.places.Layout.{placeAt, listCount, textAt, unitAt, written, wideUnits, hintUnit, markUnits, rootUnit, freeUnits, headUnits, roomUnits, placeUnits}
 
 -- the memory with place i changed by f, and all else as it was
 unfoldable pub changed : ℕ → (List ℕ → List ℕ) → List ℕ → List ℕ
-changed i f raw = pasted raw (i * 2336) (f (placeAt i raw))
+changed i f raw = pasted raw (i * placeUnits) (f (placeAt i raw))
 
 -- read back from a place: the key and the texts of the list
 unfoldable pub placeTexts : List ℕ → List (List ℕ)
@@ -34,7 +34,7 @@ zeros s = every (λ u. eqb u 0) s
 
 -- nothing stands in room j past its text
 unfoldable pub tidyRoom : List ℕ → ℕ → Bool
-tidyRoom piece j = leb (unitAt j piece) 256 && zeros (part (32 + j * 256 + unitAt j piece) (256 - unitAt j piece) piece)
+tidyRoom piece j = leb (unitAt j piece) roomUnits && zeros (part (headUnits + j * roomUnits + unitAt j piece) (roomUnits - unitAt j piece) piece)
 
 -- the same of the nine rooms
 unfoldable pub tidyRooms : List ℕ → Bool
@@ -50,7 +50,7 @@ putWide j v piece = pasted piece j (wideUnits v)
 
 -- a text with its length; the rest of its room becomes zero
 unfoldable pub putText : ℕ → List ℕ → List ℕ → List ℕ
-putText j t piece = pasted (putUnit j (length t) piece) (32 + j * 256) (roomed 256 t)
+putText j t piece = pasted (putUnit j (length t) piece) (headUnits + j * roomUnits) (roomed roomUnits t)
 
 -- settings
 unfoldable pub putSettings : List ℕ → List ℕ → List ℕ
@@ -58,4 +58,4 @@ putSettings settings piece = pasted piece rootUnit settings
 
 -- all but the key becomes zero
 unfoldable pub keyOnly : List ℕ → List ℕ
-keyOnly piece = pasted (pasted piece 1 (replicate 31 0)) 288 (replicate 2048 0)
+keyOnly piece = pasted (pasted piece 1 (replicate (headUnits - 1) 0)) (headUnits + roomUnits) (replicate (8 * roomUnits) 0)

@@ -8,6 +8,7 @@ use lib.Dec.{eqb}
 use Rattle.laws.specs.Choice.{choose}
 use Rattle.laws.specs.Lists.{part, roomed}
 use Rattle.laws.specs.Listed.{listed}
+use Rattle.unc.specs.names.Paths.{pathUnits}
 
 -- The units of the head, of which the first nine are the lengths of the texts; unit 0 is 0 where the place is free.
 -- how many texts the list has
@@ -46,13 +47,21 @@ freeUnits = 26
 abbrev pub headUnits : ℕ
 headUnits = 32
 
+-- a room for a text: as many as a path may have
+abbrev pub roomUnits : ℕ
+roomUnits = pathUnits
+
+-- a place: the head and nine rooms
+abbrev pub placeUnits : ℕ
+placeUnits = 2336
+
 -- how many places the memory has
 abbrev pub placeCount : List ℕ → ℕ
-placeCount raw = length raw / 2336
+placeCount raw = length raw / placeUnits
 
--- place i: 2,336 units
+-- place i
 unfoldable pub placeAt : ℕ → List ℕ → List ℕ
-placeAt i raw = part (i * 2336) 2336 raw
+placeAt i raw = part (i * placeUnits) placeUnits raw
 
 -- unit i of a place
 abbrev pub unitAt : ℕ → List ℕ → ℕ
@@ -74,9 +83,9 @@ flagAt i piece = eqb (unitAt i piece) 1
 unfoldable pub flagUnit : Bool → ℕ
 flagUnit b = choose b 1 0
 
--- room j: 256 units
+-- room j
 unfoldable pub roomAt : ℕ → List ℕ → List ℕ
-roomAt j piece = part (headUnits + j * 256) 256 piece
+roomAt j piece = part (headUnits + j * roomUnits) roomUnits piece
 
 -- text j: the first units of its room, as many as unit j of the head says
 unfoldable pub textAt : ℕ → List ℕ → List ℕ
@@ -88,7 +97,7 @@ listCount piece = min 8 (unitAt countUnit piece)
 
 -- a free place: every unit zero
 unfoldable pub blank : List ℕ
-blank = replicate 2336 0
+blank = replicate placeUnits 0
 
 -- the head of a place that holds these texts, the key first, this hint, these marks and these settings; all else in it is zero
 unfoldable pub headOf : List (List ℕ) → ℕ → List ℕ → List ℕ → List ℕ
@@ -97,7 +106,7 @@ headOf ts hint marks settings =
 
 -- its rooms: each text with zeros after it
 unfoldable pub roomsOf : List (List ℕ) → List ℕ
-roomsOf ts = flatten (listed 9 (λ j. roomed 256 (getD ts j [])))
+roomsOf ts = flatten (listed 9 (λ j. roomed roomUnits (getD ts j [])))
 
 -- the whole place
 unfoldable pub written : List (List ℕ) → ℕ → List ℕ → List ℕ → List ℕ

@@ -7,14 +7,14 @@ use lib.Dec.{leb, eqb}
 use Rattle.laws.specs.Choice.{choose}
 use Rattle.cache.specs.places.Layout.{placeCount}
 use Rattle.cache.specs.order.Memory.{domains, rightSize, encode}
-use Rattle.reply_read.specs.referral.Request.{request}
+use Rattle.reply_read.specs.referral.Request.{request, leastSize, mostSize}
 use Rattle.reply_read.specs.referral.Replies.{Reply, malformed, nothing, says}
 use Rattle.reply_read.specs.name_lists.NameLists.{readDomains}
 use Rattle.cache_store.specs.entry_after_reply.Stored.{once, domainPlaces}
 
 -- "size not 1,024 to 57,344" is 3
 unfoldable pub goodSize : ℕ → Bool
-goodSize size = leb 1024 size && leb size 57344
+goodSize size = leb leastSize size && leb size mostSize
 
 -- 6: "well-formed domain reply has more different names than places"; 7: "domain reply malformed or empty"
 unfoldable pub namesNumber : ℕ → Reply (List (List ℕ)) → ℕ

@@ -6,7 +6,7 @@ use mathlib.Core.List.{List, [], _∷_, _++_}
 use lib.ListN.{length}
 use lib.Dec.{leb}
 use Rattle.cache.specs.places.Code.{putUnit, putText}
-use Rattle.cache.specs.places.Layout.{flagUnit, wideUnits, blank, countUnit, markUnits}
+use Rattle.cache.specs.places.Layout.{flagUnit, wideUnits, blank, countUnit, markUnits, roomUnits}
 use Rattle.cache.specs.order.Entries.{Target}
 use Rattle.reply_bytes.specs.texts.Code.{spanned}
 use Rattle.reply_read.specs.declared.referral.Kept.{Kept}
@@ -34,7 +34,7 @@ heldTarget r k = record { path = spanned r (k .path); opens = k .opens }
 
 -- a kept target lies inside the reply and fits its room
 unfoldable pub keptFits : List ℕ → Kept → Bool
-keptFits r k = leb (k .path .from + 2 * k .path .units) (length r) && leb (k .path .units) 256
+keptFits r k = leb (k .path .from + 2 * k .path .units) (length r) && leb (k .path .units) roomUnits
 
 -- a place with a key alone
 unfoldable pub begun : List ℕ → List ℕ → List ℕ

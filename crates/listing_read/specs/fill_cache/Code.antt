@@ -5,7 +5,7 @@ use mathlib.Core.Path.{_≡_}
 use mathlib.Core.Bool.{true, false}
 use mathlib.Core.List.{List, [], _++_, map}
 use lib.ListN.{length, getD, take, drop}
-use Rattle.cache.specs.places.Layout.{hintUnit}
+use Rattle.cache.specs.places.Layout.{hintUnit, roomUnits}
 use Rattle.cache.specs.places.Code.{changed, putUnit, putSettings}
 use Rattle.cache.specs.order.Entries.{Referral, used}
 use Rattle.cache.specs.order.Memory.{referralSettings, referralUnits}
@@ -52,7 +52,7 @@ pub record PathAt (t : List ℕ) : Type 0 where
   pub ended : lineLength t < length t
   pub keyed : 7 ≤ lineLength t
   pub good : isSpelled (valueAt 7 t) ≡ true
-  pub short : length (unspelled (valueAt 7 t)) ≤ 256
+  pub short : length (unspelled (valueAt 7 t)) ≤ roomUnits
 
 -- and the path was written as text j of place i
 pub record PathRead (n : ℕ) (text : List ℕ) (i j : ℕ) (raw o : List ℕ) (r : ℕ) : Type 0 where

@@ -6,6 +6,13 @@ use lib.Dec.{leb}
 use Rattle.laws.specs.Choice.{choose}
 use Rattle.laws.specs.Lists.{pasted}
 
+-- "1,024 to 57,344": the least and the most bytes of a reply that may be asked for
+abbrev pub leastSize : ℕ
+leastSize = 1024
+
+abbrev pub mostSize : ℕ
+mostSize = 57344
+
 -- a unit as two bytes, the low one first
 unfoldable pub bytesOf : List ℕ → List ℕ
 bytesOf [] = []

@@ -109,7 +109,7 @@ def build(n,head,calls):
 unfolding UNFOLD
 scenario{n} = refl
 """
-MODS=[('Rattle.laws.specs.Choice','laws/specs/Choice.antt'),('Rattle.laws.specs.Lists','laws/specs/Lists.antt'),('Rattle.unc.specs.names.Names','unc/specs/names/Names.antt'),('Rattle.unc.specs.names.Paths','unc/specs/names/Paths.antt'),('Rattle.cache_lookup.specs.Lookup','cache_lookup/specs/Lookup.antt'),('Rattle.reply_bytes.specs.texts.Bytes','reply_bytes/specs/texts/Bytes.antt'),('Rattle.reply_read.specs.referral.Replies','reply_read/specs/referral/Replies.antt'),('Rattle.reply_read.specs.name_lists.NameLists','reply_read/specs/name_lists/NameLists.antt'),('Rattle.cache_store.specs.equivalent_targets.Equivalence','cache_store/specs/equivalent_targets/Equivalence.antt'),('Rattle.cache_store.specs.entry_after_reply.Stored','cache_store/specs/entry_after_reply/Stored.antt'),('Rattle.walk_steps.specs.steps.Steps','walk_steps/specs/steps/Steps.antt')]
+MODS=[('Rattle.laws.specs.Choice','laws/specs/Choice.antt'),('Rattle.laws.specs.Lists','laws/specs/Lists.antt'),('Rattle.unc.specs.names.Names','unc/specs/names/Names.antt'),('Rattle.unc.specs.names.Paths','unc/specs/names/Paths.antt'),('Rattle.cache_lookup.specs.Lookup','cache_lookup/specs/Lookup.antt'),('Rattle.reply_bytes.specs.texts.Bytes','reply_bytes/specs/texts/Bytes.antt'),('Rattle.reply_read.specs.referral.Replies','reply_read/specs/referral/Replies.antt'),('Rattle.reply_read.specs.name_lists.NameLists','reply_read/specs/name_lists/NameLists.antt'),('Rattle.cache_entry.specs.equivalent_targets.Equivalence','cache_entry/specs/equivalent_targets/Equivalence.antt'),('Rattle.cache_store.specs.entry_after_reply.Stored','cache_store/specs/entry_after_reply/Stored.antt'),('Rattle.walk_steps.specs.steps.Steps','walk_steps/specs/steps/Steps.antt')]
 uses=""; names=[]
 seen=set()
 for m,f in MODS:
@@ -273,5 +273,5 @@ for n,h,c in scen():
     if t: body.append(t.replace('UNFOLD',' '.join(names))); k+=1
 open(d+'/Scen.antt','w').write(hdr+uses+"use Rattle.scenarios.proofs.Run.{State, Event, launch, answers, tries, learns, puts, Out, asked, done, refused, learnt, nowhere, runs}\n\n"+"\n".join(body))
 open(d+'/Lib.antt','w').write('-- The scenarios.\npub mod Run\npub mod Scen\n')
-open(root+'/crates.txt','a').write('scenarios: laws memory unc cache cache_lookup reply_bytes reply_read cache_store walk_steps\n')
+open(root+'/crates.txt','a').write('scenarios: laws memory unc cache cache_lookup reply_bytes reply_read cache_entry cache_store walk_steps\n')
 print(k)

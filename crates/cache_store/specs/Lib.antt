@@ -1,5 +1,3 @@
 -- What a reply makes of the caches: document 01, "Storing", and source document 001.
-pub mod equivalent_targets
-pub mod write_entry
 pub mod entry_after_reply
 pub mod domain_cache

@@ -13,7 +13,7 @@ ghost use Rattle.reply_read.specs.referral.Code.{asked};
 ghost use Rattle.reply_read.specs.referral.Request.{bufferWith};
 ghost use Rattle.reply_read.specs.referral.Replies.{entries, says};
 ghost use Rattle.reply_read.specs.name_lists.Code.{domainName};
-ghost use Rattle.cache_store.specs.write_entry.Code.{addAll, addDc};
+ghost use Rattle.cache_entry.specs.write_entry.Code.{addAll, addDc};
 ghost use Rattle.cache_store.specs.entry_after_reply.Stored.{dcsStored, domainPlaces};
 ghost use Rattle.cache_store.specs.domain_cache.Code.{goodNameSpan, DomainAt, StorableDcs, domainsRefusal, askedNumber};
 ghost use Rattle.cache_store.specs.domain_cache.Domains.{namesNumber, domainsNumber, cacheAfter, domainsAfter, requestNumber};
@@ -53,7 +53,7 @@ fn add_dcs(cache: &mut [u16], i: usize, reply: &[u8], kept: [Span; 8], count: us
     let mut n = 0;
     while n < count {
         let s = kept[n];
-        crate::write_entry::add_text(cache, i, 1 + n, reply, s);
+        cache_entry::write_entry::add_text(cache, i, 1 + n, reply, s);
         n += 1;
     }
 }
@@ -139,7 +139,7 @@ fn put_domains(cache: &mut [u16], reply: &[u8], kept: [Span; 33], count: usize)
     let mut i = 0;
     while i < count {
         let s = kept[i];
-        crate::write_entry::add_text(cache, i, 0, reply, s);
+        cache_entry::write_entry::add_text(cache, i, 0, reply, s);
         i += 1;
     }
 }

@@ -12,7 +12,7 @@ ghost use Rattle.cache.specs.order.Memory.{referrals, decode};
 ghost use Rattle.cache_lookup.specs.Code.{keyIs, entryAt};
 ghost use Rattle.cache_lookup.specs.Lookup.{withKey};
 ghost use Rattle.cache_store.specs.entry_after_reply.Stored.{firstEqual, hinted, inFirstSet, failedBack};
-ghost use Rattle.cache_store.specs.write_entry.Code.{heldTarget, keptFits, settings};
+ghost use Rattle.cache_entry.specs.write_entry.Code.{heldTarget, keptFits, settings};
 use cache::places::PLACE;
 use cache_lookup::Found;
 use reply_bytes::texts::Span;
@@ -118,7 +118,7 @@ pub fn settle(cache: &mut [u16], i: usize, found: ReferralFound, interlink: bool
     requires { ⌜ i < placeCount (now cache) ⌝ }
     ensures { λ r. ⌜ now (cache .exit) ≡ changed i (putSettings (settings (found .root) interlink (found .failback) (found .ttl) clock)) (now (cache .entry)) ⌝ }
 {
-    crate::write_entry::put_settings(
+    cache_entry::write_entry::put_settings(
         cache,
         i,
         found.root,

@@ -27,8 +27,8 @@ fn insert(
     let prefix = found.prefix;
     let kept = found.kept;
     let count = found.targets;
-    crate::write_entry::begin_entry(cache, i, reply, prefix);
-    crate::write_entry::add_targets(cache, i, reply, kept, count);
+    cache_entry::write_entry::begin_entry(cache, i, reply, prefix);
+    cache_entry::write_entry::add_targets(cache, i, reply, kept, count);
     crate::entry_after_reply::settle(cache, i, found, interlink, clock);
 }
 
@@ -65,7 +65,7 @@ fn refresh_given(
     let count = found.targets;
     let hint = crate::entry_after_reply::given_place(cache, i, reply, kept, count);
     cache::places::keep_key(cache, i);
-    crate::write_entry::add_targets(cache, i, reply, kept, count);
+    cache_entry::write_entry::add_targets(cache, i, reply, kept, count);
     crate::entry_after_reply::settle(cache, i, found, interlink, clock);
     crate::entry_after_reply::put_hint(cache, i, hint, found.failback);
 }
@@ -85,7 +85,7 @@ fn refresh(
     let kept = found.kept;
     let count = found.targets;
     let version = found.version;
-    if crate::equivalent_targets::equivalent(cache, i, reply, kept, count, version) {
+    if cache_entry::equivalent_targets::equivalent(cache, i, reply, kept, count, version) {
         refresh_held(cache, i, reply, found, interlink, clock);
         return;
     }

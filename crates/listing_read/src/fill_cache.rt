@@ -8,7 +8,7 @@ ghost use Rattle.cache.specs.places.Code.{changed};
 ghost use Rattle.cache.specs.order.Memory.{referrals, rightSize, encode};
 ghost use Rattle.listing_write.specs.Form.{targetLines, entryLines};
 ghost use Rattle.listing_spelling.specs.unspell.Reading.{unspelled, isSpelled};
-ghost use Rattle.cache_store.specs.write_entry.Code.{addText};
+ghost use Rattle.cache_entry.specs.write_entry.Code.{addText};
 ghost use Rattle.listing_read.specs.listing_rules.Entries.{entriesSaid};
 ghost use Rattle.listing_read.specs.listing_rules.Read.{isListing, placed};
 ghost use Rattle.listing_read.specs.fill_cache.Code.{saidAt, NumberAt, NumberRead, PathAt, PathRead, TargetRead, SettingsRead, TargetsRead, EntryRead, LinesAt};
@@ -115,7 +115,7 @@ fn put_settings(text: &[u16], at: usize, refs: &mut [u16], i: usize) -> usize
     let ttl = number_at(text, at + 33, 4);
     let taken = number_at(text, ttl.next, 6);
     let hint = number_at(text, taken.next, 5);
-    cache_store::write_entry::put_settings(
+    cache_entry::write_entry::put_settings(
         refs,
         i,
         root,

@@ -38,9 +38,9 @@ use Rattle.reply_read.specs.name_lists.NameLists.{readDcs}
 use Rattle.reply_read.specs.name_lists.Code.{denotedDcs, DcsInside}
 use Rattle.reply_read.specs.declared.name_lists.DcsFound.{DcsFound}
 use Rattle.reply_read.proofs.name_lists.SaysLaws.{SoundDcs, says-dcs, dcs-says}
-use Rattle.cache_store.specs.write_entry.Code.{addAll, addDc, addText}
-use Rattle.cache_store.proofs.write_entry.WritingLaws.{shortName}
-use Rattle.cache_store.proofs.write_entry.PieceLaws.{key-shape, dcs-written}
+use Rattle.cache_entry.specs.write_entry.Code.{addAll, addDc, addText}
+use Rattle.cache_entry.proofs.write_entry.WritingLaws.{shortName}
+use Rattle.cache_entry.proofs.write_entry.PieceLaws.{key-shape, dcs-written}
 use Rattle.cache_store.specs.entry_after_reply.Stored.{withDcs, dcsStored}
 use Rattle.cache_store.specs.domain_cache.Code.{goodNameSpan, DomainAt, StorableDcs}
 

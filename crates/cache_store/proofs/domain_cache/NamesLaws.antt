@@ -22,9 +22,9 @@ use Rattle.cache.specs.order.Memory.{domains, domainUnits, encode, pieceOf, goo
 use Rattle.cache.proofs.order.MemoryLaws.{RightSize, size-told, good-cache, encoded-in-order, place-encode, count-encode, encode-set}
 use Rattle.cache.proofs.order.KindLaws.{good-domain, domains-lawful, name-short}
 use Rattle.cache.proofs.order.PlaceLaws.{hint-good}
-use Rattle.cache_store.specs.write_entry.Code.{addText, begun}
-use Rattle.cache_store.proofs.write_entry.WritingLaws.{changed-same}
-use Rattle.cache_store.proofs.write_entry.PieceLaws.{begun-written}
+use Rattle.cache_entry.specs.write_entry.Code.{addText, begun}
+use Rattle.cache_entry.proofs.write_entry.WritingLaws.{changed-same}
+use Rattle.cache_entry.proofs.write_entry.PieceLaws.{begun-written}
 use Rattle.cache_store.specs.entry_after_reply.Stored.{domainPlaces}
 
 -- a domain without DCs

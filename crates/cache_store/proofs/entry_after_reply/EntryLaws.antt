@@ -15,9 +15,9 @@ use Rattle.cache.specs.order.Entries.{Target, Referral}
 use Rattle.cache.specs.order.Order.{goodPrefix, goodTarget, goodReferral}
 use Rattle.cache.specs.order.Memory.{referralSettings, referralUnits}
 use Rattle.cache.proofs.order.KindLaws.{GoodReferral, referral-told, referral-shape, prefix-short}
-use Rattle.cache_store.specs.write_entry.Code.{addAll, addTarget, begun, settings}
-use Rattle.cache_store.proofs.write_entry.WritingLaws.{short}
-use Rattle.cache_store.proofs.write_entry.PieceLaws.{pathsOf, marksOf, targets-written, key-shape, begun-written}
+use Rattle.cache_entry.specs.write_entry.Code.{addAll, addTarget, begun, settings}
+use Rattle.cache_entry.proofs.write_entry.WritingLaws.{short}
+use Rattle.cache_entry.proofs.write_entry.PieceLaws.{pathsOf, marksOf, targets-written, key-shape, begun-written}
 
 -- the settings that are written are the entry's
 settings-of : (e : Referral) → settings (e .root) (e .interlink) (e .failback) (e .ttl) (e .taken) ≡ referralSettings e

@@ -8,7 +8,7 @@ use Rattle.laws.specs.Lists.{every}
 use Rattle.unc.specs.names.Names.{folded, sameUnit, sameName}
 use Rattle.cache.specs.order.Entries.{Target, Referral}
 use Rattle.reply_read.specs.referral.Replies as replies
-use Rattle.cache_store.specs.equivalent_targets.Equivalence.{timesIn, sameTargets, paths, joinSet, nextOpens, sets, sameSets, equivalent}
+use Rattle.cache_entry.specs.equivalent_targets.Equivalence.{timesIn, sameTargets, paths, joinSet, nextOpens, sets, sameSets, equivalent}
 use Rattle.cache_store.specs.entry_after_reply.Stored.{targetsIn, firstEqual, hinted, inFirstSet, failedBack, targetsAfter, refreshed}
 
 abbrev share : ℕ → ℕ → List ℕ

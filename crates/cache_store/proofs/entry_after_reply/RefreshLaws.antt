@@ -22,13 +22,13 @@ use Rattle.cache_lookup.specs.Code.{entryAt}
 use Rattle.cache_lookup.specs.Lookup.{targetHintTo}
 use Rattle.cache_lookup.proofs.EntryLaws.{target-hint-units}
 use Rattle.reply_read.specs.referral.Replies as replies
-use Rattle.cache_store.specs.equivalent_targets.Equivalence.{equivalent}
+use Rattle.cache_entry.specs.equivalent_targets.Equivalence.{equivalent}
 use Rattle.cache_store.specs.entry_after_reply.Stored.{targetsIn, targetsAfter, firstEqual, hinted, failedBack, refreshed, fresh}
 use Rattle.reply_read.specs.referral.Code.{referralShown}
 use Rattle.reply_read.specs.declared.referral.ReferralFound.{ReferralFound}
-use Rattle.cache_store.specs.write_entry.Code.{addAll, addTarget, settings, heldTarget}
+use Rattle.cache_entry.specs.write_entry.Code.{addAll, addTarget, settings, heldTarget}
 use Rattle.cache_store.specs.entry_after_reply.Code.{Storable, HeldEntry}
-use Rattle.cache_store.proofs.write_entry.WritingLaws.{Keeps, keeps-unit, keeps-pasted, keeps-both, then-changed, changed-same}
+use Rattle.cache_entry.proofs.write_entry.WritingLaws.{Keeps, keeps-unit, keeps-pasted, keeps-both, then-changed, changed-same}
 use Rattle.cache_store.proofs.entry_after_reply.EntryLaws.{entry-settled, entry-replaced}
 use Rattle.cache_store.proofs.entry_after_reply.StoreLaws.{targets-in, keeps-settled, keeps-kept}
 

@@ -18,9 +18,9 @@ use Rattle.reply_read.specs.referral.Code.{referralShown, targetShown}
 use Rattle.reply_read.specs.declared.referral.Kept.{Kept}
 use Rattle.reply_read.specs.declared.referral.ReferralFound.{ReferralFound}
 use Rattle.cache_store.specs.entry_after_reply.Stored.{targetsIn, fresh}
-use Rattle.cache_store.specs.write_entry.Code.{addText, addAll, addTarget, begun, settings, heldTarget}
+use Rattle.cache_entry.specs.write_entry.Code.{addText, addAll, addTarget, begun, settings, heldTarget}
 use Rattle.cache_store.specs.entry_after_reply.Code.{Storable}
-use Rattle.cache_store.proofs.write_entry.WritingLaws.{Keeps, keeps-added, keeps-blank, keeps-both, keeps-target, keeps-all, keeps-pasted, short, all-short, then-changed, changed-same}
+use Rattle.cache_entry.proofs.write_entry.WritingLaws.{Keeps, keeps-added, keeps-blank, keeps-both, keeps-target, keeps-all, keeps-pasted, short, all-short, then-changed, changed-same}
 use Rattle.cache_store.proofs.entry_after_reply.EntryLaws.{entry-inserted}
 
 -- the targets of the reply, as the cache holds them

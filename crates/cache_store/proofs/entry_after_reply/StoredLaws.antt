@@ -25,15 +25,15 @@ use Rattle.cache_lookup.specs.declared.Found.the-variants.{At, Nothing}
 use Rattle.cache_lookup.proofs.LookupLaws.{KeyAt, key-found, used-inside, new-inside}
 use Rattle.cache_lookup.proofs.EntryLaws.{target-hint-good}
 use Rattle.cache_lookup.proofs.StoreLaws.{entry-good, entry-units, entry-is, kept-in-order, new-in-order}
-use Rattle.cache_store.specs.equivalent_targets.Equivalence.{equivalent}
-use Rattle.cache_store.specs.equivalent_targets.Code.{heldTargets, givenTargets}
-use Rattle.cache_store.proofs.equivalent_targets.SetLaws.{given-shown}
+use Rattle.cache_entry.specs.equivalent_targets.Equivalence.{equivalent}
+use Rattle.cache_entry.specs.equivalent_targets.Code.{heldTargets, givenTargets}
+use Rattle.cache_entry.proofs.equivalent_targets.SetLaws.{given-shown}
 use Rattle.reply_read.specs.referral.Replies as replies
 use Rattle.reply_read.specs.referral.Code.{referralShown, keptInside, isInside}
 use Rattle.reply_read.specs.declared.referral.Kept.{Kept}
 use Rattle.reply_read.specs.declared.referral.ReferralFound.{ReferralFound}
 use Rattle.cache_store.specs.entry_after_reply.Stored.{targetsIn, hinted, refreshed, fresh, stored, storedEntry, storePlace, prefixed, held, heldAt}
-use Rattle.cache_store.specs.write_entry.Code.{keptFits}
+use Rattle.cache_entry.specs.write_entry.Code.{keptFits}
 use Rattle.cache_store.specs.entry_after_reply.Code.{Storable, HeldEntry}
 use Rattle.cache_store.proofs.entry_after_reply.StoreLaws.{fresh-good}
 use Rattle.cache_store.proofs.entry_after_reply.RefreshLaws.{based, back-within, first-within, held-good, given-good, refreshed-held, refreshed-given}

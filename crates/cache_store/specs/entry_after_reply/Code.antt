@@ -14,8 +14,8 @@ use Rattle.cache_lookup.specs.Code.{entryAt}
 use Rattle.reply_bytes.specs.texts.Code.{Inside}
 use Rattle.reply_read.specs.referral.Code.{referralShown}
 use Rattle.reply_read.specs.declared.referral.ReferralFound.{ReferralFound}
-use Rattle.cache_store.specs.equivalent_targets.Equivalence.{equivalent}
-use Rattle.cache_store.specs.write_entry.Code.{keptFits}
+use Rattle.cache_entry.specs.equivalent_targets.Equivalence.{equivalent}
+use Rattle.cache_entry.specs.write_entry.Code.{keptFits}
 use Rattle.cache_store.specs.entry_after_reply.Stored.{targetsIn, refreshed, fresh}
 
 -- what a reply must be to be stored: its spans lie inside it, and the entry that it makes is good

@@ -13,7 +13,7 @@ use Rattle.cache_lookup.specs.Lookup.{withKey, newPlace, foundOr}
 use Rattle.cache_lookup.specs.declared.Found.{Found}
 use Rattle.cache_lookup.specs.declared.Found.the-variants.{At, Nothing}
 use Rattle.reply_read.specs.referral.Replies as replies
-use Rattle.cache_store.specs.equivalent_targets.Equivalence.{equivalent}
+use Rattle.cache_entry.specs.equivalent_targets.Equivalence.{equivalent}
 
 -- the targets of a reply, as a cache holds them
 unfoldable pub targetsIn : replies.Referral → List Target

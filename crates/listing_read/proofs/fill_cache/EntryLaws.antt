@@ -26,9 +26,9 @@ use Rattle.cache.specs.order.Memory.{referralSettings, referralUnits}
 use Rattle.cache.proofs.order.KindLaws.{GoodReferral, referral-told, referral-shape, prefix-short}
 use Rattle.cache.proofs.order.MemoryLaws.{length-blank}
 use Rattle.listing_spelling.specs.spell.Spelling.{decimalIn, decimal}
-use Rattle.cache_store.specs.write_entry.Code.{addText, addTarget, addAll, begun, settings}
-use Rattle.cache_store.proofs.write_entry.WritingLaws.{Keeps, short, keeps-pasted, keeps-unit, keeps-target, then-changed, all-more, all-done}
-use Rattle.cache_store.proofs.write_entry.PieceLaws.{targets-written, key-shape, begun-written}
+use Rattle.cache_entry.specs.write_entry.Code.{addText, addTarget, addAll, begun, settings}
+use Rattle.cache_entry.proofs.write_entry.WritingLaws.{Keeps, short, keeps-pasted, keeps-unit, keeps-target, then-changed, all-more, all-done}
+use Rattle.cache_entry.proofs.write_entry.PieceLaws.{targets-written, key-shape, begun-written}
 use Rattle.listing_write.specs.Form.{prefixKey, kindKey, interlinkKey, failbackKey, ttlKey, takenKey, hintKey, targetKey, kindWord, pathLine, numberLine, ended, linesText, targetLines, settingLines, countLines, entryLines, entryText, listing}
 use Rattle.listing_spelling.specs.unspell.Reading.{unit, unspelled}
 use Rattle.listing_read.specs.listing_rules.Entries.{entrySaid, entriesSaid}

@@ -11,8 +11,8 @@ use Rattle.laws.proofs.Pasting.{length-pasted, getD-pasted-low, getD-pasted-in,
 use Rattle.cache.specs.places.Layout.{placeCount, flagUnit, countUnit, markUnits}
 use Rattle.cache.specs.places.Code.{changed, putUnit}
 use Rattle.listing_spelling.specs.spell.Spelling.{Put}
-use Rattle.cache_store.specs.write_entry.Code.{addText, addTarget}
-use Rattle.cache_store.proofs.write_entry.WritingLaws.{text-added, then-changed, keeps-added, keeps-unit}
+use Rattle.cache_entry.specs.write_entry.Code.{addText, addTarget}
+use Rattle.cache_entry.proofs.write_entry.WritingLaws.{text-added, then-changed, keeps-added, keeps-unit}
 use Rattle.listing_spelling.specs.unspell.Reading.{unspelled}
 use Rattle.listing_read.specs.fill_cache.Code.{valueAt, PathAt, PathRead, TargetRead}
 

@@ -9,7 +9,7 @@ use Rattle.cache.specs.places.Layout.{hintUnit, roomUnits}
 use Rattle.cache.specs.places.Code.{changed, putUnit, putSettings}
 use Rattle.cache.specs.order.Entries.{Referral, used}
 use Rattle.cache.specs.order.Memory.{referralSettings, referralUnits}
-use Rattle.cache_store.specs.write_entry.Code.{addText, addTarget, addAll}
+use Rattle.cache_entry.specs.write_entry.Code.{addText, addTarget, addAll}
 use Rattle.listing_spelling.specs.unspell.Reading.{unspelled, isSpelled, decimalOf}
 use Rattle.listing_spelling.specs.unspell.Code.{isDecimal}
 use Rattle.listing_write.specs.Form.{linesText, targetLines, listing}

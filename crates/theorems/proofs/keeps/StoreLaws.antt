@@ -5,7 +5,7 @@ use Prim.Native.Nat.{ℕ}
 use Rattle.laws.proofs.Choices.{choose-yes, choose-no}
 use Rattle.cache.specs.order.Entries.{Referral}
 use Rattle.reply_read.specs.referral.Replies as replies
-use Rattle.cache_store.specs.equivalent_targets.Equivalence.{equivalent}
+use Rattle.cache_entry.specs.equivalent_targets.Equivalence.{equivalent}
 use Rattle.cache_store.specs.entry_after_reply.Stored.{targetsIn, targetsAfter, refreshed}
 
 module _ (e : Referral) (q : replies.Referral) (interlink : Bool) (clock : ℕ) where

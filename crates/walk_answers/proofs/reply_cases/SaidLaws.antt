@@ -28,7 +28,7 @@ use Rattle.reply_read.specs.declared.referral.ReferralFound.{ReferralFound}
 use Rattle.reply_read.specs.declared.referral.Answer.the-variants.{Says}
 use Rattle.reply_read.proofs.referral.SaysLaws as said
 use Rattle.reply_read.proofs.referral.SaysLaws.{Sound, says-sound, denoted-says}
-use Rattle.cache_store.specs.write_entry.Code.{keptFits}
+use Rattle.cache_entry.specs.write_entry.Code.{keptFits}
 use Rattle.cache_store.specs.entry_after_reply.Stored.{targetsIn, fresh}
 use Rattle.cache_store.specs.entry_after_reply.Code.{Storable}
 

@@ -7,8 +7,8 @@ use native.Mathlib.Omega.{arith}
 use lib.ListN.{length, take, drop}
 use Rattle.reply_bytes.specs.texts.Code.{spanned}
 use Rattle.cache.specs.places.Code.{changed}
-use Rattle.cache_store.specs.write_entry.Code.{addAll, addDc}
-use Rattle.cache_store.proofs.write_entry.WritingLaws.{kept-at, shown-at, length-shown, shortName, keeps-dc, all-more, all-done}
+use Rattle.cache_entry.specs.write_entry.Code.{addAll, addDc}
+use Rattle.cache_entry.proofs.write_entry.WritingLaws.{kept-at, shown-at, length-shown, shortName, keeps-dc, all-more, all-done}
 use Rattle.cache_store.specs.domain_cache.Code.{goodNameSpan}
 use Rattle.cache_store.proofs.domain_cache.DcLaws.{fits-room, all-good, good-short, dc-added}
 use borrow.Author.Needs.{needs}

@@ -6,7 +6,7 @@ use Prim.Native.Nat.{_≤_, _-_}
 use native.Mathlib.Omega.{arith}
 use lib.ListN.{length, take, drop}
 use Rattle.reply_bytes.specs.texts.Code.{spanned}
-use Rattle.cache_store.proofs.write_entry.WritingLaws.{kept-at, shown-at, length-shown}
+use Rattle.cache_entry.proofs.write_entry.WritingLaws.{kept-at, shown-at, length-shown}
 use Rattle.cache_store.specs.domain_cache.Code.{goodNameSpan, isNew}
 use Rattle.cache_store.proofs.domain_cache.DcLaws.{fits-inside}
 use Rattle.cache_store.proofs.domain_cache.OnceLaws.{new-more, new-broken, new-end}

@@ -8,7 +8,7 @@ use lib.ListN.{length, take}
 use Rattle.reply_bytes.specs.texts.Code.{spanned}
 use Rattle.cache.specs.order.Memory.{domains, encode}
 use Rattle.cache.proofs.order.MemoryLaws.{size-told}
-use Rattle.cache_store.proofs.write_entry.WritingLaws.{kept-at, shown-at, length-shown}
+use Rattle.cache_entry.proofs.write_entry.WritingLaws.{kept-at, shown-at, length-shown}
 use Rattle.cache_store.specs.entry_after_reply.Stored.{domainPlaces}
 use Rattle.cache_store.specs.domain_cache.Code.{goodNameSpan}
 use Rattle.cache_store.proofs.domain_cache.DcLaws.{fits-room, all-good}

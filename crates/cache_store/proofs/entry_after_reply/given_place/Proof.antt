@@ -1,4 +1,4 @@
-use Rattle.cache_store.specs.write_entry.Code.{heldTarget, keptFits}
+use Rattle.cache_entry.specs.write_entry.Code.{heldTarget, keptFits}
 use Rattle.cache_store.specs.entry_after_reply.Stored.{firstEqual, hinted}
 use mathlib.Core.List.{map}
 use Rattle.cache_lookup.specs.Code.{entryAt}
@@ -8,7 +8,7 @@ use lib.ListN.{length, drop, take}
 use Prim.Native.Nat.{_≤_, _-_}
 use mathlib.Core.Path.{_≡_, refl, sym, _∙_}
 use native.Mathlib.Omega.{arith}
-use Rattle.cache_store.proofs.write_entry.WritingLaws.{kept-at, kept-inside, path-at, length-shown}
+use Rattle.cache_entry.proofs.write_entry.WritingLaws.{kept-at, kept-inside, path-at, length-shown}
 use Rattle.cache_store.proofs.entry_after_reply.HintLaws.{nowhere, hinted-is, equal-hit, equal-miss, equal-end}
 use borrow.Author.Needs.{needs}
 use Rattle.cache_store.proofs.entry_after_reply.given_place.Statement.{statement}

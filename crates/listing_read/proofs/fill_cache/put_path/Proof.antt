@@ -6,7 +6,7 @@ use native.Mathlib.Omega.{arith}
 use lib.ListN.{length}
 use Rattle.cache.specs.places.Code.{changed}
 use Rattle.listing_spelling.specs.unspell.Reading.{isSpelled, unspelled}
-use Rattle.cache_store.specs.write_entry.Code.{addText}
+use Rattle.cache_entry.specs.write_entry.Code.{addText}
 use Rattle.listing_read.proofs.fill_cache.LineLaws.{value-slice, line-inside}
 use borrow.Author.Needs.{needs}
 use Rattle.listing_read.proofs.fill_cache.put_path.Statement.{statement}

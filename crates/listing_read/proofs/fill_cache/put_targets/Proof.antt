@@ -5,7 +5,7 @@ use native.Mathlib.Omega.{arith}
 use lib.ListN.{length, drop}
 use Rattle.cache.specs.places.Code.{changed}
 use Rattle.listing_write.specs.Form.{targetLines}
-use Rattle.cache_store.specs.write_entry.Code.{addTarget, addAll}
+use Rattle.cache_entry.specs.write_entry.Code.{addTarget, addAll}
 use Rattle.listing_read.specs.fill_cache.Code.{saidAt, LinesAt}
 use Rattle.listing_read.proofs.fill_cache.EntryLaws.{targets-few, more-left, left-none, left-past, target-there, target-next, target-added, targets-done}
 use borrow.Author.Needs.{needs}

@@ -18,8 +18,8 @@ use Rattle.laws.proofs.Tests.{both-ways, refuted, not-both}
 use Rattle.laws.proofs.Parts.{roomed-blank}
 use Rattle.laws.proofs.Listed.{length-listed, getD-listed, listed-same, map-listed, every-listed, listed-every, sameList-true}
 use Rattle.unc.specs.names.Names.{goodName}
-use Rattle.cache.specs.places.Layout.{unitAt, wideAt, flagAt, flagUnit, textAt, listCount, written, countUnit, hintUnit, markUnits, rootUnit, ttlUnit, takenUnit, freeUnits, headUnits}
-use Rattle.cache.specs.places.Code.{placeTexts, marksOf, settingsOf, tidy, zeros}
+use Rattle.cache.specs.places.Layout.{unitAt, wideAt, flagAt, flagUnit, textAt, listCount, written, countUnit, hintUnit, markUnits, rootUnit, ttlUnit, takenUnit, headUnits}
+use Rattle.cache.specs.places.Code.{placeTexts, marksOf, settingsOf, tidy, zeros, freeUnits}
 use Rattle.cache.proofs.places.WrittenLaws.{same-written, written-mark, written-setting}
 use Rattle.cache.proofs.places.TidyLaws.{tidy-told}
 use Rattle.cache.proofs.places.ZeroLaws.{zero-at, zeros-all}

@@ -17,8 +17,8 @@ use Rattle.laws.proofs.Tests.{both-ways, refuted, not-both}
 use Rattle.laws.proofs.Pasting.{getD-part, length-part}
 use Rattle.laws.proofs.Parts.{getD-roomed, roomed-take}
 use Rattle.laws.proofs.Listed.{length-listed, getD-listed, every-next, every-stop, every-end, every-listed, listed-every, sameList-true, same-sameList}
-use Rattle.cache.specs.places.Layout.{unitAt, roomAt, textAt, listCount, written, countUnit, hintUnit, markUnits, rootUnit, freeUnits, headUnits}
-use Rattle.cache.specs.places.Code.{placeTexts, marksOf, settingsOf, tidy, zeros, tidyRoom, tidyRooms}
+use Rattle.cache.specs.places.Layout.{unitAt, roomAt, textAt, listCount, written, countUnit, hintUnit, markUnits, rootUnit, headUnits}
+use Rattle.cache.specs.places.Code.{placeTexts, marksOf, settingsOf, tidy, zeros, tidyRoom, tidyRooms, freeUnits}
 use Rattle.cache.proofs.places.ZeroLaws.{zero-at, zeros-all}
 use Rattle.cache.proofs.places.WrittenLaws.{HeadUnit, a-length, the-count, the-hint, a-mark, a-setting, same-place, Shaped, length-written, written-length, written-count, written-hint, written-mark, written-setting, written-room}
 

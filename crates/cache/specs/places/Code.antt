@@ -6,7 +6,7 @@ use lib.ListN.{length, replicate}
 use lib.Dec.{eqb, leb}
 use Rattle.laws.specs.Lists.{every, pasted, part, roomed}
 use Rattle.laws.specs.Listed.{listed, sameList}
-use Rattle.cache.specs.places.Layout.{placeAt, listCount, textAt, unitAt, written, wideUnits, hintUnit, markUnits, rootUnit, freeUnits, headUnits, roomUnits, placeUnits}
+use Rattle.cache.specs.places.Layout.{placeAt, listCount, textAt, unitAt, written, wideUnits, hintUnit, markUnits, rootUnit, headUnits, roomUnits, placeUnits}
 
 -- the memory with place i changed by f, and all else as it was
 unfoldable pub changed : ℕ → (List ℕ → List ℕ) → List ℕ → List ℕ
@@ -19,6 +19,10 @@ placeTexts piece = listed (1 + listCount piece) (λ j. textAt j piece)
 -- the marks of the list
 unfoldable pub marksOf : List ℕ → List ℕ
 marksOf piece = listed (listCount piece) (λ j. unitAt (markUnits + j) piece)
+
+-- the first unit of the head that is not in use
+abbrev pub freeUnits : ℕ
+freeUnits = 26
 
 -- the settings: the units in use
 unfoldable pub settingsOf : List ℕ → List ℕ

@@ -39,11 +39,7 @@ ttlUnit = 22
 abbrev pub takenUnit : ℕ
 takenUnit = 24
 
--- units that are in no use yet, and zero
-abbrev pub freeUnits : ℕ
-freeUnits = 26
-
--- all of them
+-- all of them; those after the settings are not in use, and zero
 abbrev pub headUnits : ℕ
 headUnits = 32
 

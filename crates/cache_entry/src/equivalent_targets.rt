@@ -7,11 +7,11 @@ ghost use lib.ListN.{take};
 ghost use Rattle.laws.specs.Lists.{every, part};
 ghost use Rattle.unc.specs.names.Names.{sameName};
 ghost use Rattle.reply_bytes.specs.texts.Code.{spanned, Inside};
-ghost use Rattle.reply_read.specs.referral.Code.{keptInside};
+ghost use Rattle.reply_read.specs.referral.Code.{keptInside, targetShown};
 ghost use Rattle.cache.specs.places.Layout.{placeCount, placeAt, listCount};
 ghost use Rattle.cache_entry.specs.equivalent_targets.Equivalence.{sameTargets, paths, sets, sameSets, equivalent};
 ghost use Rattle.cache_entry.specs.equivalent_targets.Code.{matched, unmarked, firstPlace, marksIn, startOf, sizeOf, namesAt, Spans};
-ghost use Rattle.cache_entry.specs.equivalent_targets.Code.{heldTargets, givenPath, givenTargets, boundaries, givenBoundaries, setEnd};
+ghost use Rattle.cache_entry.specs.equivalent_targets.Code.{heldTargets, givenPath, boundaries, givenBoundaries, setEnd};
 use reply_bytes::texts::Span;
 use reply_read::referral::Kept;
 
@@ -229,7 +229,7 @@ fn given_end(kept: [Kept; 8], b: usize, n: usize) -> usize
 // Whether the entry's n targets and the first `count` of the reply are in as many sets, and each holds the same targets.
 fn same_sets(cache: &[u16], i: usize, n: usize, reply: &[u8], kept: [Kept; 8], count: usize) -> bool
     requires { ⌜ (i < placeCount (now cache)) × ((n ≡ listCount (placeAt i (now cache))) × ((count ≤ 8) × (every (keptInside (now reply)) (take count kept) ≡ true))) ⌝ }
-    ensures { λ r. ⌜ r ≡ sameSets (sets (heldTargets i (now (cache .entry)))) (sets (givenTargets (now (reply .entry)) (take count kept))) ⌝ }
+    ensures { λ r. ⌜ r ≡ sameSets (sets (heldTargets i (now (cache .entry)))) (sets (map (targetShown (now (reply .entry))) (take count kept))) ⌝ }
 {
     let mut a = 0;
     let mut b = 0;
@@ -258,7 +258,7 @@ pub fn equivalent(
     version: u16,
 ) -> bool
     requires { ⌜ (i < placeCount (now cache)) × ((count ≤ 8) × (every (keptInside (now reply)) (take count kept) ≡ true)) ⌝ }
-    ensures { λ r. ⌜ r ≡ equivalent version (heldTargets i (now (cache .entry))) (givenTargets (now (reply .entry)) (take count kept)) ⌝ }
+    ensures { λ r. ⌜ r ≡ equivalent version (heldTargets i (now (cache .entry))) (map (targetShown (now (reply .entry))) (take count kept)) ⌝ }
 {
     let n = held_count(cache, i);
     if version == SETS {

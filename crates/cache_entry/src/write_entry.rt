@@ -8,7 +8,8 @@ ghost use Rattle.laws.specs.Lists.{every};
 ghost use Rattle.reply_bytes.specs.texts.Code.{spanned, Inside};
 ghost use Rattle.cache.specs.places.Layout.{placeCount, flagUnit, roomUnits};
 ghost use Rattle.cache.specs.places.Code.{changed, putSettings};
-ghost use Rattle.cache_entry.specs.write_entry.Code.{addText, addTarget, addAll, begun, settings, heldTarget, keptFits};
+ghost use Rattle.reply_read.specs.referral.Code.{targetShown};
+ghost use Rattle.cache_entry.specs.write_entry.Code.{addText, addTarget, addAll, begun, settings, keptFits};
 use cache::places::HEAD;
 use cache::places::PLACE;
 use cache::places::ROOM;
@@ -36,7 +37,7 @@ pub fn add_text(cache: &mut [u16], i: usize, n: usize, reply: &[u8], s: Span)
 // Target n of place i from the reply.
 fn add_target(cache: &mut [u16], i: usize, n: usize, reply: &[u8], k: Kept)
     requires { ⌜ (i < placeCount (now cache)) × ((n < 8) × (keptFits (now reply) k ≡ true)) ⌝ }
-    ensures { λ r. ⌜ now (cache .exit) ≡ changed i (addTarget n (heldTarget (now (reply .entry)) k)) (now (cache .entry)) ⌝ }
+    ensures { λ r. ⌜ now (cache .exit) ≡ changed i (addTarget n (targetShown (now (reply .entry)) k)) (now (cache .entry)) ⌝ }
 {
     let s = k.path;
     add_text(cache, i, 1 + n, reply, s);
@@ -46,7 +47,7 @@ fn add_target(cache: &mut [u16], i: usize, n: usize, reply: &[u8], k: Kept)
 // The targets of the reply into place i, which has none.
 pub fn add_targets(cache: &mut [u16], i: usize, reply: &[u8], kept: [Kept; 8], count: usize)
     requires { ⌜ (i < placeCount (now cache)) × ((count ≤ 8) × (every (keptFits (now reply)) (take count kept) ≡ true)) ⌝ }
-    ensures { λ r. ⌜ now (cache .exit) ≡ changed i (addAll addTarget 0 (map (heldTarget (now (reply .entry))) (take count kept))) (now (cache .entry)) ⌝ }
+    ensures { λ r. ⌜ now (cache .exit) ≡ changed i (addAll addTarget 0 (map (targetShown (now (reply .entry))) (take count kept))) (now (cache .entry)) ⌝ }
 {
     let mut n = 0;
     while n < count {

@@ -11,7 +11,8 @@ use Rattle.laws.proofs.Listed.{length-listed, getD-listed}
 use Rattle.cache.specs.places.Layout.{placeCount, placeAt, unitAt, flagAt, textAt, listCount, hintUnit, markUnits, rootUnit, interlinkUnit}
 use Rattle.cache.specs.places.Code.{changed, putUnit}
 use Rattle.cache.proofs.places.PutLaws.{put-hint}
-use Rattle.cache.specs.order.Entries.{Target, Referral, Domain, Place, free, used}
+use Rattle.unc.specs.names.Paths.{Target}
+use Rattle.cache.specs.order.Entries.{Referral, Domain, Place, free, used}
 use Rattle.cache.specs.order.Order.{goodReferral, goodDomain}
 use Rattle.cache.specs.order.Memory.{Kind, referrals, domains, targetOf, referralOf, referralSettings, referralUnits, domainOf, domainUnits, decode, encode, inOrder}
 use Rattle.cache_lookup.specs.Code.{entryAt, targetOpens}

@@ -11,8 +11,9 @@ ghost use Rattle.cache.specs.places.Code.{changed, putUnit, putSettings};
 ghost use Rattle.cache.specs.order.Memory.{referrals, decode};
 ghost use Rattle.cache_lookup.specs.Code.{keyIs, entryAt};
 ghost use Rattle.cache_lookup.specs.Lookup.{withKey};
+ghost use Rattle.reply_read.specs.referral.Code.{targetShown};
 ghost use Rattle.cache_store.specs.entry_after_reply.Stored.{firstEqual, hinted, inFirstSet, failedBack};
-ghost use Rattle.cache_entry.specs.write_entry.Code.{heldTarget, keptFits, settings};
+ghost use Rattle.cache_entry.specs.write_entry.Code.{keptFits, settings};
 use cache::places::PLACE;
 use cache_lookup::Found;
 use reply_bytes::texts::Span;
@@ -67,7 +68,7 @@ pub fn held_place(cache: &[u16], i: usize) -> usize
 // The first target of the reply that is equal to the one that the entry at place i hints at; 0 where there is none.
 pub fn given_place(cache: &[u16], i: usize, reply: &[u8], kept: [Kept; 8], count: usize) -> usize
     requires { ⌜ (i < placeCount (now cache)) × ((entryAt referrals i (now cache) .hint < length (entryAt referrals i (now cache) .targets)) × ((count ≤ 8) × (every (keptFits (now reply)) (take count kept) ≡ true))) ⌝ }
-    ensures { λ r. ⌜ r ≡ firstEqual 0 (hinted (entryAt referrals i (now (cache .entry)))) (map (heldTarget (now (reply .entry))) (take count kept)) ⌝ }
+    ensures { λ r. ⌜ r ≡ firstEqual 0 (hinted (entryAt referrals i (now (cache .entry)))) (map (targetShown (now (reply .entry))) (take count kept)) ⌝ }
 {
     let hint = cache_lookup::target_hint(cache, i) as usize;
     let path = cache_lookup::target(cache, i, hint);

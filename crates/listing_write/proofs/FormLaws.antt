@@ -12,7 +12,8 @@ use Rattle.laws.specs.Lists.{pasted, part}
 use Rattle.laws.specs.Listed.{listed}
 use Rattle.laws.proofs.Listed.{drop-listed, drop-listed-end}
 use Rattle.cache.specs.places.Layout.{placeAt, placeCount, textAt, roomAt, listCount, flagUnit, unitAt}
-use Rattle.cache.specs.order.Entries.{Target, Referral}
+use Rattle.unc.specs.names.Paths.{Target}
+use Rattle.cache.specs.order.Entries.{Referral}
 use Rattle.cache.specs.order.Memory.{referrals, referralOf, targetOf, decode}
 use Rattle.cache.proofs.order.MemoryLaws.{drop-decode, drop-decode-end, place-free, place-used}
 use Rattle.listing_spelling.specs.spell.Spelling.{spelled, decimalIn, decimal, Put}

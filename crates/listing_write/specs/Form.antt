@@ -3,7 +3,8 @@ use Prim.Native.Nat.{ℕ}
 use mathlib.Core.Bool.{Bool, true, false}
 use mathlib.Core.List.{List, [], _∷_, _++_}
 use Rattle.cache.specs.places.Layout.{flagUnit}
-use Rattle.cache.specs.order.Entries.{Target, Referral, Place, free, used}
+use Rattle.unc.specs.names.Paths.{Target}
+use Rattle.cache.specs.order.Entries.{Referral, Place, free, used}
 use Rattle.listing_spelling.specs.spell.Spelling.{spelled, decimal}
 
 -- prefix=

@@ -17,10 +17,10 @@ use Rattle.laws.proofs.Orders.{told}
 use Rattle.laws.proofs.Listed.{listed-same, listed-getD, getD-map}
 use mathlib.Core.Logic.{_⊎_, inl, inr}
 use Rattle.unc.specs.names.Names.{goodName, goodComponent, nothingOrDots}
-use Rattle.unc.specs.names.Paths.{normalisedCount, isNormalised, componentCount}
+use Rattle.unc.specs.names.Paths.{normalisedCount, isNormalised, componentCount, Target}
 use Rattle.cache.specs.places.Layout.{unitAt, wideAt, flagAt, flagUnit, textAt, listCount, written, countUnit, hintUnit, rootUnit, headUnits}
 use Rattle.cache.proofs.places.WrittenLaws.{Shaped, length-written, written-length, written-count, written-hint, written-mark, written-setting, written-text}
-use Rattle.cache.specs.order.Entries.{Target, Referral, Domain}
+use Rattle.cache.specs.order.Entries.{Referral, Domain}
 use Rattle.cache.specs.order.Order.{goodPrefix, goodTarget, firstOpensNone, goodReferral, goodDomain, goodDCHint}
 use Rattle.cache.specs.order.Memory.{targetOf, referralOf, referralSettings, referralUnits, domainOf, domainUnits, referrals, domains}
 use Rattle.cache.proofs.order.MemoryLaws.{Lawful}

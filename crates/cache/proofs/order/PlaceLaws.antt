@@ -23,7 +23,8 @@ use Rattle.cache.specs.places.Code.{placeTexts, marksOf, settingsOf, tid
 use Rattle.cache.proofs.places.WrittenLaws.{same-written, written-mark, written-setting}
 use Rattle.cache.proofs.places.TidyLaws.{tidy-told}
 use Rattle.cache.proofs.places.ZeroLaws.{zero-at, zeros-all}
-use Rattle.cache.specs.order.Entries.{Target, Referral}
+use Rattle.unc.specs.names.Paths.{Target}
+use Rattle.cache.specs.order.Entries.{Referral}
 use Rattle.cache.specs.order.Order.{goodPrefix, firstOpensNone, goodReferral, goodDomain, goodDCHint}
 use Rattle.cache.specs.order.Memory.{targetOf, referralOf, referralSettings, referralUnits, domainOf, domainUnits}
 use Rattle.cache.specs.order.Code.{goodText, goodTexts, goodFlags}

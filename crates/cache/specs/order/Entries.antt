@@ -2,11 +2,7 @@
 use Prim.Native.Nat.{ℕ}
 use mathlib.Core.Bool.{Bool}
 use mathlib.Core.List.{List}
-
--- a target, and whether a new set opens before it (a set boundary)
-pub record Target : Type 0 where
-  pub path : List ℕ
-  pub opens : Bool
+use Rattle.unc.specs.names.Paths.{Target}
 
 -- a referral entry: root (else link), Interlink, TargetFailback, TTL and the time taken in seconds, TargetHint as a place in the list
 pub record Referral : Type 0 where

@@ -8,7 +8,8 @@ use Rattle.laws.specs.Choice.{choose}
 use Rattle.laws.specs.Lists.{every}
 use Rattle.laws.specs.Listed.{listed, sameList}
 use Rattle.cache.specs.places.Layout.{placeCount, placeAt, unitAt, wideAt, wideUnits, flagAt, flagUnit, textAt, listCount, blank, written, hintUnit, markUnits, rootUnit, interlinkUnit, failbackUnit, ttlUnit, takenUnit, placeUnits}
-use Rattle.cache.specs.order.Entries.{Target, Referral, Domain, Place, free, used}
+use Rattle.unc.specs.names.Paths.{Target}
+use Rattle.cache.specs.order.Entries.{Referral, Domain, Place, free, used}
 use Rattle.cache.specs.order.Order.{goodReferral, goodDomain, distinct}
 
 -- target j of a place: text 1 + j, and mark j

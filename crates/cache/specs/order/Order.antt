@@ -7,8 +7,8 @@ use lib.Dec.{leb, ltb, eqb}
 use Rattle.laws.specs.Choice.{choose}
 use Rattle.laws.specs.Lists.{every}
 use Rattle.unc.specs.names.Names.{sameName, goodName}
-use Rattle.unc.specs.names.Paths.{normalisedCount}
-use Rattle.cache.specs.order.Entries.{Target, Referral, Domain}
+use Rattle.unc.specs.names.Paths.{normalisedCount, Target}
+use Rattle.cache.specs.order.Entries.{Referral, Domain}
 
 -- "normalised, 2 components or more": a prefix, and each target likewise
 unfoldable pub goodPrefix : List ℕ → Bool

@@ -11,7 +11,7 @@ use Rattle.laws.specs.Choice.{choose}
 use Rattle.laws.proofs.Choices.{choose-yes, choose-no, and-left, and-right, and-both}
 use Rattle.laws.proofs.Orders.{told}
 use Rattle.laws.proofs.Tests.{refuted}
-use Rattle.cache.specs.order.Entries.{Target}
+use Rattle.unc.specs.names.Paths.{Target}
 use Rattle.cache_entry.specs.equivalent_targets.Equivalence.{timesIn, sameTargets, paths, joinSet, nextOpens, sets, sameSets, equivalent}
 use Rattle.cache_entry.proofs.equivalent_targets.EquivalenceLaws.{Alike, times-append, same-alike, alike-same, same-refl, same-sym, same-trans, same-swapped}
 

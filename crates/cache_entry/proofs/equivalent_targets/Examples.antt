@@ -6,7 +6,7 @@ use Prim.Native.Nat.{ℕ}
 use Rattle.laws.specs.Choice.{choose}
 use Rattle.laws.specs.Lists.{every}
 use Rattle.unc.specs.names.Names.{folded, sameUnit, sameName}
-use Rattle.cache.specs.order.Entries.{Target}
+use Rattle.unc.specs.names.Paths.{Target}
 use Rattle.cache_entry.specs.equivalent_targets.Equivalence.{timesIn, sameTargets, paths, joinSet, nextOpens, sets, sameSets, equivalent}
 
 -- `\o1\train` and `\o2\train` were moved to `\n1\train` and `\n2\train`

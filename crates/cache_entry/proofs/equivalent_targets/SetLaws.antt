@@ -22,11 +22,11 @@ use Rattle.laws.proofs.Listed.{getD-map, length-listed, getD-listed, map-listed
 use Rattle.reply_read.specs.referral.Code.{targetShown}
 use Rattle.reply_read.specs.declared.referral.Kept.{Kept}
 use Rattle.cache.specs.places.Layout.{placeAt, unitAt, flagAt, listCount, markUnits}
-use Rattle.cache.specs.order.Entries.{Target}
+use Rattle.unc.specs.names.Paths.{Target}
 use Rattle.cache.specs.order.Memory.{referralOf, targetOf}
 use Rattle.cache_lookup.specs.Code.{entryAt}
 use Rattle.cache_entry.specs.equivalent_targets.Equivalence.{sameTargets, paths, joinSet, nextOpens, sets, sameSets, equivalent}
-use Rattle.cache_entry.specs.equivalent_targets.Code.{heldTargets, givenPath, givenTargets, boundaries, givenBoundaries, beforeBoundary, setEnd}
+use Rattle.cache_entry.specs.equivalent_targets.Code.{heldTargets, givenPath, boundaries, givenBoundaries, beforeBoundary, setEnd}
 
 first-part : {A : Type 0} (n : ℕ) (xs : List A) → take n xs ≡ part 0 n xs
 unfolding part
@@ -169,32 +169,26 @@ sets-none ts a h = rw (drop-of-length-le ts h)
 
 -- the kept targets of a reply
 module _ (r : List ℕ) (ks : List Kept) where
-  given-boundaries : boundaries (givenTargets r ks) ≡ givenBoundaries ks
-  unfolding boundaries givenTargets givenBoundaries
-  given-boundaries = map-map (λ (t : Target). t .opens) (λ (k : Kept). record { path = givenPath r k; opens = k .opens }) ks
+  given-boundaries : boundaries (map (targetShown r) ks) ≡ givenBoundaries ks
+  unfolding boundaries targetShown givenBoundaries
+  given-boundaries = map-map (λ (t : Target). t .opens) (targetShown r) ks
 
-  given-paths : paths (givenTargets r ks) ≡ map (givenPath r) ks
-  unfolding paths givenTargets
-  given-paths = map-map (λ (t : Target). t .path) (λ (k : Kept). record { path = givenPath r k; opens = k .opens }) ks
-
--- they are the targets that the reply shows
-pub given-shown : (r : List ℕ) (ks : List Kept) → givenTargets r ks ≡ map (λ t. record { path = t .path; opens = t .opens }) (map (targetShown r) ks)
-unfolding givenTargets givenPath targetShown
-given-shown r ks = sym (map-map _ (targetShown r) ks)
+  given-paths : paths (map (targetShown r) ks) ≡ map (givenPath r) ks
+  unfolding paths targetShown givenPath
+  given-paths = map-map (λ (t : Target). t .path) (targetShown r) ks
 
 module _ (r : List ℕ) (ks : List Kept) (n : ℕ) where
-  given-count : n ≤ length ks → length (givenTargets r (take n ks)) ≡ n
-  unfolding givenTargets
-  given-count few = length-map (take n ks) (λ (k : Kept). record { path = givenPath r k; opens = k .opens }) ∙ length-take-le n ks few
+  given-count : n ≤ length ks → length (map (targetShown r) (take n ks)) ≡ n
+  given-count few = length-map (take n ks) (targetShown r) ∙ length-take-le n ks few
 
-  pub given-part : (b k : ℕ) → b + k ≤ n → part b k (paths (givenTargets r (take n ks))) ≡ part b k (map (givenPath r) ks)
+  pub given-part : (b k : ℕ) → b + k ≤ n → part b k (paths (map (targetShown r) (take n ks))) ≡ part b k (map (givenPath r) ks)
   given-part b k h =
       ap (part b k) (given-paths r (take n ks) ∙ (map-take (givenPath r) n ks ∙ first-part n (map (givenPath r) ks)))
       ∙ (part-part b k 0 n (map (givenPath r) ks) h ∙ rw (zero-add b))
 
 -- The comparison set by set, from the entry's place a and the reply's place b on.
 abbrev pub setsFrom : ℕ → List ℕ → List ℕ → List Kept → ℕ → ℕ → Bool
-setsFrom i raw r ks a b = sameSets (sets (drop a (heldTargets i raw))) (sets (drop b (givenTargets r ks)))
+setsFrom i raw r ks a b = sameSets (sets (drop a (heldTargets i raw))) (sets (drop b (map (targetShown r) ks)))
 
 held-length : (i : ℕ) (raw : List ℕ) → length (heldTargets i raw) ≡ listCount (placeAt i raw)
 unfolding heldTargets entryAt referralOf
@@ -219,7 +213,7 @@ module _ (i : ℕ) (raw r : List ℕ) (ks : List Kept) (n a b : ℕ) where
   pub sets-short : a < listCount (placeAt i raw) → n ≤ b → n ≤ length ks → setsFrom i raw r (take n ks) a b ≡ false
   unfolding sameSets
   sets-short h k few =
-      rw (sets-at (heldTargets i raw) a (omega (arith, held-length i raw)), sets-none (givenTargets r (take n ks)) b (omega (arith, given-count r ks n few)))
+      rw (sets-at (heldTargets i raw) a (omega (arith, held-length i raw)), sets-none (map (targetShown r) (take n ks)) b (omega (arith, given-count r ks n few)))
 
   -- the entry has no more set
   pub sets-end : listCount (placeAt i raw) ≤ a → n ≤ length ks → leb n b ≡ setsFrom i raw r (take n ks) a b
@@ -227,9 +221,9 @@ module _ (i : ℕ) (raw r : List ℕ) (ks : List Kept) (n a b : ℕ) where
   sets-end h few =
       rw (sets-none (heldTargets i raw) a (omega (arith, held-length i raw))) (go (lt-or-le b n))
     where
-      go : (b < n) ⊎ (n ≤ b) → leb n b ≡ sameSets [] (sets (drop b (givenTargets r (take n ks))))
-      go (inl k) = lt-leb _ _ k ∙ rw (sets-at (givenTargets r (take n ks)) b (omega (arith, given-count r ks n few)))
-      go (inr k) = le-leb _ _ k ∙ rw (sets-none (givenTargets r (take n ks)) b (omega (arith, given-count r ks n few)))
+      go : (b < n) ⊎ (n ≤ b) → leb n b ≡ sameSets [] (sets (drop b (map (targetShown r) (take n ks))))
+      go (inl k) = lt-leb _ _ k ∙ rw (sets-at (map (targetShown r) (take n ks)) b (omega (arith, given-count r ks n few)))
+      go (inr k) = le-leb _ _ k ∙ rw (sets-none (map (targetShown r) (take n ks)) b (omega (arith, given-count r ks n few)))
 
   module _ {x y : ℕ} (held : x ≡ setEnd a (boundaries (heldTargets i raw))) (given : y ≡ setEnd b (givenBoundaries (take n ks))) {v : Bool}
       (is : v ≡ sameTargets (part a (x - a) (paths (heldTargets i raw))) (part b (y - b) (map (givenPath r) ks)))
@@ -239,18 +233,18 @@ module _ (i : ℕ) (raw r : List ℕ) (ks : List Kept) (n a b : ℕ) where
         sets-at (heldTargets i raw) a (omega (arith, held-length i raw))
         ∙ ap (λ (e : ℕ). part a (e - a) (paths (heldTargets i raw)) ∷ sets (drop e (heldTargets i raw))) (sym held)
 
-    given-at : sets (drop b (givenTargets r (take n ks))) ≡ part b (y - b) (map (givenPath r) ks) ∷ sets (drop y (givenTargets r (take n ks)))
+    given-at : sets (drop b (map (targetShown r) (take n ks))) ≡ part b (y - b) (map (givenPath r) ks) ∷ sets (drop y (map (targetShown r) (take n ks)))
     given-at =
         let w = given-within ks n b given k few in
-        sets-at (givenTargets r (take n ks)) b (omega (arith, given-count r ks n few))
-        ∙ (ap (λ (e : ℕ). part b (e - b) (paths (givenTargets r (take n ks))) ∷ sets (drop e (givenTargets r (take n ks))))
+        sets-at (map (targetShown r) (take n ks)) b (omega (arith, given-count r ks n few))
+        ∙ (ap (λ (e : ℕ). part b (e - b) (paths (map (targetShown r) (take n ks))) ∷ sets (drop e (map (targetShown r) (take n ks))))
         (ap (setEnd b) (given-boundaries r (take n ks)) ∙ sym given)
-        ∙ ap (λ (s : List (List ℕ)). s ∷ sets (drop y (givenTargets r (take n ks)))) (given-part r ks n b (y - b) (omega arith)))
+        ∙ ap (λ (s : List (List ℕ)). s ∷ sets (drop y (map (targetShown r) (take n ks)))) (given-part r ks n b (y - b) (omega arith)))
 
     sets-next : setsFrom i raw r (take n ks) a b ≡ (v && setsFrom i raw r (take n ks) x y)
     unfolding sameSets
     sets-next =
-        ap (λ (l : List (List (List ℕ))). sameSets l (sets (drop b (givenTargets r (take n ks))))) held-at
+        ap (λ (l : List (List (List ℕ))). sameSets l (sets (drop b (map (targetShown r) (take n ks))))) held-at
         ∙ (ap (λ (l : List (List (List ℕ))). sameSets (part a (x - a) (paths (heldTargets i raw)) ∷ sets (drop x (heldTargets i raw))) l) given-at
         ∙ ap (λ (w : Bool). w && setsFrom i raw r (take n ks) x y) (sym is))
 
@@ -262,21 +256,21 @@ module _ (i : ℕ) (raw r : List ℕ) (ks : List Kept) (n a b : ℕ) where
 
 -- the two ways of the equivalence check
 module _ (version i : ℕ) (raw r : List ℕ) (ks : List Kept) (n : ℕ) where
-  pub by-sets : version ≡ 4 → {v : Bool} → v ≡ sameSets (sets (heldTargets i raw)) (sets (givenTargets r (take n ks)))
-      → v ≡ equivalent version (heldTargets i raw) (givenTargets r (take n ks))
+  pub by-sets : version ≡ 4 → {v : Bool} → v ≡ sameSets (sets (heldTargets i raw)) (sets (map (targetShown r) (take n ks)))
+      → v ≡ equivalent version (heldTargets i raw) (map (targetShown r) (take n ks))
   unfolding equivalent
   by-sets h e = e ∙ sym (choose-yes _ _ (eq-eqb version 4 h))
 
   pub by-targets : (version ≡ 4 → ⊥) → {m : ℕ} → m ≡ listCount (placeAt i raw) → n ≤ length ks → {v : Bool}
       → v ≡ sameTargets (part 0 (m - 0) (paths (heldTargets i raw))) (part 0 (n - 0) (map (givenPath r) ks))
-      → v ≡ equivalent version (heldTargets i raw) (givenTargets r (take n ks))
+      → v ≡ equivalent version (heldTargets i raw) (map (targetShown r) (take n ks))
   unfolding equivalent
   by-targets h {m} is few e =
-      let k : length (paths (givenTargets r (take n ks))) ≡ n - 0 =
-      omega (arith, length-paths (givenTargets r (take n ks)), given-count r ks n few) in
+      let k : length (paths (map (targetShown r) (take n ks))) ≡ n - 0 =
+      omega (arith, length-paths (map (targetShown r) (take n ks)), given-count r ks n few) in
       let l : length (paths (heldTargets i raw)) ≡ m - 0 = omega (arith, length-paths (heldTargets i raw), held-length i raw) in
       e
       ∙ (ap (λ (s : List (List ℕ)). sameTargets s (part 0 (n - 0) (map (givenPath r) ks))) (part-whole (paths (heldTargets i raw)) (m - 0) l)
       ∙ (ap (sameTargets (paths (heldTargets i raw)))
-      (sym (given-part r ks n 0 (n - 0) (omega arith)) ∙ part-whole (paths (givenTargets r (take n ks))) (n - 0) k)
+      (sym (given-part r ks n 0 (n - 0) (omega arith)) ∙ part-whole (paths (map (targetShown r) (take n ks))) (n - 0) k)
       ∙ sym (choose-no _ _ (ne-eqb version 4 h))))

@@ -12,7 +12,7 @@ use Rattle.cache.specs.places.Layout.{written, flagUnit, countUnit, markUnits}
 use Rattle.cache.specs.places.Code.{putUnit, putText}
 use Rattle.cache.proofs.places.WrittenLaws.{Shaped}
 use Rattle.cache.proofs.places.PutLaws.{put-text, put-mark, shape-text, shape-mark, blank-written}
-use Rattle.cache.specs.order.Entries.{Target}
+use Rattle.unc.specs.names.Paths.{Target}
 use Rattle.cache_entry.specs.write_entry.Code.{addText, addTarget, addDc, addAll, begun}
 use Rattle.cache_entry.proofs.write_entry.WritingLaws.{short, shortName}
 

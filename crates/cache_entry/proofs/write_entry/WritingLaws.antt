@@ -16,14 +16,15 @@ use Rattle.laws.proofs.Listed.{getD-map}
 use Rattle.laws.proofs.Pasting.{length-pasted, length-roomed}
 use Rattle.reply_bytes.specs.texts.Code.{spanned, Inside}
 use Rattle.reply_bytes.proofs.texts.UnitLaws.{length-spanned}
-use Rattle.cache.specs.order.Entries.{Target}
+use Rattle.unc.specs.names.Paths.{Target}
 use Rattle.cache.proofs.order.MemoryLaws.{length-blank}
 use Rattle.reply_read.specs.declared.referral.Kept.{Kept}
 use Rattle.cache.specs.places.Layout.{placeCount, placeAt, flagUnit, wideUnits, blank, countUnit, markUnits}
 use Rattle.cache.specs.places.Code.{changed, putUnit, putText, putSettings}
 use Rattle.cache.proofs.places.LayoutLaws.{length-place, changed-again, changed-none}
 use Rattle.cache.proofs.places.WriterLaws.{length-putUnit, text-put}
-use Rattle.cache_entry.specs.write_entry.Code.{addText, addTarget, addDc, addAll, begun, heldTarget, keptFits, settings}
+use Rattle.reply_read.specs.referral.Code.{targetShown}
+use Rattle.cache_entry.specs.write_entry.Code.{addText, addTarget, addDc, addAll, begun, keptFits, settings}
 
 pub flag-one : (b : Bool) → b ≡ true → 1 ≡ flagUnit b
 unfolding flagUnit
@@ -84,11 +85,11 @@ pub kept-short : (r : List ℕ) (k : Kept) → keptFits r k ≡ true → k .path
 unfolding keptFits
 kept-short r k h = leb-true _ _ (and-right (leb (k .path .from + 2 * k .path .units) (length r)) _ h)
 
-held-short : (r : List ℕ) (k : Kept) → keptFits r k ≡ true → short (heldTarget r k) ≡ true
-unfolding heldTarget
+held-short : (r : List ℕ) (k : Kept) → keptFits r k ≡ true → short (targetShown r k) ≡ true
+unfolding targetShown
 held-short r k h = le-leb (length (spanned r (k .path))) 256 (rw (length-spanned r (k .path)) (kept-short r k h))
 
-pub all-short : (r : List ℕ) (ks : List Kept) → every (keptFits r) ks ≡ true → every short (map (heldTarget r) ks) ≡ true
+pub all-short : (r : List ℕ) (ks : List Kept) → every (keptFits r) ks ≡ true → every short (map (targetShown r) ks) ≡ true
 unfolding every
 all-short r [] h = refl
 all-short r (k ∷ ks) h = and-both (held-short r k (and-left (keptFits r k) _ h)) (all-short r ks (and-right (keptFits r k) _ h))
@@ -108,9 +109,9 @@ pub length-shown : {K A : Type 0} (f : K → A) (kept : List K) (count : ℕ) �
 length-shown f kept count h = length-map (take count kept) f ∙ length-take-le count kept h
 
 pub path-at : (r : List ℕ) (kept : List Kept) (count n : ℕ) (d : Kept) (z : Target) → count ≤ length kept → n < count
-    → spanned r (getD kept n d .path) ≡ getD (map (heldTarget r) (take count kept)) n z .path
-unfolding heldTarget
-path-at r kept count n d z h k = ap (λ (t : Target). t .path) (sym (shown-at kept count n d h k (heldTarget r) z))
+    → spanned r (getD kept n d .path) ≡ getD (map (targetShown r) (take count kept)) n z .path
+unfolding targetShown
+path-at r kept count n d z h k = ap (λ (t : Target). t .path) (sym (shown-at kept count n d h k (targetShown r) z))
 
 module _ (raw : List ℕ) (i : ℕ) (fits : i < placeCount raw) where
   pub whole : (f : List ℕ → List ℕ) → Keeps f → length (f (placeAt i raw)) ≡ 2336
@@ -139,8 +140,8 @@ module _ (raw : List ℕ) (i : ℕ) (fits : i < placeCount raw) where
   settings-written root interlink failback a b c x y u v w h = h ∙ (λ j. changed i (putSettings (u j ∷ v j ∷ w j ∷ (wideUnits x ++ wideUnits y))) raw)
 
   pub target-added : (n v : ℕ) (r : List ℕ) (k : Kept) {m o : List ℕ} → keptFits r k ≡ true → n < 8 → v ≡ flagUnit (k .opens)
-      → m ≡ changed i (addText (1 + n) (spanned r (k .path))) raw → o ≡ changed i (putUnit (markUnits + n) v) m → o ≡ changed i (addTarget n (heldTarget r k)) raw
-  unfolding addTarget heldTarget
+      → m ≡ changed i (addText (1 + n) (spanned r (k .path))) raw → o ≡ changed i (putUnit (markUnits + n) v) m → o ≡ changed i (addTarget n (targetShown r k)) raw
+  unfolding addTarget targetShown
   target-added n v r k {m} f h e a c =
       then-changed (addText (1 + n) (spanned r (k .path))) (putUnit (markUnits + n) (flagUnit (k .opens)))
       (keeps-added (1 + n) (spanned r (k .path)) (omega arith) (rw (length-spanned r (k .path)) (kept-short r k f)))

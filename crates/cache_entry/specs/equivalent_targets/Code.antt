@@ -7,7 +7,7 @@ use lib.ListN.{length, getD, drop}
 use Rattle.laws.specs.Choice.{choose}
 use Rattle.laws.specs.Listed.{listed}
 use Rattle.unc.specs.names.Names.{sameName}
-use Rattle.cache.specs.order.Entries.{Target}
+use Rattle.unc.specs.names.Paths.{Target}
 use Rattle.cache.specs.order.Memory.{referrals}
 use Rattle.cache_lookup.specs.Code.{entryAt}
 use Rattle.reply_bytes.specs.texts.Code.{spanned, Inside}
@@ -76,10 +76,6 @@ heldTargets i raw = entryAt referrals i raw .targets
 -- the path of a kept target of a reply
 unfoldable pub givenPath : List ℕ → Kept → List ℕ
 givenPath r k = spanned r (k .path)
-
--- the kept targets of a reply
-unfoldable pub givenTargets : List ℕ → List Kept → List Target
-givenTargets r ks = map (λ k. record { path = givenPath r k; opens = k .opens }) ks
 
 -- the set boundaries of the two lists
 unfoldable pub boundaries : List Target → List Bool

@@ -6,7 +6,7 @@ use lib.Dec.{eqb}
 use Rattle.laws.specs.Choice.{choose}
 use Rattle.laws.specs.Lists.{every}
 use Rattle.unc.specs.names.Names.{sameName}
-use Rattle.cache.specs.order.Entries.{Target}
+use Rattle.unc.specs.names.Paths.{Target}
 
 -- how many of the names are equal to this one
 unfoldable pub timesIn : List ℕ → List (List ℕ) → ℕ

@@ -7,7 +7,7 @@ use lib.ListN.{length}
 use lib.Dec.{leb}
 use Rattle.cache.specs.places.Code.{putUnit, putText}
 use Rattle.cache.specs.places.Layout.{flagUnit, wideUnits, blank, countUnit, markUnits, roomUnits}
-use Rattle.cache.specs.order.Entries.{Target}
+use Rattle.unc.specs.names.Paths.{Target}
 use Rattle.reply_bytes.specs.texts.Code.{spanned}
 use Rattle.reply_read.specs.declared.referral.Kept.{Kept}
 
@@ -27,10 +27,6 @@ addDc n name piece = addText (1 + n) name piece
 unfoldable pub addAll : {A : Type 0} → (ℕ → A → List ℕ → List ℕ) → ℕ → List A → List ℕ → List ℕ
 addAll add n [] piece = piece
 addAll add n (a ∷ l) piece = addAll add (n + 1) l (add n a piece)
-
--- a target of a reply, as a cache holds it
-unfoldable pub heldTarget : List ℕ → Kept → Target
-heldTarget r k = record { path = spanned r (k .path); opens = k .opens }
 
 -- a kept target lies inside the reply and fits its room
 unfoldable pub keptFits : List ℕ → Kept → Bool

@@ -11,7 +11,8 @@ use Rattle.laws.proofs.Choices.{and-left, and-right, and-both}
 use Rattle.cache.specs.places.Layout.{written}
 use Rattle.cache.specs.places.Code.{putSettings, keyOnly}
 use Rattle.cache.proofs.places.PutLaws.{put-settings, key-only}
-use Rattle.cache.specs.order.Entries.{Target, Referral}
+use Rattle.unc.specs.names.Paths.{Target}
+use Rattle.cache.specs.order.Entries.{Referral}
 use Rattle.cache.specs.order.Order.{goodPrefix, goodTarget, goodReferral}
 use Rattle.cache.specs.order.Memory.{referralSettings, referralUnits}
 use Rattle.cache.proofs.order.KindLaws.{GoodReferral, referral-told, referral-shape, prefix-short}

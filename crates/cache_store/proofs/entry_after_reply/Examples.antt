@@ -6,10 +6,11 @@ use Prim.Native.Nat.{ℕ}
 use Rattle.laws.specs.Choice.{choose}
 use Rattle.laws.specs.Lists.{every}
 use Rattle.unc.specs.names.Names.{folded, sameUnit, sameName}
-use Rattle.cache.specs.order.Entries.{Target, Referral}
+use Rattle.unc.specs.names.Paths.{Target}
+use Rattle.cache.specs.order.Entries.{Referral}
 use Rattle.reply_read.specs.referral.Replies as replies
 use Rattle.cache_entry.specs.equivalent_targets.Equivalence.{timesIn, sameTargets, paths, joinSet, nextOpens, sets, sameSets, equivalent}
-use Rattle.cache_store.specs.entry_after_reply.Stored.{targetsIn, firstEqual, hinted, inFirstSet, failedBack, targetsAfter, refreshed}
+use Rattle.cache_store.specs.entry_after_reply.Stored.{firstEqual, hinted, inFirstSet, failedBack, targetsAfter, refreshed}
 
 abbrev share : ℕ → ℕ → List ℕ
 share a b = 92 ∷ a ∷ b ∷ 92 ∷ 116 ∷ 114 ∷ 97 ∷ 105 ∷ 110 ∷ []
@@ -55,5 +56,5 @@ pub train-refreshed : refreshed train moved false 500
       targets = target 110 49 ∷ target 110 50 ∷ [];
       hint = 0;
     }
-unfolding refreshed targetsAfter targetsIn hinted firstEqual failedBack inFirstSet equivalent sets nextOpens joinSet sameSets sameTargets paths timesIn every sameName sameUnit folded choose
+unfolding refreshed targetsAfter hinted firstEqual failedBack inFirstSet equivalent sets nextOpens joinSet sameSets sameTargets paths timesIn every sameName sameUnit folded choose
 train-refreshed = refl

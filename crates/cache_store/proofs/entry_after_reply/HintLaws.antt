@@ -15,7 +15,8 @@ use Rattle.laws.proofs.Tests.{both-ways}
 use Rattle.laws.proofs.Listed.{getD-map}
 use Rattle.unc.specs.names.Names.{sameName}
 use Rattle.unc.proofs.names.NameLaws.{sameName-sym}
-use Rattle.cache.specs.order.Entries.{Target, Referral}
+use Rattle.unc.specs.names.Paths.{Target}
+use Rattle.cache.specs.order.Entries.{Referral}
 use Rattle.cache_lookup.specs.Lookup.{targetPath}
 use Rattle.cache_lookup.specs.Code.{targetOpens}
 use Rattle.cache.specs.places.Code.{changed, putUnit}

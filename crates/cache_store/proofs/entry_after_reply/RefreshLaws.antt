@@ -14,7 +14,8 @@ use Rattle.unc.specs.names.Names.{sameName}
 use Rattle.cache.specs.places.Layout.{placeCount, placeAt, hintUnit}
 use Rattle.cache.specs.places.Code.{changed, putUnit, putSettings, keyOnly}
 use Rattle.cache.proofs.places.LayoutLaws.{place-changed, length-changed}
-use Rattle.cache.specs.order.Entries.{Target, Referral}
+use Rattle.unc.specs.names.Paths.{Target}
+use Rattle.cache.specs.order.Entries.{Referral}
 use Rattle.cache.specs.order.Order.{goodReferral}
 use Rattle.cache.specs.order.Memory.{referrals, referralUnits, referralOf}
 use Rattle.cache.proofs.order.KindLaws.{referral-told, good-referral, referrals-lawful}
@@ -23,10 +24,10 @@ use Rattle.cache_lookup.specs.Lookup.{targetHintTo}
 use Rattle.cache_lookup.proofs.EntryLaws.{target-hint-units}
 use Rattle.reply_read.specs.referral.Replies as replies
 use Rattle.cache_entry.specs.equivalent_targets.Equivalence.{equivalent}
-use Rattle.cache_store.specs.entry_after_reply.Stored.{targetsIn, targetsAfter, firstEqual, hinted, failedBack, refreshed, fresh}
-use Rattle.reply_read.specs.referral.Code.{referralShown}
+use Rattle.cache_store.specs.entry_after_reply.Stored.{targetsAfter, firstEqual, hinted, failedBack, refreshed, fresh}
+use Rattle.reply_read.specs.referral.Code.{referralShown, targetShown}
 use Rattle.reply_read.specs.declared.referral.ReferralFound.{ReferralFound}
-use Rattle.cache_entry.specs.write_entry.Code.{addAll, addTarget, settings, heldTarget}
+use Rattle.cache_entry.specs.write_entry.Code.{addAll, addTarget, settings}
 use Rattle.cache_store.specs.entry_after_reply.Code.{Storable, HeldEntry}
 use Rattle.cache_entry.proofs.write_entry.WritingLaws.{Keeps, keeps-unit, keeps-pasted, keeps-both, then-changed, changed-same}
 use Rattle.cache_store.proofs.entry_after_reply.EntryLaws.{entry-settled, entry-replaced}
@@ -90,27 +91,27 @@ based e q interlink clock ts hint = record {
 }
 
 module _ (e : Referral) (q : replies.Referral) (interlink : Bool) (clock : ℕ) where
-  pub refreshed-held : {r : Bool} → r ≡ equivalent (q .version) (e .targets) (targetsIn q) → r ≡ true → (h : ℕ)
+  pub refreshed-held : {r : Bool} → r ≡ equivalent (q .version) (e .targets) (q .targets) → r ≡ true → (h : ℕ)
       → targetHintTo (failedBack (q .failback) (e .targets) (firstEqual 0 (hinted e) (e .targets))) (based e q interlink clock (e .targets) h) ≡ refreshed e q interlink clock
   unfolding refreshed targetsAfter targetHintTo
-  refreshed-held f g h = rw (choose-yes (e .targets) (targetsIn q) (sym f ∙ g))
+  refreshed-held f g h = rw (choose-yes (e .targets) (q .targets) (sym f ∙ g))
 
-  pub refreshed-given : {r : Bool} → r ≡ equivalent (q .version) (e .targets) (targetsIn q) → r ≡ false → (h : ℕ)
-      → targetHintTo (failedBack (q .failback) (targetsIn q) (firstEqual 0 (hinted e) (targetsIn q))) (based e q interlink clock (targetsIn q) h) ≡ refreshed e q interlink clock
+  pub refreshed-given : {r : Bool} → r ≡ equivalent (q .version) (e .targets) (q .targets) → r ≡ false → (h : ℕ)
+      → targetHintTo (failedBack (q .failback) (q .targets) (firstEqual 0 (hinted e) (q .targets))) (based e q interlink clock (q .targets) h) ≡ refreshed e q interlink clock
   unfolding refreshed targetsAfter targetHintTo
-  refreshed-given f g h = rw (choose-no (e .targets) (targetsIn q) (sym f ∙ g))
+  refreshed-given f g h = rw (choose-no (e .targets) (q .targets) (sym f ∙ g))
 
   pub held-good : goodReferral e ≡ true → goodReferral (based e q interlink clock (e .targets) (e .hint)) ≡ true
   held-good good =
       let g = referral-told e good in
       good-referral (based e q interlink clock (e .targets) (e .hint)) (record { prefixed = g .prefixed; some = g .some; few = g .few; each = g .each; first = g .first; hinted = g .hinted })
 
-  pub given-good : goodReferral e ≡ true → goodReferral (fresh q false 0) ≡ true → goodReferral (based e q interlink clock (targetsIn q) 0) ≡ true
+  pub given-good : goodReferral e ≡ true → goodReferral (fresh q false 0) ≡ true → goodReferral (based e q interlink clock (q .targets) 0) ≡ true
   unfolding fresh
   given-good good fine =
       let g = referral-told e good in
       let f = referral-told (fresh q false 0) fine in
-      good-referral (based e q interlink clock (targetsIn q) 0) (record { prefixed = g .prefixed; some = f .some; few = f .few; each = f .each; first = f .first; hinted = f .some })
+      good-referral (based e q interlink clock (q .targets) 0) (record { prefixed = g .prefixed; some = f .some; few = f .few; each = f .each; first = f .first; hinted = f .some })
 
 zeroed-keeps : (m n : ℕ) → m ≤ 31 → n ≤ 2048 → Keeps (λ p. pasted (pasted p 1 (replicate m 0)) 288 (replicate n 0))
 zeroed-keeps m n u v =
@@ -119,11 +120,11 @@ zeroed-keeps m n u v =
     keeps-both (λ p. pasted p 1 (replicate m 0)) (λ p. pasted p 288 (replicate n 0)) (keeps-pasted 1 (replicate m 0) (omega arith)) (keeps-pasted 288 (replicate n 0) (omega arith))
 
 -- what a refresh with another list leaves in the place, up to the hint
-given-entry : (raw : List ℕ) (i : ℕ) → HeldEntry i raw → (r : List ℕ) (f : ReferralFound) (interlink : Bool) (clock : ℕ) → goodReferral (based (entryAt referrals i raw) (referralShown r f) interlink clock (targetsIn (referralShown r f)) 0) ≡ true
-    → putSettings (settings (f .root) interlink (f .failback) (f .ttl) clock) (addAll addTarget 0 (map (heldTarget r) (take (f .targets) (f .kept))) (keyOnly (referralUnits (entryAt referrals i raw)))) ≡ referralUnits (based (entryAt referrals i raw) (referralShown r f) interlink clock (targetsIn (referralShown r f)) 0)
+given-entry : (raw : List ℕ) (i : ℕ) → HeldEntry i raw → (r : List ℕ) (f : ReferralFound) (interlink : Bool) (clock : ℕ) → goodReferral (based (entryAt referrals i raw) (referralShown r f) interlink clock (referralShown r f .targets) 0) ≡ true
+    → putSettings (settings (f .root) interlink (f .failback) (f .ttl) clock) (addAll addTarget 0 (map (targetShown r) (take (f .targets) (f .kept))) (keyOnly (referralUnits (entryAt referrals i raw)))) ≡ referralUnits (based (entryAt referrals i raw) (referralShown r f) interlink clock (referralShown r f .targets) 0)
 unfolding referralShown
 given-entry raw i place r f interlink clock g =
-    entry-replaced (based (entryAt referrals i raw) (referralShown r f) interlink clock (targetsIn (referralShown r f)) 0) g refl (entryAt referrals i raw) (place .good) refl (map (heldTarget r) (take (f .targets) (f .kept))) (sym (targets-in r f))
+    entry-replaced (based (entryAt referrals i raw) (referralShown r f) interlink clock (referralShown r f .targets) 0) g refl (entryAt referrals i raw) (place .good) refl (map (targetShown r) (take (f .targets) (f .kept))) (sym (targets-in r f))
 
 -- A refresh, in its two ways, up to the hint and then whole.
 module _ (raw : List ℕ) (i : ℕ) (place : HeldEntry i raw) (r : List ℕ) (f : ReferralFound) (interlink : Bool) (clock : ℕ) where
@@ -149,7 +150,7 @@ module _ (raw : List ℕ) (i : ℕ) (place : HeldEntry i raw) (r : List ℕ) (f 
           rw (held-entry raw i (place .fits) _ good-held m (held-settled a)) k,
         )
 
-    pub held-done : {o : List ℕ} → equivalent (f .version) (entryAt referrals i raw .targets) (targetsIn (referralShown r f)) ≡ true
+    pub held-done : {o : List ℕ} → equivalent (f .version) (entryAt referrals i raw .targets) (referralShown r f .targets) ≡ true
         → o ≡ changed i (putUnit hintUnit (failedBack (f .failback) (entryAt referrals i m .targets) hint)) m
         → o ≡ changed i (λ p. referralUnits (refreshed (entryAt referrals i raw) (referralShown r f) interlink clock)) raw
     unfolding referralShown
@@ -160,39 +161,39 @@ module _ (raw : List ℕ) (i : ℕ) (place : HeldEntry i raw) (r : List ℕ) (f 
         ∙ ap (λ (x : Referral). changed i (λ p. referralUnits x) raw) (refreshed-held (entryAt referrals i raw) (referralShown r f) interlink clock refl v (entryAt referrals i raw .hint)))
 
   module _ (s : Storable r f) where
-    good-given : goodReferral (based (entryAt referrals i raw) (referralShown r f) interlink clock (targetsIn (referralShown r f)) 0) ≡ true
+    good-given : goodReferral (based (entryAt referrals i raw) (referralShown r f) interlink clock (referralShown r f .targets) 0) ≡ true
     good-given = given-good (entryAt referrals i raw) (referralShown r f) interlink clock (place .good) (s .good)
 
     keeps-keyOnly : Keeps keyOnly
     unfolding keyOnly
     keeps-keyOnly p l = zeroed-keeps 31 2048 (omega arith) (omega arith) p l
 
-    given-settled : {k l m : List ℕ} → k ≡ changed i keyOnly raw → l ≡ changed i (addAll addTarget 0 (map (heldTarget r) (take (f .targets) (f .kept)))) k → m ≡ changed i (putSettings (settings (f .root) interlink (f .failback) (f .ttl) clock)) l
-        → m ≡ changed i (λ p. referralUnits (based (entryAt referrals i raw) (referralShown r f) interlink clock (targetsIn (referralShown r f)) 0)) raw
+    given-settled : {k l m : List ℕ} → k ≡ changed i keyOnly raw → l ≡ changed i (addAll addTarget 0 (map (targetShown r) (take (f .targets) (f .kept)))) k → m ≡ changed i (putSettings (settings (f .root) interlink (f .failback) (f .ttl) clock)) l
+        → m ≡ changed i (λ p. referralUnits (based (entryAt referrals i raw) (referralShown r f) interlink clock (referralShown r f .targets) 0)) raw
     given-settled a b c =
-        then-changed raw i (place .fits) (λ p. addAll addTarget 0 (map (heldTarget r) (take (f .targets) (f .kept))) (keyOnly p)) (putSettings (settings (f .root) interlink (f .failback) (f .ttl) clock))
-        (keeps-both keyOnly (addAll addTarget 0 (map (heldTarget r) (take (f .targets) (f .kept)))) keeps-keyOnly (keeps-kept raw i (place .fits) r f s interlink clock)) (keeps-settled (f .root) interlink (f .failback) (f .ttl) clock)
-        (then-changed raw i (place .fits) keyOnly (addAll addTarget 0 (map (heldTarget r) (take (f .targets) (f .kept)))) keeps-keyOnly (keeps-kept raw i (place .fits) r f s interlink clock) a b) c
-        ∙ changed-same raw i (place .fits) (λ p. putSettings (settings (f .root) interlink (f .failback) (f .ttl) clock) (addAll addTarget 0 (map (heldTarget r) (take (f .targets) (f .kept))) (keyOnly p))) (λ p. referralUnits (based (entryAt referrals i raw) (referralShown r f) interlink clock (targetsIn (referralShown r f)) 0))
-        (ap (λ (x : List ℕ). putSettings (settings (f .root) interlink (f .failback) (f .ttl) clock) (addAll addTarget 0 (map (heldTarget r) (take (f .targets) (f .kept))) (keyOnly x))) (place .units) ∙ given-entry raw i place r f interlink clock good-given)
+        then-changed raw i (place .fits) (λ p. addAll addTarget 0 (map (targetShown r) (take (f .targets) (f .kept))) (keyOnly p)) (putSettings (settings (f .root) interlink (f .failback) (f .ttl) clock))
+        (keeps-both keyOnly (addAll addTarget 0 (map (targetShown r) (take (f .targets) (f .kept)))) keeps-keyOnly (keeps-kept raw i (place .fits) r f s interlink clock)) (keeps-settled (f .root) interlink (f .failback) (f .ttl) clock)
+        (then-changed raw i (place .fits) keyOnly (addAll addTarget 0 (map (targetShown r) (take (f .targets) (f .kept)))) keeps-keyOnly (keeps-kept raw i (place .fits) r f s interlink clock) a b) c
+        ∙ changed-same raw i (place .fits) (λ p. putSettings (settings (f .root) interlink (f .failback) (f .ttl) clock) (addAll addTarget 0 (map (targetShown r) (take (f .targets) (f .kept))) (keyOnly p))) (λ p. referralUnits (based (entryAt referrals i raw) (referralShown r f) interlink clock (referralShown r f .targets) 0))
+        (ap (λ (x : List ℕ). putSettings (settings (f .root) interlink (f .failback) (f .ttl) clock) (addAll addTarget 0 (map (targetShown r) (take (f .targets) (f .kept))) (keyOnly x))) (place .units) ∙ given-entry raw i place r f interlink clock good-given)
 
-    module _ (k l m : List ℕ) (a : k ≡ changed i keyOnly raw) (b : l ≡ changed i (addAll addTarget 0 (map (heldTarget r) (take (f .targets) (f .kept)))) k) (c : m ≡ changed i (putSettings (settings (f .root) interlink (f .failback) (f .ttl) clock)) l) (hint : ℕ)
-        (h : hint ≡ firstEqual 0 (hinted (entryAt referrals i raw)) (map (heldTarget r) (take (f .targets) (f .kept)))) where
+    module _ (k l m : List ℕ) (a : k ≡ changed i keyOnly raw) (b : l ≡ changed i (addAll addTarget 0 (map (targetShown r) (take (f .targets) (f .kept)))) k) (c : m ≡ changed i (putSettings (settings (f .root) interlink (f .failback) (f .ttl) clock)) l) (hint : ℕ)
+        (h : hint ≡ firstEqual 0 (hinted (entryAt referrals i raw)) (map (targetShown r) (take (f .targets) (f .kept)))) where
       pub given-ready : (i < placeCount m) × (hint < length (entryAt referrals i m .targets))
       unfolding fresh
       given-ready =
           let g = referral-told (fresh (referralShown r f) false 0) (s .good) in
-          let t : hint < length (targetsIn (referralShown r f)) = rw (h, ← targets-in r f) (first-within (hinted (entryAt referrals i raw)) (targetsIn (referralShown r f)) (g .some)) in (
+          let t : hint < length (referralShown r f .targets) = rw (h, ← targets-in r f) (first-within (hinted (entryAt referrals i raw)) (referralShown r f .targets) (g .some)) in (
             held-fits raw i (place .fits) _ good-given m (given-settled a b c),
             rw (held-entry raw i (place .fits) _ good-given m (given-settled a b c)) t,
           )
 
-      pub given-done : {o : List ℕ} → equivalent (f .version) ((entryAt referrals i raw) .targets) (targetsIn (referralShown r f)) ≡ false
+      pub given-done : {o : List ℕ} → equivalent (f .version) ((entryAt referrals i raw) .targets) (referralShown r f .targets) ≡ false
           → o ≡ changed i (putUnit hintUnit (failedBack (f .failback) (entryAt referrals i m .targets) hint)) m
           → o ≡ changed i (λ p. referralUnits (refreshed (entryAt referrals i raw) (referralShown r f) interlink clock)) raw
       unfolding referralShown
       given-done v d =
           held-hinted raw i (place .fits) _ good-given m (given-settled a b c) (f .failback) hint d
-          ∙ (ap (λ (x : ℕ). changed i (λ p. referralUnits (targetHintTo (failedBack (f .failback) (targetsIn (referralShown r f)) x) (based (entryAt referrals i raw) (referralShown r f) interlink clock (targetsIn (referralShown r f)) 0))) raw)
+          ∙ (ap (λ (x : ℕ). changed i (λ p. referralUnits (targetHintTo (failedBack (f .failback) (referralShown r f .targets) x) (based (entryAt referrals i raw) (referralShown r f) interlink clock (referralShown r f .targets) 0))) raw)
           (h ∙ ap (firstEqual 0 (hinted (entryAt referrals i raw))) (sym (targets-in r f)))
           ∙ ap (λ (x : Referral). changed i (λ p. referralUnits x) raw) (refreshed-given (entryAt referrals i raw) (referralShown r f) interlink clock refl v 0))

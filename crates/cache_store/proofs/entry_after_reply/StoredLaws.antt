@@ -1,7 +1,7 @@
 -- Laws of the cache after a store: the place, the entry, and that the cache stays in order.
 use mathlib.Core.Path.{_≡_, refl, sym, ap, _∙_}
 use mathlib.Core.Bool.{Bool, true, false}
-use mathlib.Core.List.{List, [], _∷_}
+use mathlib.Core.List.{List, [], _∷_, map}
 use mathlib.Core.Logic.{_⊎_, inl, inr}
 use mathlib.Core.Option.{some}
 use Prim.Native.Nat.{ℕ, _+_, _*_, _<_}
@@ -26,13 +26,12 @@ use Rattle.cache_lookup.proofs.LookupLaws.{KeyAt, key-found, used-inside, new-i
 use Rattle.cache_lookup.proofs.EntryLaws.{target-hint-good}
 use Rattle.cache_lookup.proofs.StoreLaws.{entry-good, entry-units, entry-is, kept-in-order, new-in-order}
 use Rattle.cache_entry.specs.equivalent_targets.Equivalence.{equivalent}
-use Rattle.cache_entry.specs.equivalent_targets.Code.{heldTargets, givenTargets}
-use Rattle.cache_entry.proofs.equivalent_targets.SetLaws.{given-shown}
+use Rattle.cache_entry.specs.equivalent_targets.Code.{heldTargets}
 use Rattle.reply_read.specs.referral.Replies as replies
-use Rattle.reply_read.specs.referral.Code.{referralShown, keptInside, isInside}
+use Rattle.reply_read.specs.referral.Code.{referralShown, keptInside, isInside, targetShown}
 use Rattle.reply_read.specs.declared.referral.Kept.{Kept}
 use Rattle.reply_read.specs.declared.referral.ReferralFound.{ReferralFound}
-use Rattle.cache_store.specs.entry_after_reply.Stored.{targetsIn, hinted, refreshed, fresh, stored, storedEntry, storePlace, prefixed, held, heldAt}
+use Rattle.cache_store.specs.entry_after_reply.Stored.{hinted, refreshed, fresh, stored, storedEntry, storePlace, prefixed, held, heldAt}
 use Rattle.cache_entry.specs.write_entry.Code.{keptFits}
 use Rattle.cache_store.specs.entry_after_reply.Code.{Storable, HeldEntry}
 use Rattle.cache_store.proofs.entry_after_reply.StoreLaws.{fresh-good}
@@ -50,19 +49,18 @@ all-inside r (k ∷ ks) h = and-both (kept-in r k (and-left (keptFits r k) _ h))
 
 -- the check that the code made is that of the definition
 pub equivalent-told : (raw : List ℕ) (i : ℕ) (r : List ℕ) (f : ReferralFound) {t b : Bool}
-    → t ≡ equivalent (f .version) (heldTargets i raw) (givenTargets r (take (f .targets) (f .kept))) → t ≡ b
-    → equivalent (f .version) (entryAt referrals i raw .targets) (targetsIn (referralShown r f)) ≡ b
-unfolding heldTargets targetsIn referralShown
-equivalent-told raw i r f e h =
-    ap (equivalent (f .version) (entryAt referrals i raw .targets)) (sym (given-shown r (take (f .targets) (f .kept)))) ∙ (sym e ∙ h)
+    → t ≡ equivalent (f .version) (heldTargets i raw) (map (targetShown r) (take (f .targets) (f .kept))) → t ≡ b
+    → equivalent (f .version) (entryAt referrals i raw .targets) (referralShown r f .targets) ≡ b
+unfolding heldTargets referralShown
+equivalent-told raw i r f e h = sym e ∙ h
 
 -- a refreshed entry is good
 pub refreshed-good : (e : Referral) (q : replies.Referral) (interlink : Bool) (clock : ℕ) → goodReferral e ≡ true → goodReferral (fresh q false 0) ≡ true
     → goodReferral (refreshed e q interlink clock) ≡ true
 unfolding fresh
-refreshed-good e q interlink clock h k = go (told (equivalent (q .version) (e .targets) (targetsIn q)))
+refreshed-good e q interlink clock h k = go (told (equivalent (q .version) (e .targets) (q .targets)))
   where
-    go : (equivalent (q .version) (e .targets) (targetsIn q) ≡ true) ⊎ (equivalent (q .version) (e .targets) (targetsIn q) ≡ false)
+    go : (equivalent (q .version) (e .targets) (q .targets) ≡ true) ⊎ (equivalent (q .version) (e .targets) (q .targets) ≡ false)
         → goodReferral (refreshed e q interlink clock) ≡ true
     go (inl t) =
         ap goodReferral (sym (refreshed-held e q interlink clock refl t (e .hint)))
@@ -70,8 +68,8 @@ refreshed-good e q interlink clock h k = go (told (equivalent (q .version) (e .t
         (back-within (q .failback) (e .targets) _ (first-within (hinted e) (e .targets) (referral-told e h .some)))
     go (inr t) =
         ap goodReferral (sym (refreshed-given e q interlink clock refl t 0))
-        ∙ target-hint-good _ (based e q interlink clock (targetsIn q) 0) (given-good e q interlink clock h k)
-        (back-within (q .failback) (targetsIn q) _ (first-within (hinted e) (targetsIn q) (referral-told (fresh q false 0) k .some)))
+        ∙ target-hint-good _ (based e q interlink clock (q .targets) 0) (given-good e q interlink clock h k)
+        (back-within (q .failback) (q .targets) _ (first-within (hinted e) (q .targets) (referral-told (fresh q false 0) k .some)))
 
 -- the place of a store
 module _ (clock : ℕ) (prefix : List ℕ) (ps : List (Place Referral)) where

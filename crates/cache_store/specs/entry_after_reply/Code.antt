@@ -16,7 +16,7 @@ use Rattle.reply_read.specs.referral.Code.{referralShown}
 use Rattle.reply_read.specs.declared.referral.ReferralFound.{ReferralFound}
 use Rattle.cache_entry.specs.equivalent_targets.Equivalence.{equivalent}
 use Rattle.cache_entry.specs.write_entry.Code.{keptFits}
-use Rattle.cache_store.specs.entry_after_reply.Stored.{targetsIn, refreshed, fresh}
+use Rattle.cache_store.specs.entry_after_reply.Stored.{refreshed, fresh}
 
 -- what a reply must be to be stored: its spans lie inside it, and the entry that it makes is good
 pub record Storable (r : List ℕ) (f : ReferralFound) : Type 0 where
@@ -33,7 +33,7 @@ pub record HeldEntry (i : ℕ) (raw : List ℕ) : Type 0 where
 
 -- whether the targets of the entry at place i are equivalent to those of the reply
 abbrev pub equivalentAt : ℕ → List ℕ → List ℕ → ReferralFound → Bool
-equivalentAt i raw r f = equivalent (f .version) (entryAt referrals i raw .targets) (targetsIn (referralShown r f))
+equivalentAt i raw r f = equivalent (f .version) (entryAt referrals i raw .targets) (referralShown r f .targets)
 
 -- the memory with the entry at place i refreshed, and with a new entry there
 abbrev pub refreshedAt : ℕ → List ℕ → ReferralFound → Bool → ℕ → List ℕ → List ℕ

@@ -7,17 +7,14 @@ use lib.ListN.{length, getD, take, drop, set, replicate}
 use Rattle.laws.specs.Choice.{choose}
 use Rattle.laws.specs.Lists.{every}
 use Rattle.unc.specs.names.Names.{sameName}
-use Rattle.cache.specs.order.Entries.{Target, Referral, Domain, Place, free, used}
+use Rattle.unc.specs.names.Paths.{Target}
+use Rattle.cache.specs.order.Entries.{Referral, Domain, Place, free, used}
 use Rattle.cache.specs.order.Memory.{referrals}
 use Rattle.cache_lookup.specs.Lookup.{withKey, newPlace, foundOr}
 use Rattle.cache_lookup.specs.declared.Found.{Found}
 use Rattle.cache_lookup.specs.declared.Found.the-variants.{At, Nothing}
 use Rattle.reply_read.specs.referral.Replies as replies
 use Rattle.cache_entry.specs.equivalent_targets.Equivalence.{equivalent}
-
--- the targets of a reply, as a cache holds them
-unfoldable pub targetsIn : replies.Referral → List Target
-targetsIn q = map (λ t. record { path = t .path; opens = t .opens }) (q .targets)
 
 -- "Interlink is set exactly when ReferralServers is set and StorageServers is not." The domain cache is not looked at.
 unfoldable pub isInterlink : replies.Referral → List (Place Domain) → Bool
@@ -42,7 +39,7 @@ failedBack failback ts hint = choose (failback && not (inFirstSet hint ts)) 0 hi
 
 -- "if the targets .. are equivalent, the client MUST NOT update the TargetList"
 unfoldable pub targetsAfter : Referral → replies.Referral → List Target
-targetsAfter e q = choose (equivalent (q .version) (e .targets) (targetsIn q)) (e .targets) (targetsIn q)
+targetsAfter e q = choose (equivalent (q .version) (e .targets) (q .targets)) (e .targets) (q .targets)
 
 -- An entry refreshed: the prefix keeps its spelling; all else but the targets and the hint is the reply's, and the time taken becomes now.
 unfoldable pub refreshed : Referral → replies.Referral → Bool → ℕ → Referral
@@ -66,7 +63,7 @@ fresh q interlink clock = record {
   failback = q .failback;
   ttl = q .ttl;
   taken = clock;
-  targets = targetsIn q;
+  targets = q .targets;
   hint = 0;
 }
 

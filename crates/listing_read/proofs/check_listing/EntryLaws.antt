@@ -16,7 +16,8 @@ use Rattle.laws.proofs.Choices.{choose-yes, choose-no, and-both, and-left, and-
 use Rattle.laws.proofs.Listed.{sameList-true, same-sameList}
 use Rattle.laws.proofs.Orders.{told}
 use Rattle.cache.specs.places.Layout.{flagUnit}
-use Rattle.cache.specs.order.Entries.{Target, Referral}
+use Rattle.unc.specs.names.Paths.{Target}
+use Rattle.cache.specs.order.Entries.{Referral}
 use Rattle.cache.specs.order.Order.{goodPrefix, goodTarget, firstOpensNone}
 use Rattle.cache.proofs.order.KindLaws.{GoodReferral, referral-told, good-referral}
 use Rattle.listing_spelling.specs.spell.Spelling.{spelled, decimal}

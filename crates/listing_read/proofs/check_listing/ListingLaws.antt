@@ -14,7 +14,8 @@ use Rattle.laws.proofs.Every.{every-append}
 use Rattle.laws.proofs.Tests.{refuted, both-ways, eq-or-ne}
 use Rattle.laws.proofs.Orders.{told}
 use Rattle.unc.specs.names.Names.{folded, sameUnit, sameName}
-use Rattle.cache.specs.order.Entries.{Target, Referral, used}
+use Rattle.unc.specs.names.Paths.{Target}
+use Rattle.cache.specs.order.Entries.{Referral, used}
 use Rattle.cache.specs.order.Order.{distinct}
 use Rattle.listing_spelling.specs.unspell.Reading.{unit}
 use Rattle.listing_write.specs.Form.{prefixKey, pathLine, numberLine, ended, linesText, targetLines, settingLines, countLines, entryLines, entryText, listing}

@@ -20,7 +20,8 @@ use Rattle.cache.specs.places.Code.{changed, putUnit, putSettings}
 use Rattle.cache.proofs.places.LayoutLaws.{changed-step}
 use Rattle.cache.proofs.places.WrittenLaws.{Shaped, length-written}
 use Rattle.cache.proofs.places.PutLaws.{put-settings, put-hint}
-use Rattle.cache.specs.order.Entries.{Target, Referral, used}
+use Rattle.unc.specs.names.Paths.{Target}
+use Rattle.cache.specs.order.Entries.{Referral, used}
 use Rattle.cache.specs.order.Order.{goodPrefix, goodTarget, goodReferral}
 use Rattle.cache.specs.order.Memory.{referralSettings, referralUnits}
 use Rattle.cache.proofs.order.KindLaws.{GoodReferral, referral-told, referral-shape, prefix-short}

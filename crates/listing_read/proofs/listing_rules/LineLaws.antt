@@ -14,7 +14,8 @@ use Rattle.laws.proofs.Choices.{choose-yes, choose-no, and-both, and-left, and-
 use Rattle.laws.proofs.Every.{every-append}
 use Rattle.laws.proofs.Orders.{told, lt-or-le}
 use Rattle.cache.specs.places.Layout.{flagUnit}
-use Rattle.cache.specs.order.Entries.{Target, Referral, used}
+use Rattle.unc.specs.names.Paths.{Target}
+use Rattle.cache.specs.order.Entries.{Referral, used}
 use Rattle.listing_spelling.specs.spell.Spelling.{stands, digitUnit, hexUnits, spelledUnit, spelled, decimalIn, decimal}
 use Rattle.listing_spelling.proofs.spell.SpellingLaws.{unit-stands, unit-escaped}
 use Rattle.listing_spelling.proofs.spell.DecimalLaws.{in-low, in-high}

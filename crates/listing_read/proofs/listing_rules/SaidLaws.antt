@@ -12,7 +12,8 @@ use Rattle.laws.specs.Listed.{sameList}
 use Rattle.laws.proofs.Choices.{and-both, and-left, and-right}
 use Rattle.laws.proofs.Listed.{sameList-true, same-sameList}
 use Rattle.cache.specs.places.Layout.{flagUnit}
-use Rattle.cache.specs.order.Entries.{Target, Referral, used}
+use Rattle.unc.specs.names.Paths.{Target}
+use Rattle.cache.specs.order.Entries.{Referral, used}
 use Rattle.cache.specs.order.Order.{goodReferral, distinct}
 use Rattle.cache.proofs.order.KindLaws.{referral-told}
 use Rattle.listing_spelling.specs.spell.Spelling.{spelled, decimalIn, decimal}

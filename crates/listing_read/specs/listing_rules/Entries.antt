@@ -6,7 +6,8 @@ use lib.ListN.{getD, drop}
 use lib.Dec.{eqb}
 use Rattle.laws.specs.Choice.{choose}
 use Rattle.laws.specs.Listed.{sameList}
-use Rattle.cache.specs.order.Entries.{Target, Referral}
+use Rattle.unc.specs.names.Paths.{Target}
+use Rattle.cache.specs.order.Entries.{Referral}
 use Rattle.listing_write.specs.Form.{kindWord}
 use Rattle.listing_spelling.specs.unspell.Reading.{unspelled, decimalOf}
 

@@ -15,9 +15,9 @@ use Rattle.laws.proofs.Choices.{choose-yes, choose-no, and-left, and-right, and
 use Rattle.laws.proofs.Orders.{told}
 use Rattle.laws.proofs.Every.{every-take}
 use Rattle.unc.specs.names.Names.{goodComponent}
-use Rattle.unc.specs.names.Paths.{leads, pieces, body, goodPath, normalised, isNormalised, normalisedCount, componentCount, matches}
+use Rattle.unc.specs.names.Paths.{leads, pieces, body, goodPath, normalised, isNormalised, normalisedCount, componentCount, matches, Target}
 use Rattle.reply_bytes.specs.texts.Bytes.{Text, terminated, unterminated}
-use Rattle.reply_read.specs.referral.Replies.{referralCount, starts, entries, pathOf, isRead, sameRead, matchesRead, prefixAt, targetAt, goodFields, goodEntry, Target, Referral, referralSaid, referralIn, malformed, nothing, says, readOr, readAs, readReferral}
+use Rattle.reply_read.specs.referral.Replies.{referralCount, starts, entries, pathOf, isRead, sameRead, matchesRead, prefixAt, targetAt, goodFields, goodEntry, Referral, referralSaid, referralIn, malformed, nothing, says, readOr, readAs, readReferral}
 use Rattle.reply_read.specs.referral.Code.{unitsRead, opensAt, keptHere, keptFrom, replyOf, denoted, referralShown}
 use Rattle.reply_read.specs.declared.referral.ReferralFound.{ReferralFound}
 use Rattle.reply_read.specs.declared.referral.Answer.{Answer}

@@ -17,7 +17,8 @@ use Rattle.laws.proofs.Filling.{filled-next, filled-whole, every-set, every-cop
 use Rattle.reply_bytes.specs.texts.Bytes.{u16At, flag}
 use Rattle.reply_bytes.specs.texts.Code.{spanned, Inside}
 use Rattle.reply_bytes.specs.declared.texts.Span.{Span}
-use Rattle.reply_read.specs.referral.Replies.{versionAt, sizeAt, entryFlag, starts, entries, referralCount, goodEntry, withFirst, allRead, prefixAt, targetAt, Target, targetRead, laterTarget, keptTargets, referralSaid, referralWith, referralIn}
+use Rattle.unc.specs.names.Paths.{Target}
+use Rattle.reply_read.specs.referral.Replies.{versionAt, sizeAt, entryFlag, starts, entries, referralCount, goodEntry, withFirst, allRead, prefixAt, targetAt, targetRead, laterTarget, keptTargets, referralSaid, referralWith, referralIn}
 use Rattle.reply_read.specs.referral.Code.{isInside, unitsRead, keptInside, opensAt, keptHere, keptFrom, targetShown}
 use Rattle.reply_read.specs.declared.referral.Kept.{Kept}
 use Rattle.reply_read.proofs.referral.EntryLaws.{read-some, unread, starts-cons, starts-none, entry-fit, entry-read}

@@ -11,7 +11,8 @@ use Rattle.laws.specs.Lists.{every}
 use Rattle.reply_bytes.specs.texts.Code.{spanned, Inside}
 use Rattle.reply_bytes.specs.declared.texts.Span.{Span}
 use Rattle.reply_read.specs.referral.Request.{request}
-use Rattle.reply_read.specs.referral.Replies.{versionAt, serverTypeAt, entryFlag, goodEntry, entries, prefixAt, targetAt, Target, Referral, Reply, malformed, nothing, says}
+use Rattle.unc.specs.names.Paths.{Target}
+use Rattle.reply_read.specs.referral.Replies.{versionAt, serverTypeAt, entryFlag, goodEntry, entries, prefixAt, targetAt, Referral, Reply, malformed, nothing, says}
 use Rattle.reply_read.specs.declared.referral.Kept.{Kept}
 use Rattle.reply_read.specs.declared.referral.TextRead.{TextRead}
 use Rattle.reply_read.specs.declared.referral.TextRead.the-variants.{Good, Bad}

@@ -8,7 +8,7 @@ use lib.Dec.{leb, eqb}
 use Rattle.laws.specs.Choice.{choose}
 use Rattle.laws.specs.Lists.{every}
 use Rattle.unc.specs.names.Names.{sameName}
-use Rattle.unc.specs.names.Paths.{goodPath, normalised, componentCount, matches, pathUnits}
+use Rattle.unc.specs.names.Paths.{goodPath, normalised, componentCount, matches, pathUnits, Target}
 use Rattle.reply_bytes.specs.texts.Bytes.{u16At, u32At, flag, Text, terminated, unterminated, textAt}
 
 -- The header: NumberOfReferrals, ReferralServers, StorageServers, TargetFailback. PathConsumed is not used.
@@ -107,11 +107,6 @@ goodFields r e =
 -- one entry: its numbers, one DFSPath, and its target
 unfoldable pub goodEntry : List ℕ → ℕ → Bool
 goodEntry r e = goodFields r e && (sameRead (prefixAt r e) (prefixAt r 8) && isRead (targetAt r e))
-
--- A kept target: its path, and whether a target set opens before it.
-pub record Target : Type 0 where
-  pub path : List ℕ
-  pub opens : Bool
 
 -- What a reply to a root, link or SYSVOL request says. `count` is its number of entries, `targets` the first 8.
 pub record Referral : Type 0 where

@@ -10,7 +10,8 @@ use lib.ListN.{take}
 use Rattle.laws.specs.Lists.{every}
 use Rattle.reply_bytes.specs.texts.Bytes.{u16At, u32At, Text, textAt}
 use Rattle.reply_read.specs.name_lists.NameLists.{domainOf, bytesPast, textsAt, dcNames, goodDcs, readDcs, domainAt, goodDomain, readDomains}
-use Rattle.reply_read.specs.referral.Replies.{referralCount, headerFlag, versionAt, sizeAt, serverTypeAt, entryFlag, textOf, starts, entries, fits, pathOf, fixedLength, ttlAt, prefixAt, targetAt, goodFields, goodEntry, allRead, Target, targetRead, laterTarget, keptTargets, referralSaid, referralWith, referralIn, readAs, readReferral}
+use Rattle.unc.specs.names.Paths.{Target}
+use Rattle.reply_read.specs.referral.Replies.{referralCount, headerFlag, versionAt, sizeAt, serverTypeAt, entryFlag, textOf, starts, entries, fits, pathOf, fixedLength, ttlAt, prefixAt, targetAt, goodFields, goodEntry, allRead, targetRead, laterTarget, keptTargets, referralSaid, referralWith, referralIn, readAs, readReferral}
 
 module _ (a b c d : ℕ) (s : List ℕ) where
   abbrev one : List ℕ

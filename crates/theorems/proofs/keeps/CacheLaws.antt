@@ -6,15 +6,15 @@ use mathlib.Core.Logic.{_⊎_, inl, inr}
 use mathlib.Core.Option.{Option, none, some}
 use Prim.Native.Nat.{ℕ, _/_, _<_}
 use native.Mathlib.Omega.{arith}
-use lib.ListN.{length, getD, set, length-map}
+use lib.ListN.{length, getD, set}
 use borrow.Author.Tests.{le-leb}
 use Rattle.laws.specs.Lists.{every}
 use Rattle.laws.proofs.Choices.{and-left, and-right, and-both}
 use Rattle.laws.proofs.Every.{every-at}
 use Rattle.laws.proofs.Listed.{every-set}
 use Rattle.unc.specs.names.Names.{sameName}
-use Rattle.unc.specs.names.Paths.{matches}
-use Rattle.cache.specs.order.Entries.{Target, Referral, Domain, Place, free, used}
+use Rattle.unc.specs.names.Paths.{matches, Target}
+use Rattle.cache.specs.order.Entries.{Referral, Domain, Place, free, used}
 use Rattle.cache.specs.order.Order.{goodPrefix, goodTarget, firstOpensNone, goodReferral}
 use Rattle.cache.specs.order.Memory.{Kind, referrals, domains, decode, encode, inOrder, goodPlace, goodCache}
 use Rattle.cache.proofs.order.MemoryLaws.{Lawful, cache-told, order-good, decode-encode, encoded-in-order, count-encode}
@@ -29,7 +29,7 @@ use Rattle.cache_lookup.proofs.EntryLaws.{target-hint-good}
 use Rattle.reply_read.specs.referral.Replies as replies
 use Rattle.reply_read.proofs.referral.SaysLaws as said
 use Rattle.reply_read.proofs.name_lists.SaysLaws.{SoundDcs}
-use Rattle.cache_store.specs.entry_after_reply.Stored.{targetsIn, fresh, refreshed, held, heldAt, prefixed, storePlace, stored, storedEntry, withDcs, dcsStored}
+use Rattle.cache_store.specs.entry_after_reply.Stored.{fresh, refreshed, held, heldAt, prefixed, storePlace, stored, storedEntry, withDcs, dcsStored}
 use Rattle.cache_store.proofs.entry_after_reply.StoreLaws.{fresh-good}
 use Rattle.cache_store.proofs.entry_after_reply.StoredLaws.{refreshed-good, place-found, place-new}
 use Rattle.walk_steps.specs.steps.Steps.{longest}
@@ -129,21 +129,19 @@ module _ (ps : List (Place Referral)) (good : goodCache referrals ps ≡ true) w
       ∙ kept-good referrals referrals-lawful ps good i e (targetHintTo h e) here (target-hint-good h e (place-good referrals referrals-lawful ps good i e here) u) refl
 
 -- what a reply says makes a good entry
-all-targets : (ts : List replies.Target) → every said.goodTarget ts ≡ true → every goodTarget (map (λ t. record { path = t .path; opens = t .opens }) ts) ≡ true
+all-targets : (ts : List Target) → every said.goodTarget ts ≡ true → every goodTarget ts ≡ true
 unfolding every said.goodTarget goodTarget goodPrefix
 all-targets [] h = refl
 all-targets (t ∷ ts) h = and-both (and-left (said.goodTarget t) _ h) (all-targets ts (and-right (said.goodTarget t) _ h))
 
-first-shuts : (ts : List replies.Target) → ((t : replies.Target) (us : List replies.Target) → ts ≡ t ∷ us → t .opens ≡ false)
-    → firstOpensNone (map (λ t. record { path = t .path; opens = t .opens }) ts) ≡ true
+first-shuts : (ts : List Target) → ((t : Target) (us : List Target) → ts ≡ t ∷ us → t .opens ≡ false) → firstOpensNone ts ≡ true
 unfolding firstOpensNone
 first-shuts [] h = refl
 first-shuts (t ∷ ts) h = ap not (h t ts refl)
 
 pub reply-good : (asked : List ℕ) (r : replies.Referral) → said.Sound asked r → (interlink : Bool) (clock : ℕ) → goodReferral (fresh r interlink clock) ≡ true
-unfolding fresh targetsIn goodPrefix
+unfolding fresh goodPrefix
 reply-good asked r s interlink clock =
-    let n : length (map {B = Target} (λ t. record { path = t .path; opens = t .opens }) (r .targets)) ≡ length (r .targets) = length-map (r .targets) (λ t. record { path = t .path; opens = t .opens }) in
     good-referral (fresh r interlink clock) (record {
       prefixed = le-leb 2 _ (s .prefix-normal);
       some = omega (arith, s .some);

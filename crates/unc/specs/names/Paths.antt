@@ -91,3 +91,8 @@ isSysvol s = sameName (getD (components s) 1 []) sysvol || sameName (getD (compo
 -- Steps 3 and 11: the portion of the path that is its first k units, those of the prefix, is replaced by the target
 unfoldable pub replaced : List ℕ → ℕ → List ℕ → List ℕ
 replaced target k s = target ++ drop k s
+
+-- a target, and whether a new set opens before it (a set boundary)
+pub record Target : Type 0 where
+  pub path : List ℕ
+  pub opens : Bool

@@ -1,19 +1,21 @@
 -- Compares set by set. The invariant: the entry's sets from place a on and the reply's from place b on decide.
 use mathlib.Core.Path.{_≡_, refl, sym, _∙_}
+use mathlib.Core.List.{map}
 use Prim.Native.Nat.{_-_, _≤_}
 use lib.ListN.{take}
 use native.Mathlib.Omega.{arith}
 use borrow.Author.Tests.{not-true, not-false}
 use Rattle.laws.proofs.Every.{every-fewer}
+use Rattle.reply_read.specs.referral.Code.{targetShown}
 use Rattle.cache_entry.specs.equivalent_targets.Equivalence.{sets, sameSets}
-use Rattle.cache_entry.specs.equivalent_targets.Code.{heldTargets, givenTargets}
+use Rattle.cache_entry.specs.equivalent_targets.Code.{heldTargets}
 use Rattle.cache_entry.proofs.equivalent_targets.SetLaws.{setsFrom, held-within, given-within, sets-short, sets-end, sets-differ, sets-more}
 use borrow.Author.Needs.{needs}
 use Rattle.cache_entry.proofs.equivalent_targets.same_sets.Statement.{statement}
 use Rattle.cache_entry.proofs.equivalent_targets.same_sets.Tie as tie
 
 abbrev Inv-loop : tie.InvT-loop
-Inv-loop cache i n reply kept count a₀ b₀ a b = (a ≤ n) × ((b ≤ count) × (sameSets (sets (heldTargets i cache)) (sets (givenTargets reply (take count kept))) ≡ setsFrom i cache reply (take count kept) a b))
+Inv-loop cache i n reply kept count a₀ b₀ a b = (a ≤ n) × ((b ≤ count) × (sameSets (sets (heldTargets i cache)) (sets (map (targetShown reply) (take count kept))) ≡ setsFrom i cache reply (take count kept) a b))
 
 abbrev μ-loop : tie.MeasureT-loop
 μ-loop cache i n reply kept count a₀ b₀ a b = n - a

@@ -1,5 +1,6 @@
+use Rattle.reply_read.specs.referral.Code.{targetShown}
 use Rattle.cache_entry.proofs.write_entry.WritingLaws.{kept-at, shown-at, length-shown, short, keeps-target, all-short, all-more, all-done}
-use Rattle.cache_entry.specs.write_entry.Code.{addAll, addTarget, heldTarget, keptFits}
+use Rattle.cache_entry.specs.write_entry.Code.{addAll, addTarget, keptFits}
 use Rattle.cache.specs.places.Code.{changed}
 use denote.Ref.{now}
 use native.Mathlib.Omega.{arith}
@@ -15,7 +16,7 @@ abbrev Inv-loop : tie.InvT-loop
 Inv-loop cache₀ i reply count kept n₀ cache n =
     (n ≤ count)
     × ((length cache ≡ length cache₀)
-    × (changed i (addAll addTarget 0 (map (heldTarget reply) (take count kept))) cache₀ ≡ changed i (addAll addTarget n (drop n (map (heldTarget reply) (take count kept)))) cache))
+    × (changed i (addAll addTarget 0 (map (targetShown reply) (take count kept))) cache₀ ≡ changed i (addAll addTarget n (drop n (map (targetShown reply) (take count kept)))) cache))
 
 abbrev μ-loop : tie.MeasureT-loop
 μ-loop cache₀ i reply count kept n₀ cache n = count - n
@@ -50,11 +51,11 @@ loop-again c =
       (
         omega arith,
         c .before .before .before .before .before .before .loop .inv .1 .1
-            ∙ all-more addTarget short keeps-target (c .before .before .before .before .before .before .loop .cache) (a .i) (omega arith) (map (heldTarget (now (a .reply))) (take (a .count) (a .t4))) n _
-            (omega (arith, length-shown (heldTarget (now (a .reply))) (a .t4) (a .count) (omega arith)))
-            (omega (arith, length-shown (heldTarget (now (a .reply))) (a .t4) (a .count) (omega arith)))
+            ∙ all-more addTarget short keeps-target (c .before .before .before .before .before .before .loop .cache) (a .i) (omega arith) (map (targetShown (now (a .reply))) (take (a .count) (a .t4))) n _
+            (omega (arith, length-shown (targetShown (now (a .reply))) (a .t4) (a .count) (omega arith)))
+            (omega (arith, length-shown (targetShown (now (a .reply))) (a .t4) (a .count) (omega arith)))
             (all-short (now (a .reply)) (take (a .count) (a .t4)) (c .before .before .before .before .before .before .before .before .before .pre .1 .1))
-            (shown-at (a .t4) (a .count) n _ (omega arith) (omega arith) (heldTarget (now (a .reply))) _)
+            (shown-at (a .t4) (a .count) n _ (omega arith) (omega arith) (targetShown (now (a .reply))) _)
             (c .before .before .add-target .ensures),
       ),
     )
@@ -66,8 +67,8 @@ returns : tie.Need-returns Inv-loop μ-loop
 returns c =
     let a = c .before .before .before .before .args in
     let l : length (a .t4) ≡ 8 = search needs in
-    all-done addTarget short keeps-target (c .before .loop .cache) (a .i) (omega arith) (c .before .loop .n) (map (heldTarget (now (a .reply))) (take (a .count) (a .t4)))
-    (c .before .loop .inv .1 .1) (omega (arith, length-shown (heldTarget (now (a .reply))) (a .t4) (a .count) (omega arith)))
+    all-done addTarget short keeps-target (c .before .loop .cache) (a .i) (omega arith) (c .before .loop .n) (map (targetShown (now (a .reply))) (take (a .count) (a .t4)))
+    (c .before .loop .inv .1 .1) (omega (arith, length-shown (targetShown (now (a .reply))) (a .t4) (a .count) (omega arith)))
 
 pub add-targets-spec : {M : Type 1} → statement M
 add-targets-spec =

@@ -1,4 +1,5 @@
-use Rattle.cache_entry.specs.write_entry.Code.{heldTarget, keptFits}
+use Rattle.cache_entry.specs.write_entry.Code.{keptFits}
+use Rattle.reply_read.specs.referral.Code.{targetShown}
 use Rattle.cache_store.specs.entry_after_reply.Stored.{firstEqual, hinted}
 use mathlib.Core.List.{map}
 use Rattle.cache_lookup.specs.Code.{entryAt}
@@ -17,7 +18,7 @@ use Rattle.cache_store.proofs.entry_after_reply.given_place.Tie as tie
 abbrev Inv-loop : tie.InvT-loop
 Inv-loop cache i reply count kept hint path n₀ n =
     (n ≤ count)
-    × (firstEqual 0 (hinted (entryAt referrals i cache)) (map (heldTarget reply) (take count kept)) ≡ firstEqual n (hinted (entryAt referrals i cache)) (drop n (map (heldTarget reply) (take count kept))))
+    × (firstEqual 0 (hinted (entryAt referrals i cache)) (map (targetShown reply) (take count kept)) ≡ firstEqual n (hinted (entryAt referrals i cache)) (drop n (map (targetShown reply) (take count kept))))
 
 abbrev μ-loop : tie.MeasureT-loop
 μ-loop cache i reply count kept hint path n₀ n = count - n
@@ -48,9 +49,9 @@ same-span-requires c κs =
 returns : tie.Need-returns Inv-loop μ-loop
 returns c =
     let l : length (c .before .before .before .before .before .before .before .before .before .args .t4) ≡ 8 = search needs in
-    let m = length-shown (heldTarget (now (c .before .before .before .before .before .before .before .before .before .args .reply))) (c .before .before .before .before .before .before .before .before .before .args .t4) (c .before .before .before .before .before .before .before .before .before .args .count) (omega arith) in
+    let m = length-shown (targetShown (now (c .before .before .before .before .before .before .before .before .before .args .reply))) (c .before .before .before .before .before .before .before .before .before .args .t4) (c .before .before .before .before .before .before .before .before .before .args .count) (omega arith) in
     sym (c .before .before .before .before .loop .inv .1
-    ∙ equal-hit (hinted (entryAt referrals (c .before .before .before .before .before .before .before .before .before .args .i) (now (c .before .before .before .before .before .before .before .before .before .args .cache)))) (map (heldTarget (now (c .before .before .before .before .before .before .before .before .before .args .reply))) (take (c .before .before .before .before .before .before .before .before .before .args .count) (c .before .before .before .before .before .before .before .before .before .args .t4))) (c .before .before .before .before .loop .n) nowhere (omega arith)
+    ∙ equal-hit (hinted (entryAt referrals (c .before .before .before .before .before .before .before .before .before .args .i) (now (c .before .before .before .before .before .before .before .before .before .args .cache)))) (map (targetShown (now (c .before .before .before .before .before .before .before .before .before .args .reply))) (take (c .before .before .before .before .before .before .before .before .before .args .count) (c .before .before .before .before .before .before .before .before .before .args .t4))) (c .before .before .before .before .loop .n) nowhere (omega arith)
     (path-at (now (c .before .before .before .before .before .before .before .before .before .args .reply)) (c .before .before .before .before .before .before .before .before .before .args .t4) (c .before .before .before .before .before .before .before .before .before .args .count) (c .before .before .before .before .loop .n) _ nowhere (omega arith) (omega arith))
     (hinted-is (entryAt referrals (c .before .before .before .before .before .before .before .before .before .args .i) (now (c .before .before .before .before .before .before .before .before .before .args .cache))) _ (c .before .before .before .before .before .target .ensures) (c .before .before .before .before .before .before .target-hint .ensures) (omega arith)) (c .before .same-span .ensures) (c .if1 .taken))
 
@@ -63,10 +64,10 @@ loop-less c = search needs
 loop-again : tie.Need-loop-again Inv-loop μ-loop
 loop-again c =
     let l : length (c .before .before .before .before .before .before .before .before .before .args .t4) ≡ 8 = search needs in
-    let m = length-shown (heldTarget (now (c .before .before .before .before .before .before .before .before .before .args .reply))) (c .before .before .before .before .before .before .before .before .before .args .t4) (c .before .before .before .before .before .before .before .before .before .args .count) (omega arith) in (
+    let m = length-shown (targetShown (now (c .before .before .before .before .before .before .before .before .before .args .reply))) (c .before .before .before .before .before .before .before .before .before .args .t4) (c .before .before .before .before .before .before .before .before .before .args .count) (omega arith) in (
       omega arith,
       c .before .before .before .before .loop .inv .1
-          ∙ equal-miss (hinted (entryAt referrals (c .before .before .before .before .before .before .before .before .before .args .i) (now (c .before .before .before .before .before .before .before .before .before .args .cache)))) (map (heldTarget (now (c .before .before .before .before .before .before .before .before .before .args .reply))) (take (c .before .before .before .before .before .before .before .before .before .args .count) (c .before .before .before .before .before .before .before .before .before .args .t4))) (c .before .before .before .before .loop .n) nowhere (omega arith)
+          ∙ equal-miss (hinted (entryAt referrals (c .before .before .before .before .before .before .before .before .before .args .i) (now (c .before .before .before .before .before .before .before .before .before .args .cache)))) (map (targetShown (now (c .before .before .before .before .before .before .before .before .before .args .reply))) (take (c .before .before .before .before .before .before .before .before .before .args .count) (c .before .before .before .before .before .before .before .before .before .args .t4))) (c .before .before .before .before .loop .n) nowhere (omega arith)
           (path-at (now (c .before .before .before .before .before .before .before .before .before .args .reply)) (c .before .before .before .before .before .before .before .before .before .args .t4) (c .before .before .before .before .before .before .before .before .before .args .count) (c .before .before .before .before .loop .n) _ nowhere (omega arith) (omega arith))
           (hinted-is (entryAt referrals (c .before .before .before .before .before .before .before .before .before .args .i) (now (c .before .before .before .before .before .before .before .before .before .args .cache))) _ (c .before .before .before .before .before .target .ensures) (c .before .before .before .before .before .before .target-hint .ensures) (omega arith)) (c .before .same-span .ensures) (c .if1 .left),
     )
@@ -74,8 +75,8 @@ loop-again c =
 returns-2 : tie.Need-returns-2 Inv-loop μ-loop
 returns-2 c =
     let l : length (c .before .before .before .before .before .before .args .t4) ≡ 8 = search needs in
-    let m = length-shown (heldTarget (now (c .before .before .before .before .before .before .args .reply))) (c .before .before .before .before .before .before .args .t4) (c .before .before .before .before .before .before .args .count) (omega arith) in
-    sym (c .before .loop .inv .1 ∙ equal-end _ (map (heldTarget (now (c .before .before .before .before .before .before .args .reply))) (take (c .before .before .before .before .before .before .args .count) (c .before .before .before .before .before .before .args .t4))) _ (omega arith))
+    let m = length-shown (targetShown (now (c .before .before .before .before .before .before .args .reply))) (c .before .before .before .before .before .before .args .t4) (c .before .before .before .before .before .before .args .count) (omega arith) in
+    sym (c .before .loop .inv .1 ∙ equal-end _ (map (targetShown (now (c .before .before .before .before .before .before .args .reply))) (take (c .before .before .before .before .before .before .args .count) (c .before .before .before .before .before .before .args .t4))) _ (omega arith))
 
 pub given-place-spec : {M : Type 1} → statement M
 given-place-spec =

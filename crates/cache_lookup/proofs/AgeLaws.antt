@@ -13,7 +13,7 @@ use Rattle.cache.specs.places.Layout.{placeCount, placeAt, unitAt, wideAt, ttlU
 use Rattle.cache_lookup.specs.declared.Found.{Found}
 use Rattle.cache_lookup.specs.declared.Found.the-variants.{At, Nothing}
 use Rattle.cache.specs.order.Entries.{Referral, Place}
-use Rattle.cache.specs.order.Memory.{referrals, referralOf, placeOf, decode}
+use Rattle.cache.specs.order.Memory.{referrals, referralOf, placeOf, decode, settingsAt}
 use Rattle.cache_lookup.specs.Code.{entryAt}
 use Rattle.cache_lookup.specs.Lookup.{age, expired, firstFreeFrom, placeAge, oldestFrom, oldest, foundOr, newPlace}
 use Rattle.cache.proofs.order.MemoryLaws.{place-free, place-used, drop-decode, drop-decode-end}
@@ -23,16 +23,16 @@ pub age-wraps : (r clock taken : ℕ) → (r + taken) % 2 ^ 32 ≡ clock → r <
 unfolding age
 age-wraps r clock taken e h u = omega arith
 
-pub entry-ttl : (raw : List ℕ) (i : ℕ) {r : ℕ} → r ≡ wideAt ttlUnit (placeAt i raw) → r ≡ entryAt referrals i raw .ttl
-unfolding entryAt referralOf
+pub entry-ttl : (raw : List ℕ) (i : ℕ) {r : ℕ} → r ≡ wideAt ttlUnit (placeAt i raw) → r ≡ entryAt referrals i raw .settings .ttl
+unfolding entryAt referralOf settingsAt
 entry-ttl raw i e = e
 
-pub entry-taken : (raw : List ℕ) (i : ℕ) {r : ℕ} → r ≡ wideAt takenUnit (placeAt i raw) → r ≡ entryAt referrals i raw .taken
-unfolding entryAt referralOf
+pub entry-taken : (raw : List ℕ) (i : ℕ) {r : ℕ} → r ≡ wideAt takenUnit (placeAt i raw) → r ≡ entryAt referrals i raw .settings .taken
+unfolding entryAt referralOf settingsAt
 entry-taken raw i e = e
 
 module _ (clock : ℕ) (raw : List ℕ) (i : ℕ) where
-  pub entry-expired : {t l a : ℕ} → l ≡ entryAt referrals i raw .ttl → t ≡ entryAt referrals i raw .taken → a ≡ age clock t
+  pub entry-expired : {t l a : ℕ} → l ≡ entryAt referrals i raw .settings .ttl → t ≡ entryAt referrals i raw .settings .taken → a ≡ age clock t
       → leb l a ≡ expired clock (entryAt referrals i raw)
   unfolding expired
   entry-expired el et ea = λ j. leb (el j) ((ea ∙ ap (age clock) et) j)
@@ -41,7 +41,7 @@ module _ (clock : ℕ) (raw : List ℕ) (i : ℕ) where
   unfolding placeAge
   age-free e h = rw (place-free referrals (placeAt i raw) (sym e ∙ h))
 
-  pub age-used : {u t a : ℕ} → u ≡ unitAt 0 (placeAt i raw) → (u ≡ 0 → ⊥) → t ≡ entryAt referrals i raw .taken → a ≡ age clock t
+  pub age-used : {u t a : ℕ} → u ≡ unitAt 0 (placeAt i raw) → (u ≡ 0 → ⊥) → t ≡ entryAt referrals i raw .settings .taken → a ≡ age clock t
       → a ≡ placeAge clock (placeOf referrals (placeAt i raw))
   unfolding placeAge entryAt
   age-used e n et ea = ea ∙ (ap (age clock) et ∙ ap (placeAge clock) (sym (place-used referrals (placeAt i raw) (ne-eqb (unitAt 0 (placeAt i raw)) 0 (λ z. n (e ∙ z))))))

@@ -14,7 +14,7 @@ use Rattle.cache.proofs.places.PutLaws.{put-hint}
 use Rattle.unc.specs.names.Paths.{Target}
 use Rattle.cache.specs.order.Entries.{Referral, Domain, Place, free, used}
 use Rattle.cache.specs.order.Order.{goodReferral, goodDomain}
-use Rattle.cache.specs.order.Memory.{Kind, referrals, domains, targetOf, referralOf, referralSettings, referralUnits, domainOf, domainUnits, decode, encode, inOrder}
+use Rattle.cache.specs.order.Memory.{Kind, referrals, domains, targetOf, referralOf, settingsUnits, referralUnits, domainOf, domainUnits, decode, encode, inOrder, settingsAt}
 use Rattle.cache_lookup.specs.Code.{entryAt, targetOpens}
 use Rattle.cache_lookup.specs.Lookup.{targetPath, dcName, onEntry, targetHintTo, dcHintTo, targetHinted, dcHinted}
 use Rattle.cache.proofs.order.KindLaws.{referrals-lawful, domains-lawful, GoodReferral, referral-told, good-referral, referral-shape, GoodDomain, domain-told, good-domain, domain-shape}
@@ -24,19 +24,19 @@ use Rattle.cache_lookup.proofs.StoreLaws.{entry-good, entry-changed, ke
 
 module _ (raw : List ℕ) (i : ℕ) where
   pub read-prefix : {t : List ℕ} → t ≡ textAt 0 (placeAt i raw) → t ≡ entryAt referrals i raw .prefix
-  unfolding entryAt referralOf
+  unfolding entryAt referralOf settingsAt
   read-prefix e = e
 
-  pub read-root : {u : ℕ} → u ≡ unitAt rootUnit (placeAt i raw) → eqb u 1 ≡ entryAt referrals i raw .root
-  unfolding entryAt referralOf flagAt
+  pub read-root : {u : ℕ} → u ≡ unitAt rootUnit (placeAt i raw) → eqb u 1 ≡ entryAt referrals i raw .settings .root
+  unfolding entryAt referralOf flagAt settingsAt
   read-root e = ap (λ (x : ℕ). eqb x 1) e
 
-  pub read-interlink : {u : ℕ} → u ≡ unitAt interlinkUnit (placeAt i raw) → eqb u 1 ≡ entryAt referrals i raw .interlink
-  unfolding entryAt referralOf flagAt
+  pub read-interlink : {u : ℕ} → u ≡ unitAt interlinkUnit (placeAt i raw) → eqb u 1 ≡ entryAt referrals i raw .settings .interlink
+  unfolding entryAt referralOf flagAt settingsAt
   read-interlink e = ap (λ (x : ℕ). eqb x 1) e
 
   pub count-targets : length (entryAt referrals i raw .targets) ≡ listCount (placeAt i raw)
-  unfolding entryAt referralOf
+  unfolding entryAt referralOf settingsAt
   count-targets = length-listed (listCount (placeAt i raw)) (λ j. targetOf j (placeAt i raw))
 
   pub count-dcs : length (entryAt domains i raw .dcs) ≡ listCount (placeAt i raw)
@@ -56,7 +56,7 @@ module _ (raw : List ℕ) (i : ℕ) where
   few-dcs h = let n : length (entryAt domains i raw .dcs) ≡ listCount (placeAt i raw) = count-dcs in omega arith
 
   pub read-hint : {u : ℕ} → u ≡ unitAt hintUnit (placeAt i raw) → u ≡ entryAt referrals i raw .hint
-  unfolding entryAt referralOf
+  unfolding entryAt referralOf settingsAt
   read-hint e = e
 
   pub read-dc-hint : {u : ℕ} → u ≡ unitAt hintUnit (placeAt i raw) → u ≡ entryAt domains i raw .hint
@@ -65,7 +65,7 @@ module _ (raw : List ℕ) (i : ℕ) where
 
   module _ (j : ℕ) where
     target-of : j < length (entryAt referrals i raw .targets) → (z : Target) → getD (entryAt referrals i raw .targets) j z ≡ targetOf j (placeAt i raw)
-    unfolding entryAt referralOf
+    unfolding entryAt referralOf settingsAt
     target-of h z = getD-listed (listCount (placeAt i raw)) (λ k. targetOf k (placeAt i raw)) j z (rw length-listed at h)
 
     pub read-target : {t : List ℕ} → t ≡ textAt (1 + j) (placeAt i raw) → j < length (entryAt referrals i raw .targets) → t ≡ targetPath j (entryAt referrals i raw)
@@ -117,7 +117,7 @@ dc-hint-good h d g u =
     good-domain _ (record { named = t .named; few = t .few; each = t .each; hinted = hint-good (d .dcs) h (inr u) })
 
 pub target-hint-units : (h : ℕ) (e : Referral) → goodReferral e ≡ true → putUnit hintUnit h (referralUnits e) ≡ referralUnits (targetHintTo h e)
-unfolding referralUnits referralSettings targetHintTo
+unfolding referralUnits settingsUnits targetHintTo
 target-hint-units h e g = put-hint _ (e .hint) _ _ (referral-shape e g) h
 
 dc-hint-units : (h : ℕ) (d : Domain) → goodDomain d ≡ true → putUnit hintUnit h (domainUnits d) ≡ domainUnits (dcHintTo h d)

@@ -10,11 +10,13 @@ use Rattle.cache_lookup.specs.Lookup.{age, expired}
 abbrev pub dated : ℕ → ℕ → Referral
 dated ttl taken = record {
   prefix = [];
-  root = true;
-  interlink = false;
-  failback = false;
-  ttl = ttl;
-  taken = taken;
+  settings = record {
+    root = true;
+    interlink = false;
+    failback = false;
+    ttl = ttl;
+    taken = taken;
+  };
   targets = [];
   hint = 0;
 }

@@ -54,7 +54,7 @@ age clock taken = (clock + (2 ^ 32 - taken)) % 2 ^ 32
 
 -- of an entry
 unfoldable pub expired : ℕ → Referral → Bool
-expired clock e = leb (e .ttl) (age clock (e .taken))
+expired clock e = leb (e .settings .ttl) (age clock (e .settings .taken))
 
 -- the lowest free place, counted from number i
 unfoldable pub firstFreeFrom : ℕ → List (Place Referral) → Found
@@ -65,7 +65,7 @@ firstFreeFrom i (used e ∷ ps) = firstFreeFrom (i + 1) ps
 -- the age of what a place holds
 unfoldable pub placeAge : ℕ → Place Referral → ℕ
 placeAge clock free = 0
-placeAge clock (used e) = age clock (e .taken)
+placeAge clock (used e) = age clock (e .settings .taken)
 
 -- of the places from number i on, the first of greatest age, where the place `best` of age n was found before
 unfoldable pub oldestFrom : ℕ → ℕ → ℕ → ℕ → List (Place Referral) → ℕ
@@ -101,16 +101,7 @@ onEntry f (used e) = used (f e)
 
 -- an entry with TargetHint h
 unfoldable pub targetHintTo : ℕ → Referral → Referral
-targetHintTo h e = record {
-  prefix = e .prefix;
-  root = e .root;
-  interlink = e .interlink;
-  failback = e .failback;
-  ttl = e .ttl;
-  taken = e .taken;
-  targets = e .targets;
-  hint = h;
-}
+targetHintTo h e = record { prefix = e .prefix; settings = e .settings; targets = e .targets; hint = h }
 
 -- an entry with DCHint h
 unfoldable pub dcHintTo : ℕ → Domain → Domain

@@ -194,14 +194,14 @@ pub fn age(clock: u32, taken: u32) -> u32
 
 pub fn ttl(cache: &[u16], i: usize) -> u32
     requires { ⌜ i < placeCount (now cache) ⌝ }
-    ensures { λ r. ⌜ r ≡ entryAt referrals i (now (cache .entry)) .ttl ⌝ }
+    ensures { λ r. ⌜ r ≡ entryAt referrals i (now (cache .entry)) .settings .ttl ⌝ }
 {
     cache::places::wide(cache, i, cache::places::TTL)
 }
 
 pub fn taken(cache: &[u16], i: usize) -> u32
     requires { ⌜ i < placeCount (now cache) ⌝ }
-    ensures { λ r. ⌜ r ≡ entryAt referrals i (now (cache .entry)) .taken ⌝ }
+    ensures { λ r. ⌜ r ≡ entryAt referrals i (now (cache .entry)) .settings .taken ⌝ }
 {
     cache::places::wide(cache, i, cache::places::TAKEN)
 }
@@ -276,14 +276,14 @@ pub fn prefix(cache: &[u16], i: usize) -> &[u16]
 
 pub fn is_root(cache: &[u16], i: usize) -> bool
     requires { ⌜ i < placeCount (now cache) ⌝ }
-    ensures { λ r. ⌜ r ≡ entryAt referrals i (now (cache .entry)) .root ⌝ }
+    ensures { λ r. ⌜ r ≡ entryAt referrals i (now (cache .entry)) .settings .root ⌝ }
 {
     cache::places::unit(cache, i, cache::places::ROOT) == 1
 }
 
 pub fn is_interlink(cache: &[u16], i: usize) -> bool
     requires { ⌜ i < placeCount (now cache) ⌝ }
-    ensures { λ r. ⌜ r ≡ entryAt referrals i (now (cache .entry)) .interlink ⌝ }
+    ensures { λ r. ⌜ r ≡ entryAt referrals i (now (cache .entry)) .settings .interlink ⌝ }
 {
     cache::places::unit(cache, i, cache::places::INTERLINK) == 1
 }

@@ -7,7 +7,7 @@ use native.Mathlib.Omega.{arith}
 use lib.ListN.{length}
 use Rattle.laws.specs.Lists.{pasted}
 use Rattle.cache.specs.places.Layout.{textAt, flagAt, flagUnit, wideAt, unitAt, hintUnit, rootUnit, interlinkUnit, failbackUnit, ttlUnit, takenUnit}
-use Rattle.cache.specs.order.Memory.{referralOf}
+use Rattle.cache.specs.order.Memory.{referralOf, settingsAt}
 use Rattle.listing_spelling.specs.spell.Spelling.{spelled, decimal, Put}
 use Rattle.listing_spelling.proofs.spell.PutLaws.{Left, left-start, left-next, left-done}
 use Rattle.listing_write.specs.Form.{prefixKey, kindKey, interlinkKey, failbackKey, ttlKey, takenKey, hintKey, kindWord, pathLine, numberLine, ended, linesText, targetLines, settingLines, countLines, entryText}
@@ -21,7 +21,7 @@ module _ (piece : List ℕ) {t : List ℕ} {w x h p a b c : ℕ} (text : t ≡ t
     (wide : w ≡ wideAt ttlUnit piece) (ttl : a ≡ 4 + length (decimal w) + 1) (wide2 : x ≡ wideAt takenUnit piece) (taken : b ≡ 6 + length (decimal x) + 1)
     (unit : h ≡ unitAt hintUnit piece) (hint : c ≡ 5 + length (decimal h) + 1) where
   pub head-sum : p + 33 + a + b + c ≡ length (linesText (settingLines (referralOf piece) ++ countLines (referralOf piece)))
-  unfolding referralOf
+  unfolding referralOf settingsAt
   head-sum =
       let e = ap (λ (y : List ℕ). length (spelled y)) text in
       let f = ap (λ (y : ℕ). length (decimal y)) wide in
@@ -50,7 +50,7 @@ module _ (d : List ℕ) (at : ℕ) (piece : List ℕ) (fits : at + length (lines
   prefixLine = ended (pathLine prefixKey (textAt 0 piece))
 
   settings-0 : Left goal stop d at (prefixLine ++ (kindLine ++ (flagLine interlinkKey interlinkUnit ++ (flagLine failbackKey failbackUnit ++ []))))
-  unfolding goal stop linesText settingLines referralOf
+  unfolding goal stop linesText settingLines referralOf settingsAt
   settings-0 = left-start d at (linesText (settingLines (referralOf piece))) fits
 
   pub prefix-fits : {t : List ℕ} → t ≡ textAt 0 piece → at + length (ended (pathLine prefixKey t)) ≤ length d
@@ -96,7 +96,7 @@ module _ (d : List ℕ) (at : ℕ) (piece : List ℕ) (fits : at + length (lines
   countLine key n = ended (numberLine key n)
 
   counts-0 : Left counted halt d at (countLine ttlKey (wideAt ttlUnit piece) ++ (countLine takenKey (wideAt takenUnit piece) ++ (countLine hintKey (unitAt hintUnit piece) ++ [])))
-  unfolding counted halt linesText countLines referralOf
+  unfolding counted halt linesText countLines referralOf settingsAt
   counts-0 = left-start d at (linesText (countLines (referralOf piece))) fits
 
   pub ttl-fits : {n : ℕ} → n ≡ wideAt ttlUnit piece → at + length (ended (numberLine ttlKey n)) ≤ length d

@@ -14,7 +14,7 @@ use Rattle.laws.proofs.Listed.{drop-listed, drop-listed-end}
 use Rattle.cache.specs.places.Layout.{placeAt, placeCount, textAt, roomAt, listCount, flagUnit, unitAt}
 use Rattle.unc.specs.names.Paths.{Target}
 use Rattle.cache.specs.order.Entries.{Referral}
-use Rattle.cache.specs.order.Memory.{referrals, referralOf, targetOf, decode}
+use Rattle.cache.specs.order.Memory.{referrals, referralOf, targetOf, decode, settingsAt}
 use Rattle.cache.proofs.order.MemoryLaws.{drop-decode, drop-decode-end, place-free, place-used}
 use Rattle.listing_spelling.specs.spell.Spelling.{spelled, decimalIn, decimal, Put}
 use Rattle.listing_spelling.proofs.spell.PutLaws.{Left, left-start, left-next, left-done, put-piece}
@@ -142,7 +142,7 @@ kind-word false = refl
 
 -- how many units the lines before the targets have
 pub head-length : (e : Referral) → length (linesText (settingLines e ++ countLines e))
-    ≡ 7 + length (spelled (e .prefix)) + 1 + 33 + (4 + length (decimal (e .ttl)) + 1) + (6 + length (decimal (e .taken)) + 1) + (5 + length (decimal (e .hint)) + 1)
+    ≡ 7 + length (spelled (e .prefix)) + 1 + 33 + (4 + length (decimal (e .settings .ttl)) + 1) + (6 + length (decimal (e .settings .taken)) + 1) + (5 + length (decimal (e .hint)) + 1)
 unfolding linesText settingLines countLines
 head-length e =
     simp (length-append, length-path, length-number, length-ended, one-digit, kind-word) (omega arith)
@@ -152,10 +152,10 @@ unfolding textAt roomAt part
 length-text j piece = simp length-take (omega arith)
 
 pub head-bound : (piece : List ℕ) → length (linesText (settingLines (referralOf piece) ++ countLines (referralOf piece))) ≤ 1400
-unfolding referralOf
+unfolding referralOf settingsAt
 head-bound piece =
     let e = referralOf piece in
-    omega (arith, head-length e, length-spelled (textAt 0 piece), length-text 0 piece, length-decimal (e .ttl), length-decimal (e .taken), length-decimal (e .hint))
+    omega (arith, head-length e, length-spelled (textAt 0 piece), length-text 0 piece, length-decimal (e .settings .ttl), length-decimal (e .settings .taken), length-decimal (e .hint))
 
 -- the targets of a place, one after another
 targets-from : ℕ → List ℕ → List Target
@@ -165,7 +165,7 @@ pub targetsLeft : ℕ → List ℕ → List ℕ
 targetsLeft j piece = linesText (targetLines (targets-from j piece))
 
 pub targets-start : (piece : List ℕ) → linesText (targetLines (referralOf piece .targets)) ≡ targetsLeft 0 piece
-unfolding referralOf targetsLeft targets-from
+unfolding referralOf targetsLeft targets-from settingsAt
 targets-start piece = refl
 
 pub targets-next : (j : ℕ) (piece : List ℕ) → j < listCount piece → targetsLeft j piece ≡ ended (pathLine targetKey (textAt (1 + j) piece)) ++ targetsLeft (j + 1) piece

@@ -70,14 +70,14 @@ targetLines (t ∷ ts) = pathLine targetKey (t .path) ∷ targetLines ts
 unfoldable pub settingLines : Referral → List (List ℕ)
 settingLines e =
     pathLine prefixKey (e .prefix)
-    ∷ (kindKey ++ kindWord (e .root))
-    ∷ numberLine interlinkKey (flagUnit (e .interlink))
-    ∷ numberLine failbackKey (flagUnit (e .failback))
+    ∷ (kindKey ++ kindWord (e .settings .root))
+    ∷ numberLine interlinkKey (flagUnit (e .settings .interlink))
+    ∷ numberLine failbackKey (flagUnit (e .settings .failback))
     ∷ []
 
 -- ttl, taken, hint (from 0)
 unfoldable pub countLines : Referral → List (List ℕ)
-countLines e = numberLine ttlKey (e .ttl) ∷ numberLine takenKey (e .taken) ∷ numberLine hintKey (e .hint) ∷ []
+countLines e = numberLine ttlKey (e .settings .ttl) ∷ numberLine takenKey (e .settings .taken) ∷ numberLine hintKey (e .hint) ∷ []
 
 -- the lines of an entry
 unfoldable pub entryLines : Referral → List (List ℕ)

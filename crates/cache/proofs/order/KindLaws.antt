@@ -22,7 +22,7 @@ use Rattle.cache.specs.places.Layout.{unitAt, wideAt, flagAt, flagUnit, 
 use Rattle.cache.proofs.places.WrittenLaws.{Shaped, length-written, written-length, written-count, written-hint, written-mark, written-setting, written-text}
 use Rattle.cache.specs.order.Entries.{Referral, Domain}
 use Rattle.cache.specs.order.Order.{goodPrefix, goodTarget, firstOpensNone, goodReferral, goodDomain, goodDCHint}
-use Rattle.cache.specs.order.Memory.{targetOf, referralOf, referralSettings, referralUnits, domainOf, domainUnits, referrals, domains}
+use Rattle.cache.specs.order.Memory.{targetOf, referralOf, settingsUnits, referralUnits, domainOf, domainUnits, referrals, domains, settingsAt}
 use Rattle.cache.proofs.order.MemoryLaws.{Lawful}
 
 -- a good prefix and a good name have units, and fit their room
@@ -160,8 +160,8 @@ module _ (e : Referral) (good : goodReferral e ≡ true) where
   g : GoodReferral e
   g = referral-told e good
 
-  pub referral-shape : Shaped (e .prefix ∷ map (λ t. t .path) (e .targets)) (map (λ t. flagUnit (t .opens)) (e .targets)) (referralSettings e)
-  unfolding referralSettings every
+  pub referral-shape : Shaped (e .prefix ∷ map (λ t. t .path) (e .targets)) (map (λ t. flagUnit (t .opens)) (e .targets)) (settingsUnits (e .settings))
+  unfolding settingsUnits every
   referral-shape =
       let f : length (e .targets) ≤ 8 = g .few in
       record {
@@ -179,16 +179,16 @@ module _ (e : Referral) (good : goodReferral e ≡ true) where
   unfolding referralUnits
   referral-shows = key-shows _ _ _ _ _ referral-shape (prefix-some _ (g .prefixed))
 
-  setting-flag : (j : ℕ) (b : Bool) → j < headUnits - rootUnit → getD (referralSettings e) j 0 ≡ flagUnit b → flagAt (rootUnit + j) (referralUnits e) ≡ b
+  setting-flag : (j : ℕ) (b : Bool) → j < headUnits - rootUnit → getD (settingsUnits (e .settings)) j 0 ≡ flagUnit b → flagAt (rootUnit + j) (referralUnits e) ≡ b
   unfolding referralUnits flagAt
   setting-flag j b h q = ap (λ (u : ℕ). eqb u 1) (written-setting _ _ _ _ referral-shape j h ∙ q) ∙ flag-back b
 
-  setting-wide : (j n : ℕ) → rootUnit + j + 1 < 32 → getD (referralSettings e) j 0 ≡ n % 65536 → getD (referralSettings e) (j + 1) 0 ≡ n / 65536
+  setting-wide : (j n : ℕ) → rootUnit + j + 1 < 32 → getD (settingsUnits (e .settings)) j 0 ≡ n % 65536 → getD (settingsUnits (e .settings)) (j + 1) 0 ≡ n / 65536
       → wideAt (rootUnit + j) (referralUnits e) ≡ n
   unfolding referralUnits wideAt
   setting-wide j n h p q =
-      let a : unitAt (rootUnit + j) (referralUnits e) ≡ getD (referralSettings e) j 0 = written-setting _ _ _ _ referral-shape j (omega arith) in
-      let b : unitAt (rootUnit + (j + 1)) (referralUnits e) ≡ getD (referralSettings e) (j + 1) 0 = written-setting _ _ _ _ referral-shape (j + 1) (omega arith) in
+      let a : unitAt (rootUnit + j) (referralUnits e) ≡ getD (settingsUnits (e .settings)) j 0 = written-setting _ _ _ _ referral-shape j (omega arith) in
+      let b : unitAt (rootUnit + (j + 1)) (referralUnits e) ≡ getD (settingsUnits (e .settings)) (j + 1) 0 = written-setting _ _ _ _ referral-shape (j + 1) (omega arith) in
       rw (add-assoc rootUnit j 1) (omega arith)
 
   target-back : (j : ℕ) → j < length (e .targets) → targetOf j (referralUnits e) ≡ getD (e .targets) j noTarget
@@ -209,23 +209,25 @@ module _ (e : Referral) (good : goodReferral e ≡ true) where
       ∙ listed-getD (e .targets) noTarget)
 
   referral-back : referralOf (referralUnits e) ≡ e
-  unfolding referralOf referralUnits referralSettings
+  unfolding referralOf referralUnits settingsUnits settingsAt
   referral-back =
       let p : textAt 0 (referralUnits e) ≡ e .prefix = written-text _ _ _ _ referral-shape 0 (omega arith) in
       let h : unitAt hintUnit (referralUnits e) ≡ e .hint = written-hint _ _ _ _ referral-shape in
       λ i. record {
         prefix = p i;
-        root = setting-flag 0 (e .root) (omega arith) refl i;
-        interlink = setting-flag 1 (e .interlink) (omega arith) refl i;
-        failback = setting-flag 2 (e .failback) (omega arith) refl i;
-        ttl = setting-wide 3 (e .ttl) (omega arith) refl refl i;
-        taken = setting-wide 5 (e .taken) (omega arith) refl refl i;
+        settings = record {
+          root = setting-flag 0 (e .settings .root) (omega arith) refl i;
+          interlink = setting-flag 1 (e .settings .interlink) (omega arith) refl i;
+          failback = setting-flag 2 (e .settings .failback) (omega arith) refl i;
+          ttl = setting-wide 3 (e .settings .ttl) (omega arith) refl refl i;
+          taken = setting-wide 5 (e .settings .taken) (omega arith) refl refl i;
+        };
         targets = targets-back i;
         hint = h i;
       }
 
 pub referrals-lawful : Lawful referrals
-unfolding referralOf
+unfolding referralOf settingsAt
 referrals-lawful = record { first = λ piece. refl; long = referral-long; back = referral-back; shows = referral-shows }
 
 module _ (d : Domain) (good : goodDomain d ≡ true) where

@@ -26,7 +26,7 @@ use Rattle.cache.proofs.places.ZeroLaws.{zero-at, zeros-all}
 use Rattle.unc.specs.names.Paths.{Target}
 use Rattle.cache.specs.order.Entries.{Referral}
 use Rattle.cache.specs.order.Order.{goodPrefix, firstOpensNone, goodReferral, goodDomain, goodDCHint}
-use Rattle.cache.specs.order.Memory.{targetOf, referralOf, referralSettings, referralUnits, domainOf, domainUnits}
+use Rattle.cache.specs.order.Memory.{targetOf, referralOf, settingsUnits, referralUnits, domainOf, domainUnits, settingsAt}
 use Rattle.cache.specs.order.Code.{goodText, goodTexts, goodFlags}
 use Rattle.cache.proofs.order.KindLaws.{GoodReferral, referral-told, good-referral, referral-shape, GoodDomain, domain-told, good-domain, domain-shape, every-path, path-every}
 
@@ -53,7 +53,7 @@ texts-listed piece =
 
 module _ (piece : List ℕ) where
   referral-texts : placeTexts piece ≡ referralOf piece .prefix ∷ map (λ t. t .path) (referralOf piece .targets)
-  unfolding referralOf targetOf
+  unfolding referralOf targetOf settingsAt
   referral-texts =
       texts-listed piece ∙ (λ i. textAt 0 piece ∷ sym (map-listed (λ (t : Target). t .path) (listCount piece) (λ j. targetOf j piece)) i)
 
@@ -67,11 +67,11 @@ small-marks [] j = omega arith
 small-marks (t ∷ ts) zero = flag-small (t .opens)
 small-marks (t ∷ ts) (suc j) = small-marks ts j
 
-small-settings : (e : Referral) (j : ℕ) → j < 3 → getD (referralSettings e) j 0 ≤ 1
-unfolding referralSettings
-small-settings e zero h = flag-small (e .root)
-small-settings e (suc zero) h = flag-small (e .interlink)
-small-settings e (suc (suc zero)) h = flag-small (e .failback)
+small-settings : (e : Referral) (j : ℕ) → j < 3 → getD (settingsUnits (e .settings)) j 0 ≤ 1
+unfolding settingsUnits
+small-settings e zero h = flag-small (e .settings .root)
+small-settings e (suc zero) h = flag-small (e .settings .interlink)
+small-settings e (suc (suc zero)) h = flag-small (e .settings .failback)
 small-settings e (suc (suc (suc j))) h = absurd (omega arith)
 
 first-opens : (n : ℕ) (f : ℕ → Target) → 0 < n → firstOpensNone (listed n f) ≡ not (f 0 .opens)
@@ -93,14 +93,14 @@ module _ (piece : List ℕ) (whole : length piece ≡ 2336) (low : unitAt ttlUni
   flag-at h j u = leb-true _ 1 (every-listed (λ v. leb v 1) (ttlUnit - markUnits) (λ i. unitAt (markUnits + i) piece) h j u)
 
   marks-again : goodFlags piece ≡ true → map (λ t. flagUnit (t .opens)) (referralOf piece .targets) ≡ marksOf piece
-  unfolding referralOf targetOf flagAt marksOf
+  unfolding referralOf targetOf flagAt marksOf settingsAt
   marks-again h =
       map-listed (λ (t : Target). flagUnit (t .opens)) (listCount piece) (λ j. targetOf j piece)
       ∙ listed-same (listCount piece) (λ j. flagUnit (eqb (unitAt (markUnits + j) piece) 1)) (λ j. unitAt (markUnits + j) piece)
       (λ j u. flag-unit _ (flag-at h j (omega arith)))
 
-  settings-again : goodFlags piece ≡ true → referralSettings (referralOf piece) ≡ settingsOf piece
-  unfolding referralSettings referralOf flagAt wideAt settingsOf listed
+  settings-again : goodFlags piece ≡ true → settingsUnits (settingsAt piece) ≡ settingsOf piece
+  unfolding settingsUnits referralOf flagAt wideAt settingsOf listed settingsAt
   settings-again h =
       let a : (unitAt ttlUnit piece + 65536 * unitAt (ttlUnit + 1) piece) % 65536 ≡ unitAt ttlUnit piece = omega arith in
       let b : (unitAt ttlUnit piece + 65536 * unitAt (ttlUnit + 1) piece) / 65536 ≡ unitAt (ttlUnit + 1) piece = omega arith in
@@ -114,7 +114,7 @@ module _ (piece : List ℕ) (whole : length piece ≡ 2336) (low : unitAt ttlUni
   -- with its flags 0 or 1 a place is written again as it is read
   written-again : goodFlags piece ≡ true
       → referralUnits (referralOf piece) ≡ written (placeTexts piece) (unitAt hintUnit piece) (marksOf piece) (settingsOf piece)
-  unfolding referralUnits referralOf
+  unfolding referralUnits referralOf settingsAt
   written-again h = λ i. written (sym (referral-texts piece) i) (unitAt hintUnit piece) (marks-again h i) (settings-again h i)
 
   units-tidy : goodFlags piece ≡ true → sameList (referralUnits (referralOf piece)) piece ≡ tidy piece
@@ -123,11 +123,11 @@ module _ (piece : List ℕ) (whole : length piece ≡ 2336) (low : unitAt ttlUni
 
   -- the number of targets
   count-targets : length (referralOf piece .targets) ≡ listCount piece
-  unfolding referralOf
+  unfolding referralOf settingsAt
   count-targets = length-listed (listCount piece) (λ j. targetOf j piece)
 
   first-mark : 0 < listCount piece → firstOpensNone (referralOf piece .targets) ≡ not (flagAt markUnits piece)
-  unfolding referralOf targetOf
+  unfolding referralOf targetOf settingsAt
   first-mark h = first-opens (listCount piece) (λ j. targetOf j piece) h
 
   flag-off : unitAt markUnits piece ≡ 0 → flagAt markUnits piece ≡ false
@@ -139,11 +139,11 @@ module _ (piece : List ℕ) (whole : length piece ≡ 2336) (low : unitAt ttlUni
   off-flag h = eqb-false (unitAt markUnits piece) 1 h
 
   hint-below : {n m : ℕ} → unitAt hintUnit piece < n → n ≤ m → referralOf piece .hint < m
-  unfolding referralOf
+  unfolding referralOf settingsAt
   hint-below h u = omega arith
 
   below-hint : {n : ℕ} → referralOf piece .hint < n → unitAt hintUnit piece < n
-  unfolding referralOf
+  unfolding referralOf settingsAt
   below-hint h = h
 
   pub referral-passes : ReferralTests piece → (goodReferral (referralOf piece) && sameList (referralUnits (referralOf piece)) piece) ≡ true

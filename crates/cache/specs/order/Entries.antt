@@ -4,14 +4,18 @@ use mathlib.Core.Bool.{Bool}
 use mathlib.Core.List.{List}
 use Rattle.unc.specs.names.Paths.{Target}
 
--- a referral entry: root (else link), Interlink, TargetFailback, TTL and the time taken in seconds, TargetHint as a place in the list
-pub record Referral : Type 0 where
-  pub prefix : List ℕ
+-- the settings of a referral entry: root (else link), Interlink, TargetFailback, TTL and the time taken in seconds
+pub record Settings : Type 0 where
   pub root : Bool
   pub interlink : Bool
   pub failback : Bool
   pub ttl : ℕ
   pub taken : ℕ
+
+-- a referral entry, TargetHint as a place in the list
+pub record Referral : Type 0 where
+  pub prefix : List ℕ
+  pub settings : Settings
   pub targets : List Target
   pub hint : ℕ
 

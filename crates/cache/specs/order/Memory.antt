@@ -9,34 +9,40 @@ use Rattle.laws.specs.Lists.{every}
 use Rattle.laws.specs.Listed.{listed, sameList}
 use Rattle.cache.specs.places.Layout.{placeCount, placeAt, unitAt, wideAt, wideUnits, flagAt, flagUnit, textAt, listCount, blank, written, hintUnit, markUnits, rootUnit, interlinkUnit, failbackUnit, ttlUnit, takenUnit, placeUnits}
 use Rattle.unc.specs.names.Paths.{Target}
-use Rattle.cache.specs.order.Entries.{Referral, Domain, Place, free, used}
+use Rattle.cache.specs.order.Entries.{Settings, Referral, Domain, Place, free, used}
 use Rattle.cache.specs.order.Order.{goodReferral, goodDomain, distinct}
 
 -- target j of a place: text 1 + j, and mark j
 unfoldable pub targetOf : ℕ → List ℕ → Target
 targetOf j piece = record { path = textAt (1 + j) piece; opens = flagAt (markUnits + j) piece }
 
--- a place read as a referral entry
-unfoldable pub referralOf : List ℕ → Referral
-referralOf piece = record {
-  prefix = textAt 0 piece;
+-- the settings that a place holds
+unfoldable pub settingsAt : List ℕ → Settings
+settingsAt piece = record {
   root = flagAt rootUnit piece;
   interlink = flagAt interlinkUnit piece;
   failback = flagAt failbackUnit piece;
   ttl = wideAt ttlUnit piece;
   taken = wideAt takenUnit piece;
+}
+
+-- and the units that write them, from that of root on
+unfoldable pub settingsUnits : Settings → List ℕ
+settingsUnits s = flagUnit (s .root) ∷ flagUnit (s .interlink) ∷ flagUnit (s .failback) ∷ (wideUnits (s .ttl) ++ wideUnits (s .taken))
+
+-- a place read as a referral entry
+unfoldable pub referralOf : List ℕ → Referral
+referralOf piece = record {
+  prefix = textAt 0 piece;
+  settings = settingsAt piece;
   targets = listed (listCount piece) (λ j. targetOf j piece);
   hint = unitAt hintUnit piece;
 }
 
--- the settings of a referral entry, from the unit of root on
-unfoldable pub referralSettings : Referral → List ℕ
-referralSettings e = flagUnit (e .root) ∷ flagUnit (e .interlink) ∷ flagUnit (e .failback) ∷ (wideUnits (e .ttl) ++ wideUnits (e .taken))
-
 -- the place that a referral entry writes
 unfoldable pub referralUnits : Referral → List ℕ
 referralUnits e =
-    written (e .prefix ∷ map (λ t. t .path) (e .targets)) (e .hint) (map (λ t. flagUnit (t .opens)) (e .targets)) (referralSettings e)
+    written (e .prefix ∷ map (λ t. t .path) (e .targets)) (e .hint) (map (λ t. flagUnit (t .opens)) (e .targets)) (settingsUnits (e .settings))
 
 -- a place read as a domain entry
 unfoldable pub domainOf : List ℕ → Domain

@@ -9,6 +9,7 @@ use lib.Seq.{drop-cons, getD-take, length-take-le}
 use lib.Dec.{leb}
 use borrow.Author.Tests.{leb-true, le-leb}
 use native.Mathlib.Numerals.{add-one}
+use Rattle.cache.specs.order.Memory.{settingsUnits}
 use Rattle.laws.specs.Lists.{pasted, roomed, every}
 use Rattle.laws.proofs.Choices.{choose-yes, choose-no, and-left, and-right, and-both}
 use Rattle.laws.proofs.Every.{every-drop, every-at}
@@ -136,7 +137,7 @@ module _ (raw : List ℕ) (i : ℕ) (fits : i < placeCount raw) where
 
   pub settings-written : (root interlink failback : Bool) (a b c x y : ℕ) {o : List ℕ} → a ≡ flagUnit root → b ≡ flagUnit interlink → c ≡ flagUnit failback
       → o ≡ changed i (putSettings (a ∷ b ∷ c ∷ (wideUnits x ++ wideUnits y))) raw → o ≡ changed i (putSettings (settings root interlink failback x y)) raw
-  unfolding settings
+  unfolding settings settingsUnits
   settings-written root interlink failback a b c x y u v w h = h ∙ (λ j. changed i (putSettings (u j ∷ v j ∷ w j ∷ (wideUnits x ++ wideUnits y))) raw)
 
   pub target-added : (n v : ℕ) (r : List ℕ) (k : Kept) {m o : List ℕ} → keptFits r k ≡ true → n < 8 → v ≡ flagUnit (k .opens)

@@ -8,6 +8,7 @@ use lib.Dec.{leb}
 use Rattle.cache.specs.places.Code.{putUnit, putText}
 use Rattle.cache.specs.places.Layout.{flagUnit, wideUnits, blank, countUnit, markUnits, roomUnits}
 use Rattle.unc.specs.names.Paths.{Target}
+use Rattle.cache.specs.order.Memory.{settingsUnits}
 use Rattle.reply_bytes.specs.texts.Code.{spanned}
 use Rattle.reply_read.specs.declared.referral.Kept.{Kept}
 
@@ -39,4 +40,4 @@ begun key piece = addText 0 key blank
 -- root, Interlink, TargetFailback, TTL and the time taken
 unfoldable pub settings : Bool → Bool → Bool → ℕ → ℕ → List ℕ
 settings root interlink failback ttl taken =
-    flagUnit root ∷ flagUnit interlink ∷ flagUnit failback ∷ (wideUnits ttl ++ wideUnits taken)
+    settingsUnits (record { root = root; interlink = interlink; failback = failback; ttl = ttl; taken = taken })

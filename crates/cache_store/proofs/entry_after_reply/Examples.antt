@@ -10,7 +10,7 @@ use Rattle.unc.specs.names.Paths.{Target}
 use Rattle.cache.specs.order.Entries.{Referral}
 use Rattle.reply_read.specs.referral.Replies as replies
 use Rattle.cache_entry.specs.equivalent_targets.Equivalence.{timesIn, sameTargets, paths, joinSet, nextOpens, sets, sameSets, equivalent}
-use Rattle.cache_store.specs.entry_after_reply.Stored.{firstEqual, hinted, inFirstSet, failedBack, targetsAfter, refreshed}
+use Rattle.cache_store.specs.entry_after_reply.Stored.{firstEqual, hinted, inFirstSet, failedBack, targetsAfter, refreshed, settingsSaid}
 
 abbrev share : ℕ → ℕ → List ℕ
 share a b = 92 ∷ a ∷ b ∷ 92 ∷ 116 ∷ 114 ∷ 97 ∷ 105 ∷ 110 ∷ []
@@ -22,11 +22,13 @@ target a b = record { path = share a b; opens = false }
 abbrev train : Referral
 train = record {
   prefix = share 119 49;
-  root = false;
-  interlink = false;
-  failback = false;
-  ttl = 300;
-  taken = 100;
+  settings = record {
+    root = false;
+    interlink = false;
+    failback = false;
+    ttl = 300;
+    taken = 100;
+  };
   targets = target 111 49 ∷ target 111 50 ∷ [];
   hint = 1;
 }
@@ -48,13 +50,15 @@ moved = record {
 pub train-refreshed : refreshed train moved false 500
     ≡ record {
       prefix = share 119 49;
-      root = false;
-      interlink = false;
-      failback = false;
-      ttl = 300;
-      taken = 500;
+      settings = record {
+        root = false;
+        interlink = false;
+        failback = false;
+        ttl = 300;
+        taken = 500;
+      };
       targets = target 110 49 ∷ target 110 50 ∷ [];
       hint = 0;
     }
-unfolding refreshed targetsAfter hinted firstEqual failedBack inFirstSet equivalent sets nextOpens joinSet sameSets sameTargets paths timesIn every sameName sameUnit folded choose
+unfolding refreshed targetsAfter hinted firstEqual failedBack inFirstSet equivalent sets nextOpens joinSet sameSets sameTargets paths timesIn every sameName sameUnit folded choose settingsSaid
 train-refreshed = refl

@@ -24,7 +24,7 @@ use Rattle.cache_lookup.specs.Lookup.{targetHintTo}
 use Rattle.cache_lookup.proofs.EntryLaws.{target-hint-units}
 use Rattle.reply_read.specs.referral.Replies as replies
 use Rattle.cache_entry.specs.equivalent_targets.Equivalence.{equivalent}
-use Rattle.cache_store.specs.entry_after_reply.Stored.{targetsAfter, firstEqual, hinted, failedBack, refreshed, fresh}
+use Rattle.cache_store.specs.entry_after_reply.Stored.{targetsAfter, firstEqual, hinted, failedBack, refreshed, fresh, settingsSaid}
 use Rattle.reply_read.specs.referral.Code.{referralShown, targetShown}
 use Rattle.reply_read.specs.declared.referral.ReferralFound.{ReferralFound}
 use Rattle.cache_entry.specs.write_entry.Code.{addAll, addTarget, settings}
@@ -81,11 +81,7 @@ module _ (raw : List ℕ) (i : ℕ) (fits : i < placeCount raw) (e : Referral) (
 abbrev pub based : Referral → replies.Referral → Bool → ℕ → List Target → ℕ → Referral
 based e q interlink clock ts hint = record {
   prefix = e .prefix;
-  root = q .root;
-  interlink = interlink;
-  failback = q .failback;
-  ttl = q .ttl;
-  taken = clock;
+  settings = settingsSaid q interlink clock;
   targets = ts;
   hint = hint;
 }
@@ -93,12 +89,12 @@ based e q interlink clock ts hint = record {
 module _ (e : Referral) (q : replies.Referral) (interlink : Bool) (clock : ℕ) where
   pub refreshed-held : {r : Bool} → r ≡ equivalent (q .version) (e .targets) (q .targets) → r ≡ true → (h : ℕ)
       → targetHintTo (failedBack (q .failback) (e .targets) (firstEqual 0 (hinted e) (e .targets))) (based e q interlink clock (e .targets) h) ≡ refreshed e q interlink clock
-  unfolding refreshed targetsAfter targetHintTo
+  unfolding refreshed targetsAfter targetHintTo settingsSaid
   refreshed-held f g h = rw (choose-yes (e .targets) (q .targets) (sym f ∙ g))
 
   pub refreshed-given : {r : Bool} → r ≡ equivalent (q .version) (e .targets) (q .targets) → r ≡ false → (h : ℕ)
       → targetHintTo (failedBack (q .failback) (q .targets) (firstEqual 0 (hinted e) (q .targets))) (based e q interlink clock (q .targets) h) ≡ refreshed e q interlink clock
-  unfolding refreshed targetsAfter targetHintTo
+  unfolding refreshed targetsAfter targetHintTo settingsSaid
   refreshed-given f g h = rw (choose-no (e .targets) (q .targets) (sym f ∙ g))
 
   pub held-good : goodReferral e ≡ true → goodReferral (based e q interlink clock (e .targets) (e .hint)) ≡ true
@@ -107,7 +103,7 @@ module _ (e : Referral) (q : replies.Referral) (interlink : Bool) (clock : ℕ) 
       good-referral (based e q interlink clock (e .targets) (e .hint)) (record { prefixed = g .prefixed; some = g .some; few = g .few; each = g .each; first = g .first; hinted = g .hinted })
 
   pub given-good : goodReferral e ≡ true → goodReferral (fresh q false 0) ≡ true → goodReferral (based e q interlink clock (q .targets) 0) ≡ true
-  unfolding fresh
+  unfolding fresh settingsSaid
   given-good good fine =
       let g = referral-told e good in
       let f = referral-told (fresh q false 0) fine in
@@ -122,7 +118,7 @@ zeroed-keeps m n u v =
 -- what a refresh with another list leaves in the place, up to the hint
 given-entry : (raw : List ℕ) (i : ℕ) → HeldEntry i raw → (r : List ℕ) (f : ReferralFound) (interlink : Bool) (clock : ℕ) → goodReferral (based (entryAt referrals i raw) (referralShown r f) interlink clock (referralShown r f .targets) 0) ≡ true
     → putSettings (settings (f .root) interlink (f .failback) (f .ttl) clock) (addAll addTarget 0 (map (targetShown r) (take (f .targets) (f .kept))) (keyOnly (referralUnits (entryAt referrals i raw)))) ≡ referralUnits (based (entryAt referrals i raw) (referralShown r f) interlink clock (referralShown r f .targets) 0)
-unfolding referralShown
+unfolding referralShown settingsSaid
 given-entry raw i place r f interlink clock g =
     entry-replaced (based (entryAt referrals i raw) (referralShown r f) interlink clock (referralShown r f .targets) 0) g refl (entryAt referrals i raw) (place .good) refl (map (targetShown r) (take (f .targets) (f .kept))) (sym (targets-in r f))
 
@@ -130,7 +126,7 @@ given-entry raw i place r f interlink clock g =
 module _ (raw : List ℕ) (i : ℕ) (place : HeldEntry i raw) (r : List ℕ) (f : ReferralFound) (interlink : Bool) (clock : ℕ) where
   held-settled : {m : List ℕ} → m ≡ changed i (putSettings (settings (f .root) interlink (f .failback) (f .ttl) clock)) raw
       → m ≡ changed i (λ p. referralUnits (based (entryAt referrals i raw) (referralShown r f) interlink clock (entryAt referrals i raw .targets) (entryAt referrals i raw .hint))) raw
-  unfolding referralShown
+  unfolding referralShown settingsSaid
   held-settled a =
       a ∙ changed-same raw i (place .fits) (putSettings (settings (f .root) interlink (f .failback) (f .ttl) clock)) (λ p. referralUnits _)
       (ap (putSettings (settings (f .root) interlink (f .failback) (f .ttl) clock)) (place .units)
@@ -153,7 +149,7 @@ module _ (raw : List ℕ) (i : ℕ) (place : HeldEntry i raw) (r : List ℕ) (f 
     pub held-done : {o : List ℕ} → equivalent (f .version) (entryAt referrals i raw .targets) (referralShown r f .targets) ≡ true
         → o ≡ changed i (putUnit hintUnit (failedBack (f .failback) (entryAt referrals i m .targets) hint)) m
         → o ≡ changed i (λ p. referralUnits (refreshed (entryAt referrals i raw) (referralShown r f) interlink clock)) raw
-    unfolding referralShown
+    unfolding referralShown settingsSaid
     held-done v c =
         held-hinted raw i (place .fits) _ good-held m (held-settled a) (f .failback) hint c
         ∙ (ap (λ (x : ℕ). changed i (λ p. referralUnits (targetHintTo (failedBack (f .failback) (entryAt referrals i raw .targets) x)
@@ -180,7 +176,7 @@ module _ (raw : List ℕ) (i : ℕ) (place : HeldEntry i raw) (r : List ℕ) (f 
     module _ (k l m : List ℕ) (a : k ≡ changed i keyOnly raw) (b : l ≡ changed i (addAll addTarget 0 (map (targetShown r) (take (f .targets) (f .kept)))) k) (c : m ≡ changed i (putSettings (settings (f .root) interlink (f .failback) (f .ttl) clock)) l) (hint : ℕ)
         (h : hint ≡ firstEqual 0 (hinted (entryAt referrals i raw)) (map (targetShown r) (take (f .targets) (f .kept)))) where
       pub given-ready : (i < placeCount m) × (hint < length (entryAt referrals i m .targets))
-      unfolding fresh
+      unfolding fresh settingsSaid
       given-ready =
           let g = referral-told (fresh (referralShown r f) false 0) (s .good) in
           let t : hint < length (referralShown r f .targets) = rw (h, ← targets-in r f) (first-within (hinted (entryAt referrals i raw)) (referralShown r f .targets) (g .some)) in (
@@ -191,7 +187,7 @@ module _ (raw : List ℕ) (i : ℕ) (place : HeldEntry i raw) (r : List ℕ) (f 
       pub given-done : {o : List ℕ} → equivalent (f .version) ((entryAt referrals i raw) .targets) (referralShown r f .targets) ≡ false
           → o ≡ changed i (putUnit hintUnit (failedBack (f .failback) (entryAt referrals i m .targets) hint)) m
           → o ≡ changed i (λ p. referralUnits (refreshed (entryAt referrals i raw) (referralShown r f) interlink clock)) raw
-      unfolding referralShown
+      unfolding referralShown settingsSaid
       given-done v d =
           held-hinted raw i (place .fits) _ good-given m (given-settled a b c) (f .failback) hint d
           ∙ (ap (λ (x : ℕ). changed i (λ p. referralUnits (targetHintTo (failedBack (f .failback) (referralShown r f .targets) x) (based (entryAt referrals i raw) (referralShown r f) interlink clock (referralShown r f .targets) 0))) raw)

@@ -11,13 +11,13 @@ use Rattle.reply_bytes.specs.texts.Code.{spanned}
 use Rattle.reply_bytes.proofs.texts.UnitLaws.{length-spanned}
 use Rattle.unc.specs.names.Paths.{Target}
 use Rattle.cache.specs.order.Order.{goodReferral}
-use Rattle.cache.specs.order.Memory.{referralUnits}
+use Rattle.cache.specs.order.Memory.{referralUnits, settingsUnits}
 use Rattle.cache.proofs.order.KindLaws.{GoodReferral, referral-told, prefix-short}
 use Rattle.reply_read.specs.referral.Replies as replies
 use Rattle.reply_read.specs.referral.Code.{referralShown, targetShown}
 use Rattle.reply_read.specs.declared.referral.Kept.{Kept}
 use Rattle.reply_read.specs.declared.referral.ReferralFound.{ReferralFound}
-use Rattle.cache_store.specs.entry_after_reply.Stored.{fresh}
+use Rattle.cache_store.specs.entry_after_reply.Stored.{fresh, settingsSaid}
 use Rattle.cache_entry.specs.write_entry.Code.{addText, addAll, addTarget, begun, settings}
 use Rattle.cache_store.specs.entry_after_reply.Code.{Storable}
 use Rattle.cache_entry.proofs.write_entry.WritingLaws.{Keeps, keeps-added, keeps-blank, keeps-both, keeps-target, keeps-all, keeps-pasted, short, all-short, then-changed, changed-same}
@@ -30,12 +30,12 @@ targets-in r f = refl
 
 -- whether an entry is good does not depend on Interlink or the time taken
 pub fresh-good : (q : replies.Referral) (a b : Bool) (s t : ℕ) → goodReferral (fresh q a s) ≡ true → goodReferral (fresh q b t) ≡ true
-unfolding goodReferral fresh
+unfolding goodReferral fresh settingsSaid
 fresh-good q a b s t h = h
 
 -- the prefix fits its room
 pub prefix-fits : (r : List ℕ) (f : ReferralFound) → Storable r f → f .prefix .units ≤ 256
-unfolding fresh referralShown
+unfolding fresh referralShown settingsSaid
 prefix-fits r f s =
     let g : GoodReferral (fresh (referralShown r f) false 0) = referral-told (fresh (referralShown r f) false 0) (s .good) in
     let l : length (spanned r (f .prefix)) ≤ 256 = prefix-short (spanned r (f .prefix)) (g .prefixed) in
@@ -46,7 +46,7 @@ unfolding begun
 keeps-begun t h = keeps-both (λ q. _) (addText 0 t) keeps-blank (keeps-added 0 t (omega arith) h)
 
 pub keeps-settled : (root interlink failback : Bool) (ttl taken : ℕ) → Keeps (putSettings (settings root interlink failback ttl taken))
-unfolding putSettings settings
+unfolding putSettings settings settingsUnits
 keeps-settled root interlink failback ttl taken = keeps-pasted rootUnit (settings root interlink failback ttl taken) (omega arith)
 
 few-kept : (r : List ℕ) (ks : List Kept) (n : ℕ) → n ≤ 8 → 0 + length (map (targetShown r) (take n ks)) ≤ 8
@@ -56,7 +56,7 @@ few-kept r ks n h = simp (length-map, length-take) (omega arith)
 new-entry : (r : List ℕ) (f : ReferralFound) → Storable r f → (interlink : Bool) (clock : ℕ) (p : List ℕ)
     → putSettings (settings (f .root) interlink (f .failback) (f .ttl) clock) (addAll addTarget 0 (map (targetShown r) (take (f .targets) (f .kept))) (begun (spanned r (f .prefix)) p))
     ≡ referralUnits (fresh (referralShown r f) interlink clock)
-unfolding fresh referralShown
+unfolding fresh referralShown settingsSaid
 new-entry r f s interlink clock p =
     entry-inserted (fresh (referralShown r f) interlink clock) (fresh-good (referralShown r f) false interlink 0 clock (s .good)) refl
     (map (targetShown r) (take (f .targets) (f .kept))) (sym (targets-in r f)) p

@@ -31,7 +31,7 @@ use Rattle.reply_read.specs.referral.Replies as replies
 use Rattle.reply_read.specs.referral.Code.{referralShown, keptInside, isInside, targetShown}
 use Rattle.reply_read.specs.declared.referral.Kept.{Kept}
 use Rattle.reply_read.specs.declared.referral.ReferralFound.{ReferralFound}
-use Rattle.cache_store.specs.entry_after_reply.Stored.{hinted, refreshed, fresh, stored, storedEntry, storePlace, prefixed, held, heldAt}
+use Rattle.cache_store.specs.entry_after_reply.Stored.{hinted, refreshed, fresh, stored, storedEntry, storePlace, prefixed, held, heldAt, settingsSaid}
 use Rattle.cache_entry.specs.write_entry.Code.{keptFits}
 use Rattle.cache_store.specs.entry_after_reply.Code.{Storable, HeldEntry}
 use Rattle.cache_store.proofs.entry_after_reply.StoreLaws.{fresh-good}
@@ -57,7 +57,7 @@ equivalent-told raw i r f e h = sym e ∙ h
 -- a refreshed entry is good
 pub refreshed-good : (e : Referral) (q : replies.Referral) (interlink : Bool) (clock : ℕ) → goodReferral e ≡ true → goodReferral (fresh q false 0) ≡ true
     → goodReferral (refreshed e q interlink clock) ≡ true
-unfolding fresh
+unfolding fresh settingsSaid
 refreshed-good e q interlink clock h k = go (told (equivalent (q .version) (e .targets) (q .targets)))
   where
     go : (equivalent (q .version) (e .targets) (q .targets) ≡ true) ⊎ (equivalent (q .version) (e .targets) (q .targets) ≡ false)
@@ -144,14 +144,14 @@ place-holds raw order i u e g = changed-encode referrals referrals-lawful raw i 
 
 fresh-prefix : (r : List ℕ) (f : ReferralFound) (interlink : Bool) (clock : ℕ) (raw : List ℕ) → withKey referrals (spanned r (f .prefix)) (decode referrals raw) ≡ Nothing
     → withKey referrals (fresh (referralShown r f) interlink clock .prefix) (decode referrals raw) ≡ Nothing
-unfolding fresh referralShown
+unfolding fresh referralShown settingsSaid
 fresh-prefix r f interlink clock raw h = h
 
 -- a store keeps a cache in order
 module _ (raw : List ℕ) (order : inOrder referrals raw ≡ true) (r : List ℕ) (f : ReferralFound) (s : Storable r f) (interlink : Bool) (clock : ℕ) where
   order-refreshed : (i : ℕ) → withKey referrals (spanned r (f .prefix)) (decode referrals raw) ≡ At i
       → inOrder referrals (encode referrals (stored (referralShown r f) interlink clock (decode referrals raw))) ≡ true
-  unfolding refreshed
+  unfolding refreshed settingsSaid
   order-refreshed i h =
       let k = key-found referrals (spanned r (f .prefix)) (decode referrals raw) i h in
       let p = held-there raw order (spanned r (f .prefix)) i h in

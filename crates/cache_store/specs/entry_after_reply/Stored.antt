@@ -8,7 +8,7 @@ use Rattle.laws.specs.Choice.{choose}
 use Rattle.laws.specs.Lists.{every}
 use Rattle.unc.specs.names.Names.{sameName}
 use Rattle.unc.specs.names.Paths.{Target}
-use Rattle.cache.specs.order.Entries.{Referral, Domain, Place, free, used}
+use Rattle.cache.specs.order.Entries.{Settings, Referral, Domain, Place, free, used}
 use Rattle.cache.specs.order.Memory.{referrals}
 use Rattle.cache_lookup.specs.Lookup.{withKey, newPlace, foundOr}
 use Rattle.cache_lookup.specs.declared.Found.{Found}
@@ -41,15 +41,15 @@ failedBack failback ts hint = choose (failback && not (inFirstSet hint ts)) 0 hi
 unfoldable pub targetsAfter : Referral → replies.Referral → List Target
 targetsAfter e q = choose (equivalent (q .version) (e .targets) (q .targets)) (e .targets) (q .targets)
 
--- An entry refreshed: the prefix keeps its spelling; all else but the targets and the hint is the reply's, and the time taken becomes now.
+-- the settings that a reply gives: kind, TTL and TargetFailback as it says them, and the time taken is now
+unfoldable pub settingsSaid : replies.Referral → Bool → ℕ → Settings
+settingsSaid q interlink clock = record { root = q .root; interlink = interlink; failback = q .failback; ttl = q .ttl; taken = clock }
+
+-- An entry refreshed: the prefix keeps its spelling; the settings are the reply's.
 unfoldable pub refreshed : Referral → replies.Referral → Bool → ℕ → Referral
 refreshed e q interlink clock = record {
   prefix = e .prefix;
-  root = q .root;
-  interlink = interlink;
-  failback = q .failback;
-  ttl = q .ttl;
-  taken = clock;
+  settings = settingsSaid q interlink clock;
   targets = targetsAfter e q;
   hint = failedBack (q .failback) (targetsAfter e q) (firstEqual 0 (hinted e) (targetsAfter e q));
 }
@@ -58,11 +58,7 @@ refreshed e q interlink clock = record {
 unfoldable pub fresh : replies.Referral → Bool → ℕ → Referral
 fresh q interlink clock = record {
   prefix = q .prefix;
-  root = q .root;
-  interlink = interlink;
-  failback = q .failback;
-  ttl = q .ttl;
-  taken = clock;
+  settings = settingsSaid q interlink clock;
   targets = q .targets;
   hint = 0;
 }

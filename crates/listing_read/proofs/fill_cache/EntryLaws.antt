@@ -23,7 +23,7 @@ use Rattle.cache.proofs.places.PutLaws.{put-settings, put-hint}
 use Rattle.unc.specs.names.Paths.{Target}
 use Rattle.cache.specs.order.Entries.{Referral, used}
 use Rattle.cache.specs.order.Order.{goodPrefix, goodTarget, goodReferral}
-use Rattle.cache.specs.order.Memory.{referralSettings, referralUnits}
+use Rattle.cache.specs.order.Memory.{settingsUnits, referralUnits}
 use Rattle.cache.proofs.order.KindLaws.{GoodReferral, referral-told, referral-shape, prefix-short}
 use Rattle.cache.proofs.order.MemoryLaws.{length-blank}
 use Rattle.listing_spelling.specs.spell.Spelling.{decimalIn, decimal}
@@ -94,13 +94,13 @@ keeps-settings : (ss : List ℕ) → length ss ≡ 7 → Keeps (putSettings ss)
 unfolding putSettings
 keeps-settings ss h = keeps-pasted rootUnit ss (omega arith)
 
-settings-of : (e : Referral) {a b c : Bool} {x y : ℕ} → a ≡ e .root → b ≡ e .interlink → c ≡ e .failback → x ≡ e .ttl → y ≡ e .taken
-    → settings a b c x y ≡ referralSettings e
-unfolding settings referralSettings
+settings-of : (e : Referral) {a b c : Bool} {x y : ℕ} → a ≡ e .settings .root → b ≡ e .settings .interlink → c ≡ e .settings .failback → x ≡ e .settings .ttl → y ≡ e .settings .taken
+    → settings a b c x y ≡ settingsUnits (e .settings)
+unfolding settings settingsUnits
 settings-of e p q r s t = λ i. settings (p i) (q i) (r i) (s i) (t i)
 
-long-settings : (e : Referral) → length (referralSettings e) ≡ 7
-unfolding referralSettings
+long-settings : (e : Referral) → length (settingsUnits (e .settings)) ≡ 7
+unfolding settingsUnits
 long-settings e = refl
 
 module _ (text : List ℕ) (i n : ℕ) (at : LinesAt text i n (drop 1 (entryLines (saidAt text i)))) where
@@ -115,66 +115,66 @@ module _ (text : List ℕ) (i n : ℕ) (at : LinesAt text i n (drop 1 (entryLine
   afterTaken = linesText (numberLine hintKey (e .hint) ∷ targetLines (e .targets)) ++ restAfter text i
 
   afterTtl : List ℕ
-  afterTtl = ended (numberLine takenKey (e .taken)) ++ afterTaken
+  afterTtl = ended (numberLine takenKey (e .settings .taken)) ++ afterTaken
 
   counts : List (List ℕ)
   counts = countLines e ++ targetLines (e .targets)
 
-  stands : drop n text ≡ linesText (flagLines (e .root) (e .interlink) (e .failback) counts) ++ restAfter text i
+  stands : drop n text ≡ linesText (flagLines (e .settings .root) (e .settings .interlink) (e .settings .failback) counts) ++ restAfter text i
   unfolding entryLines settingLines counts
   stands = at .stands
 
-  pub root-there : eqb (getD text (n + 5) 0) 114 ≡ e .root
-  root-there = ap (λ (x : ℕ). eqb x 114) (sym (getD-drop n text 5 0)) ∙ (ap (λ (x : List ℕ). eqb (getD x 5 0) 114) stands ∙ root-unit counts (restAfter text i) (e .root) (e .interlink) (e .failback))
+  pub root-there : eqb (getD text (n + 5) 0) 114 ≡ e .settings .root
+  root-there = ap (λ (x : ℕ). eqb x 114) (sym (getD-drop n text 5 0)) ∙ (ap (λ (x : List ℕ). eqb (getD x 5 0) 114) stands ∙ root-unit counts (restAfter text i) (e .settings .root) (e .settings .interlink) (e .settings .failback))
 
-  pub interlink-there : eqb (getD text (n + 20) 0) 49 ≡ e .interlink
+  pub interlink-there : eqb (getD text (n + 20) 0) 49 ≡ e .settings .interlink
   interlink-there =
       ap (λ (x : ℕ). eqb x 49) (sym (getD-drop n text 20 0))
-      ∙ (ap (λ (x : List ℕ). eqb (getD x 20 0) 49) stands ∙ interlink-unit counts (restAfter text i) (e .root) (e .interlink) (e .failback))
+      ∙ (ap (λ (x : List ℕ). eqb (getD x 20 0) 49) stands ∙ interlink-unit counts (restAfter text i) (e .settings .root) (e .settings .interlink) (e .settings .failback))
 
-  pub failback-there : eqb (getD text (n + 31) 0) 49 ≡ e .failback
+  pub failback-there : eqb (getD text (n + 31) 0) 49 ≡ e .settings .failback
   failback-there =
       ap (λ (x : ℕ). eqb x 49) (sym (getD-drop n text 31 0))
-      ∙ (ap (λ (x : List ℕ). eqb (getD x 31 0) 49) stands ∙ failback-unit counts (restAfter text i) (e .root) (e .interlink) (e .failback))
+      ∙ (ap (λ (x : List ℕ). eqb (getD x 31 0) 49) stands ∙ failback-unit counts (restAfter text i) (e .settings .root) (e .settings .interlink) (e .settings .failback))
 
-  after-flags : drop (n + 33) text ≡ ended (numberLine ttlKey (e .ttl)) ++ afterTtl
+  after-flags : drop (n + 33) text ≡ ended (numberLine ttlKey (e .settings .ttl)) ++ afterTtl
   unfolding countLines counts afterTtl afterTaken
   after-flags =
       sym (drop-drop 33 n text)
       ∙ (ap (drop 33) stands
-      ∙ (flags-passed counts (restAfter text i) (e .root) (e .interlink) (e .failback)
-      ∙ (first-line (numberLine ttlKey (e .ttl)) (numberLine takenKey (e .taken) ∷ numberLine hintKey (e .hint) ∷ targetLines (e .targets)) (restAfter text i)
-      ∙ ap (λ (x : List ℕ). ended (numberLine ttlKey (e .ttl)) ++ x) (first-line (numberLine takenKey (e .taken)) (numberLine hintKey (e .hint) ∷ targetLines (e .targets)) (restAfter text i)))))
+      ∙ (flags-passed counts (restAfter text i) (e .settings .root) (e .settings .interlink) (e .settings .failback)
+      ∙ (first-line (numberLine ttlKey (e .settings .ttl)) (numberLine takenKey (e .settings .taken) ∷ numberLine hintKey (e .hint) ∷ targetLines (e .targets)) (restAfter text i)
+      ∙ ap (λ (x : List ℕ). ended (numberLine ttlKey (e .settings .ttl)) ++ x) (first-line (numberLine takenKey (e .settings .taken)) (numberLine hintKey (e .hint) ∷ targetLines (e .targets)) (restAfter text i)))))
 
   pub flags-inside : n + 33 < length text
   unfolding ended
   flags-inside =
       let l = length-drop (n + 33) text in
-      let m : length (drop (n + 33) text) ≡ length (numberLine ttlKey (e .ttl)) + 1 + length afterTtl = ap length after-flags ∙ simp length-append in
+      let m : length (drop (n + 33) text) ≡ length (numberLine ttlKey (e .settings .ttl)) + 1 + length afterTtl = ap length after-flags ∙ simp length-append in
       omega arith
 
   pub ttl-there : NumberAt 4 (drop (n + 33) text)
-  ttl-there = number-there ttlKey afterTtl (e .ttl) (told .ttl) (ttl-later (e .ttl)) after-flags
+  ttl-there = number-there ttlKey afterTtl (e .settings .ttl) (told .ttl) (ttl-later (e .settings .ttl)) after-flags
 
   module _ {t : Read} (a : NumberRead 4 (n + 33) text t) where
-    pub ttl-said : t .value ≡ e .ttl
-    ttl-said = a .value ∙ number-says ttlKey afterTtl (e .ttl) (told .ttl) (ttl-later (e .ttl)) after-flags
+    pub ttl-said : t .value ≡ e .settings .ttl
+    ttl-said = a .value ∙ number-says ttlKey afterTtl (e .settings .ttl) (told .ttl) (ttl-later (e .settings .ttl)) after-flags
 
-    after-ttl : drop (t .next) text ≡ ended (numberLine takenKey (e .taken)) ++ afterTaken
+    after-ttl : drop (t .next) text ≡ ended (numberLine takenKey (e .settings .taken)) ++ afterTaken
     unfolding afterTtl
-    after-ttl = line-passed text (n + 33) (numberLine ttlKey (e .ttl)) afterTtl after-flags (ttl-later (e .ttl)) (a .next)
+    after-ttl = line-passed text (n + 33) (numberLine ttlKey (e .settings .ttl)) afterTtl after-flags (ttl-later (e .settings .ttl)) (a .next)
 
     pub taken-there : NumberAt 6 (drop (t .next) text)
-    taken-there = number-there takenKey afterTaken (e .taken) (told .taken) (taken-later (e .taken)) after-ttl
+    taken-there = number-there takenKey afterTaken (e .settings .taken) (told .taken) (taken-later (e .settings .taken)) after-ttl
 
     module _ {k : Read} (b : NumberRead 6 (t .next) text k) where
-      pub taken-said : k .value ≡ e .taken
-      taken-said = b .value ∙ number-says takenKey afterTaken (e .taken) (told .taken) (taken-later (e .taken)) after-ttl
+      pub taken-said : k .value ≡ e .settings .taken
+      taken-said = b .value ∙ number-says takenKey afterTaken (e .settings .taken) (told .taken) (taken-later (e .settings .taken)) after-ttl
 
       after-taken : drop (k .next) text ≡ ended (numberLine hintKey (e .hint)) ++ (linesText (targetLines (e .targets)) ++ restAfter text i)
       unfolding afterTaken
       after-taken =
-          line-passed text (t .next) (numberLine takenKey (e .taken)) afterTaken after-ttl (taken-later (e .taken)) (b .next)
+          line-passed text (t .next) (numberLine takenKey (e .settings .taken)) afterTaken after-ttl (taken-later (e .settings .taken)) (b .next)
           ∙ first-line (numberLine hintKey (e .hint)) (targetLines (e .targets)) (restAfter text i)
 
       pub hint-small : e .hint < 8
@@ -204,7 +204,7 @@ module _ (text : List ℕ) (i n : ℕ) (at : LinesAt text i n (drop 1 (entryLine
         settings-read raw fits {x} {y} {z} {m} {o} p q r u v =
             let s = settings-of e (p ∙ root-there) (q ∙ interlink-there) (r ∙ failback-there) ttl-said taken-said in
             record {
-              memory = then-changed raw i fits (putSettings (referralSettings e)) (putUnit hintUnit (e .hint)) (keeps-settings (referralSettings e) (long-settings e)) (keeps-unit hintUnit (e .hint) (omega arith))
+              memory = then-changed raw i fits (putSettings (settingsUnits (e .settings))) (putUnit hintUnit (e .hint)) (keeps-settings (settingsUnits (e .settings)) (long-settings e)) (keeps-unit hintUnit (e .hint) (omega arith))
                   (u ∙ ap (λ (w : List ℕ). changed i (putSettings w) raw) s) (v ∙ ap (λ (w : ℕ). changed i (putUnit hintUnit w) m) hint-said);
               next = after-hint;
             }
@@ -331,32 +331,32 @@ module _ (e : Referral) (good : goodReferral e ≡ true) where
   keyShape : Shaped (e .prefix ∷ []) [] []
   keyShape = key-shape (e .prefix) (prefix-short (e .prefix) (g .prefixed))
 
-  setShape : Shaped (e .prefix ∷ []) [] (referralSettings e)
+  setShape : Shaped (e .prefix ∷ []) [] (settingsUnits (e .settings))
   setShape = record { fewTexts = keyShape .fewTexts; short = keyShape .short; fewMarks = keyShape .fewMarks; fewSettings = referral-shape e good .fewSettings }
 
   prefix-written : addText 0 (e .prefix) blank ≡ written (e .prefix ∷ []) 0 [] []
   unfolding begun
   prefix-written = begun-written (e .prefix) [] (prefix-short (e .prefix) (g .prefixed))
 
-  settled-written : settled e (written (e .prefix ∷ []) 0 [] []) ≡ written (e .prefix ∷ []) (e .hint) [] (referralSettings e)
+  settled-written : settled e (written (e .prefix ∷ []) 0 [] []) ≡ written (e .prefix ∷ []) (e .hint) [] (settingsUnits (e .settings))
   unfolding settled
   settled-written =
-      ap (putUnit hintUnit (e .hint)) (put-settings (e .prefix ∷ []) 0 [] [] (referralSettings e) keyShape setShape (omega arith))
-      ∙ put-hint (e .prefix ∷ []) 0 [] (referralSettings e) setShape (e .hint)
+      ap (putUnit hintUnit (e .hint)) (put-settings (e .prefix ∷ []) 0 [] [] (settingsUnits (e .settings)) keyShape setShape (omega arith))
+      ∙ put-hint (e .prefix ∷ []) 0 [] (settingsUnits (e .settings)) setShape (e .hint)
 
-  all-written : addAll addTarget 0 (e .targets) (written (e .prefix ∷ []) (e .hint) [] (referralSettings e)) ≡ referralUnits e
+  all-written : addAll addTarget 0 (e .targets) (written (e .prefix ∷ []) (e .hint) [] (settingsUnits (e .settings))) ≡ referralUnits e
   unfolding referralUnits
-  all-written = targets-written (e .prefix) [] (e .hint) [] (referralSettings e) 0 (e .targets) setShape refl refl (let f = g .few in omega arith) (fit-rooms (e .targets) (g .each)) .0
+  all-written = targets-written (e .prefix) [] (e .hint) [] (settingsUnits (e .settings)) 0 (e .targets) setShape refl refl (let f = g .few in omega arith) (fit-rooms (e .targets) (g .each)) .0
 
   long-entry : length (referralUnits e) ≡ 2336
   unfolding referralUnits
-  long-entry = length-written _ (e .hint) _ (referralSettings e) (referral-shape e good)
+  long-entry = length-written _ (e .hint) _ (settingsUnits (e .settings)) (referral-shape e good)
 
   place-read : (raw : List ℕ) (i : ℕ) → i < placeCount raw → {a b c o : List ℕ} → a ≡ changed i (λ q. blank) raw → b ≡ changed i (addText 0 (e .prefix)) a
       → c ≡ changed i (settled e) b → o ≡ changed i (addAll addTarget 0 (e .targets)) c → o ≡ changed i (λ q. referralUnits e) raw
   place-read raw i fits p q r s =
       let u = length-written (e .prefix ∷ []) 0 [] [] keyShape in
-      let v = length-written (e .prefix ∷ []) (e .hint) [] (referralSettings e) setShape in
+      let v = length-written (e .prefix ∷ []) (e .hint) [] (settingsUnits (e .settings)) setShape in
       changed-step raw i fits _ _ (addAll addTarget 0 (e .targets))
       (changed-step raw i fits _ _ (settled e) (changed-step raw i fits _ _ (addText 0 (e .prefix)) p q prefix-written length-blank u) r settled-written u v) s all-written v long-entry
 

@@ -56,11 +56,13 @@ line-length l rest h = line-lengths (ended l ++ rest) ∙ ap (λ (x : List (List
 sample : List ℕ → ℕ → Referral
 sample s n = record {
   prefix = s;
-  root = true;
-  interlink = true;
-  failback = true;
-  ttl = n;
-  taken = n;
+  settings = record {
+    root = true;
+    interlink = true;
+    failback = true;
+    ttl = n;
+    taken = n;
+  };
   targets = record { path = s; opens = false } ∷ [];
   hint = n;
 }

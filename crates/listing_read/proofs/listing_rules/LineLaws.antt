@@ -109,10 +109,10 @@ pub entry-later : (e : Referral) → every (every later) (entryLines e) ≡ true
 unfolding every entryLines settingLines countLines later
 entry-later e =
     and-both (path-later prefixKey (e .prefix) refl)
-    (and-both (kind-later (e .root))
-    (and-both (number-later interlinkKey (flagUnit (e .interlink)) refl)
-    (and-both (number-later failbackKey (flagUnit (e .failback)) refl)
-    (and-both (number-later ttlKey (e .ttl) refl) (and-both (number-later takenKey (e .taken) refl) (and-both (number-later hintKey (e .hint) refl) (targets-later (e .targets))))))))
+    (and-both (kind-later (e .settings .root))
+    (and-both (number-later interlinkKey (flagUnit (e .settings .interlink)) refl)
+    (and-both (number-later failbackKey (flagUnit (e .settings .failback)) refl)
+    (and-both (number-later ttlKey (e .settings .ttl) refl) (and-both (number-later takenKey (e .settings .taken) refl) (and-both (number-later hintKey (e .hint) refl) (targets-later (e .targets))))))))
 
 -- all lines of a list of entries
 pub allLines : List Referral → List (List ℕ)

@@ -29,8 +29,8 @@ use Rattle.listing_read.proofs.listing_rules.LineLaws.{lines-cut, all-l
 pub record Listable (e : Referral) : Type 0 where
   pub good : goodReferral e ≡ true
   pub one : every (λ t. not (t .opens)) (e .targets) ≡ true
-  pub ttl : e .ttl < 4294967296
-  pub taken : e .taken < 4294967296
+  pub ttl : e .settings .ttl < 4294967296
+  pub taken : e .settings .taken < 4294967296
   pub prefixed : every unit (e .prefix) ≡ true
   pub paths : every (λ t. every unit (t .path)) (e .targets) ≡ true
 
@@ -39,13 +39,13 @@ unfolding listable oneSet number
 listable-told e h =
     let h₁ = and-right (goodReferral e) _ h in
     let h₂ = and-right (oneSet e) _ h₁ in
-    let h₃ = and-right (number (e .ttl)) _ h₂ in
-    let h₄ = and-right (number (e .taken)) _ h₃ in
+    let h₃ = and-right (number (e .settings .ttl)) _ h₂ in
+    let h₄ = and-right (number (e .settings .taken)) _ h₃ in
     record {
       good = and-left (goodReferral e) _ h;
       one = and-left (oneSet e) _ h₁;
-      ttl = ltb-true _ _ (and-left (number (e .ttl)) _ h₂);
-      taken = ltb-true _ _ (and-left (number (e .taken)) _ h₃);
+      ttl = ltb-true _ _ (and-left (number (e .settings .ttl)) _ h₂);
+      taken = ltb-true _ _ (and-left (number (e .settings .taken)) _ h₃);
       prefixed = and-left (every unit (e .prefix)) _ h₄;
       paths = and-right (every unit (e .prefix)) _ h₄;
     }
@@ -85,11 +85,13 @@ entry-says e l =
     let h = decimal-says (e .hint) (omega (arith, g .hinted, g .few)) in
     λ i. record {
       prefix = p i;
-      root = kind-says (e .root) i;
-      interlink = flag-says (e .interlink) i;
-      failback = flag-says (e .failback) i;
-      ttl = decimal-says (e .ttl) (l .ttl) i;
-      taken = decimal-says (e .taken) (l .taken) i;
+      settings = record {
+        root = kind-says (e .settings .root) i;
+        interlink = flag-says (e .settings .interlink) i;
+        failback = flag-says (e .settings .failback) i;
+        ttl = decimal-says (e .settings .ttl) (l .ttl) i;
+        taken = decimal-says (e .settings .taken) (l .taken) i;
+      };
       targets = targets-say (e .targets) (l .one) (l .paths) i;
       hint = h i;
     }

@@ -15,10 +15,10 @@ use Rattle.laws.proofs.Choices.{choose-yes, choose-no, and-both, and-left, and-
 use Rattle.laws.proofs.Every.{every-append, every-at, every-drop, every-take}
 use Rattle.laws.proofs.Listed.{listed-every}
 use Rattle.laws.proofs.Orders.{told, lt-or-le}
-use Rattle.cache.specs.places.Layout.{placeCount, placeAt, textAt, roomAt, wideAt, unitAt, listCount}
+use Rattle.cache.specs.places.Layout.{placeCount, placeAt, textAt, roomAt, wideAt, unitAt, listCount, ttlUnit, takenUnit}
 use Rattle.cache.specs.order.Entries.{Referral, Place, free, used}
 use Rattle.cache.specs.order.Order.{goodReferral, distinct}
-use Rattle.cache.specs.order.Memory.{referrals, referralOf, targetOf, rightSize, decode, encode, inOrder, placeOf, goodPlace, keys}
+use Rattle.cache.specs.order.Memory.{referrals, settingsAt, referralOf, targetOf, rightSize, decode, encode, inOrder, placeOf, goodPlace, keys}
 use Rattle.cache.proofs.order.MemoryLaws.{cache-told, order-good, encode-decode, length-decode, decode-encode, in-order-parts}
 use Rattle.cache.proofs.order.KindLaws.{referrals-lawful}
 use Rattle.listing_write.specs.Form.{entryText, listing}
@@ -160,16 +160,16 @@ wide-small j piece h = omega (arith, unit-below j piece h, unit-below (j + 1) pi
 
 -- an entry whose texts are of 16-bit units and whose numbers are of 32 bits
 record Narrow (e : Referral) : Type 0 where
-  ttl : e .ttl < 4294967296
-  taken : e .taken < 4294967296
+  ttl : e .settings .ttl < 4294967296
+  taken : e .settings .taken < 4294967296
   prefixed : every unit (e .prefix) ≡ true
   paths : every (λ t. every unit (t .path)) (e .targets) ≡ true
 
 narrow-read : (piece : List ℕ) → every unit piece ≡ true → Narrow (referralOf piece)
-unfolding referralOf targetOf
+unfolding referralOf settingsAt targetOf
 narrow-read piece h = record {
-  ttl = wide-small 22 piece h;
-  taken = wide-small 24 piece h;
+  ttl = wide-small ttlUnit piece h;
+  taken = wide-small takenUnit piece h;
   prefixed = text-units 0 piece h;
   paths = listed-every (λ t. every unit (t .path)) (listCount piece) (λ j. targetOf j piece) (λ j l. text-units (1 + j) piece h);
 }

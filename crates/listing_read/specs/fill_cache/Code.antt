@@ -8,7 +8,7 @@ use lib.ListN.{length, getD, take, drop}
 use Rattle.cache.specs.places.Layout.{hintUnit, roomUnits}
 use Rattle.cache.specs.places.Code.{changed, putUnit, putSettings}
 use Rattle.cache.specs.order.Entries.{Referral, used}
-use Rattle.cache.specs.order.Memory.{referralSettings, referralUnits}
+use Rattle.cache.specs.order.Memory.{settingsUnits, referralUnits}
 use Rattle.cache_entry.specs.write_entry.Code.{addText, addTarget, addAll}
 use Rattle.listing_spelling.specs.unspell.Reading.{unspelled, isSpelled, decimalOf}
 use Rattle.listing_spelling.specs.unspell.Code.{isDecimal}
@@ -71,7 +71,7 @@ pub record TargetsRead (text : List ℕ) (i : ℕ) (raw o : List ℕ) (r : ℕ) 
 
 -- the settings of an entry, and its hint
 unfoldable pub settled : Referral → List ℕ → List ℕ
-settled e piece = putUnit hintUnit (e .hint) (putSettings (referralSettings e) piece)
+settled e piece = putUnit hintUnit (e .hint) (putSettings (settingsUnits (e .settings)) piece)
 
 pub record SettingsRead (text : List ℕ) (i : ℕ) (raw o : List ℕ) (r : ℕ) : Type 0 where
   pub memory : o ≡ changed i (settled (saidAt text i)) raw

@@ -39,11 +39,13 @@ targetSaid l = record { path = unspelled (drop 7 l); opens = false }
 unfoldable pub entrySaid : List (List ℕ) → Referral
 entrySaid ls = record {
   prefix = unspelled (drop 7 (getD ls 0 []));
-  root = sameList (drop 5 (getD ls 1 [])) (kindWord true);
-  interlink = eqb (decimalOf (drop 10 (getD ls 2 []))) 1;
-  failback = eqb (decimalOf (drop 9 (getD ls 3 []))) 1;
-  ttl = decimalOf (drop 4 (getD ls 4 []));
-  taken = decimalOf (drop 6 (getD ls 5 []));
+  settings = record {
+    root = sameList (drop 5 (getD ls 1 [])) (kindWord true);
+    interlink = eqb (decimalOf (drop 10 (getD ls 2 []))) 1;
+    failback = eqb (decimalOf (drop 9 (getD ls 3 []))) 1;
+    ttl = decimalOf (drop 4 (getD ls 4 []));
+    taken = decimalOf (drop 6 (getD ls 5 []));
+  };
   targets = map targetSaid (drop 7 ls);
   hint = decimalOf (drop 5 (getD ls 6 []));
 }

@@ -27,7 +27,7 @@ oneSet e = every (λ t. not (t .opens)) (e .targets)
 unfoldable pub listable : Referral → Bool
 listable e =
     goodReferral e
-    && (oneSet e && (number (e .ttl) && (number (e .taken) && (every unit (e .prefix) && every (λ t. every unit (t .path)) (e .targets)))))
+    && (oneSet e && (number (e .settings .ttl) && (number (e .settings .taken) && (every unit (e .prefix) && every (λ t. every unit (t .path)) (e .targets)))))
 
 -- entries in order: each listable, and no two prefixes equal
 unfoldable pub listables : List Referral → Bool

@@ -5,4 +5,5 @@ pub mod EndLaws
 pub mod AgeLaws
 pub mod EntryLaws
 pub mod LookupLaws
+pub mod KeyLaws
 pub mod Examples

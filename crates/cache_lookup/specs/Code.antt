@@ -9,16 +9,21 @@ use Rattle.laws.specs.Choice.{choose}
 use Rattle.laws.specs.Listed.{listed}
 use Rattle.unc.specs.names.Names.{sameName}
 use Rattle.cache.specs.places.Layout.{placeAt, placeCount, unitAt, textAt}
-use Rattle.cache.specs.order.Entries.{Referral}
+use Rattle.cache.specs.order.Entries.{Referral, Place}
 use Rattle.cache.specs.order.Memory.{Kind, referrals, decode}
 use Rattle.cache_lookup.specs.declared.Found.{Found}
 use Rattle.cache_lookup.specs.declared.Found.the-variants.{At, Nothing}
-use Rattle.cache_lookup.specs.Lookup.{longestFrom}
+use Rattle.cache_lookup.specs.Lookup.{longestFrom, hasKey, onEntry}
 
 module _ {E : Type 0} (k : Kind E) where
   -- the entry at place i of the memory
   unfoldable pub entryAt : ℕ → List ℕ → E
   entryAt i raw = k .reads (placeAt i raw)
+
+  -- the entry of this prefix (or name) changed by f; all else as it was
+  unfoldable pub onKey : List ℕ → (E → E) → List (Place E) → List (Place E)
+  onKey name f [] = []
+  onKey name f (p ∷ ps) = choose (hasKey k name p) (onEntry f p ∷ ps) (p ∷ onKey name f ps)
 
 -- whether a set opens before target number j of an entry
 unfoldable pub targetOpens : ℕ → Referral → Bool

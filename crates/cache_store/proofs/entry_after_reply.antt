@@ -4,4 +4,5 @@ pub mod EntryLaws
 pub mod StoreLaws
 pub mod RefreshLaws
 pub mod StoredLaws
+pub mod KeyLaws
 pub mod Examples

@@ -8,6 +8,7 @@ use lib.ListN.{take}
 use Rattle.laws.specs.Lists.{every}
 use Rattle.cache.specs.places.Layout.{placeCount, placeAt}
 use Rattle.cache.specs.places.Code.{changed}
+use Rattle.cache.specs.order.Entries.{Domain}
 use Rattle.cache.specs.order.Order.{goodReferral}
 use Rattle.cache.specs.order.Memory.{referrals, referralUnits}
 use Rattle.cache_lookup.specs.Code.{entryAt}
@@ -42,3 +43,7 @@ refreshedAt i r f interlink clock raw =
 
 abbrev pub insertedAt : ℕ → List ℕ → ReferralFound → Bool → ℕ → List ℕ → List ℕ
 insertedAt i r f interlink clock raw = changed i (λ q. referralUnits (fresh (referralShown r f) interlink clock)) raw
+
+-- a domain entry with the DCs of a reply, DCHint the first
+unfoldable pub dcsTo : List (List ℕ) → Domain → Domain
+dcsTo names d = record { name = d .name; dcs = names; hint = 0 }

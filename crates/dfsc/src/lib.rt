@@ -3,6 +3,7 @@
 ghost use mathlib.Core.Path.{_≡_};
 ghost use mathlib.Core.List.{[]};
 ghost use lib.ListN.{length};
+ghost use Rattle.cache_upkeep.specs.Calls.{upkeepNumber, expireAllCall, expireCall, nextDcCall};
 ghost use Rattle.reply_read.specs.referral.Request.{bufferWith};
 ghost use Rattle.cache_store.specs.domain_cache.Domains.{domainsNumber, domainsAfter, requestNumber};
 ghost use Rattle.listing_write.specs.Listed.{listAnswer, bufferAfter};
@@ -10,7 +11,11 @@ ghost use Rattle.listing_read.specs.listing_rules.Read.{readNumber, readAfter};
 ghost use Rattle.dfsc_memory.specs.Units.{unitsLeft, startUnits, answerLeft, referralAnswerUnits, ioAnswerUnits, seen};
 ghost use Rattle.dfsc_memory.specs.Units.{partySeen, nameSeen, questionSeen, pathSeen, endSeen};
 ghost use Rattle.dfsc_memory.specs.Listing.{listResult};
+ghost use Rattle.dfsc_memory.specs.Version.{version};
 use reply_read::referral::Asked;
+
+// The version of the interface, as include/dfsc.h has it.
+const VERSION: u32 = 100;
 
 // A new walk. 0, or a refusal: 4, 1, 2, 3, 5 (the walk has not 800 units) or 10 (the request is longer than `out`).
 #[no_mangle]
@@ -190,4 +195,42 @@ pub extern "C" fn dfsc_read(text: &[u16], refs: &mut [u16]) -> u32
 {
     let answer = listing_read::read_listing::read(text, refs);
     dfsc_memory::read_number(answer)
+}
+
+// Expires every entry of the referral cache: 0, or 4.
+#[no_mangle]
+pub extern "C" fn dfsc_expire_all(refs: &mut [u16]) -> u32
+    ensures number { λ r. ⌜ r ≡ upkeepNumber (expireAllCall (now (refs .entry)) .answer) ⌝ }
+    ensures cache { λ r. ⌜ now (refs .exit) ≡ expireAllCall (now (refs .entry)) .cache ⌝ }
+{
+    let answer = cache_upkeep::expire_all(refs);
+    dfsc_memory::upkeep_number(answer)
+}
+
+// Expires the referral entry whose prefix is equal to the path: 0, or 4, 1, 2 or 27.
+#[no_mangle]
+pub extern "C" fn dfsc_expire(refs: &mut [u16], path: &[u16]) -> u32
+    ensures number { λ r. ⌜ r ≡ upkeepNumber (expireCall (now (refs .entry)) (now (path .entry)) .answer) ⌝ }
+    ensures cache { λ r. ⌜ now (refs .exit) ≡ expireCall (now (refs .entry)) (now (path .entry)) .cache ⌝ }
+{
+    let answer = cache_upkeep::expire(refs, path);
+    dfsc_memory::upkeep_number(answer)
+}
+
+// Moves the DCHint of the domain of an equal name to its next DC: 0, or 4 or 27.
+#[no_mangle]
+pub extern "C" fn dfsc_next_dc(doms: &mut [u16], name: &[u16]) -> u32
+    ensures number { λ r. ⌜ r ≡ upkeepNumber (nextDcCall (now (doms .entry)) (now (name .entry)) .answer) ⌝ }
+    ensures cache { λ r. ⌜ now (doms .exit) ≡ nextDcCall (now (doms .entry)) (now (name .entry)) .cache ⌝ }
+{
+    let answer = cache_upkeep::next_dc(doms, name);
+    dfsc_memory::upkeep_number(answer)
+}
+
+// The version of the interface.
+#[no_mangle]
+pub extern "C" fn dfsc_version() -> u32
+    ensures { λ r. ⌜ r ≡ version ⌝ }
+{
+    VERSION
 }

@@ -4,10 +4,12 @@ ghost use Prim.Native.Nat.{_≤_, min};
 ghost use lib.ListN.{length};
 ghost use Rattle.walk_calls.specs.calls.Calls.{refusalNumber};
 ghost use Rattle.cache_store.specs.domain_cache.Code.{domainsRefusal};
+ghost use Rattle.cache_upkeep.specs.Calls.{upkeepNumber};
 ghost use Rattle.dfsc_memory.specs.Units.{noWalk, walkIn, shownResult};
 ghost use Rattle.dfsc_memory.specs.Code.{closedUnits, readRefusal};
 ghost use Rattle.dfsc_memory.specs.Listing.{listResult};
 use cache_store::domain_cache::DomainsRead;
+use cache_upkeep::Upkeep;
 use listing_read::read_listing::Loaded;
 use listing_write::Answer;
 use walk_calls::call_end::Outcome;
@@ -128,5 +130,17 @@ pub fn read_number(answer: Loaded) -> u32
         Loaded::NotInOrder => 4,
         Loaded::NotListing => 8,
         Loaded::TooMany => 9,
+    }
+}
+
+pub fn upkeep_number(answer: Upkeep) -> u32
+    ensures { λ r. ⌜ r ≡ upkeepNumber answer ⌝ }
+{
+    match answer {
+        Upkeep::Done => 0,
+        Upkeep::BadPath => 1,
+        Upkeep::LongPath => 2,
+        Upkeep::NotInOrder => 4,
+        Upkeep::NoEntry => 27,
     }
 }

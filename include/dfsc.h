@@ -75,7 +75,7 @@
 extern "C" {
 #endif
 
-/* The version of this header: 10000 * major + 100 * minor + patch, and as text. The library has no call that tells it. */
+/* The version of this header: 10000 * major + 100 * minor + patch, and as text. dfsc_version gives that of the library. */
 #define DFSC_VERSION 100
 #define DFSC_VERSION_TEXT "0.1.0"
 
@@ -88,7 +88,7 @@ extern "C" {
 #define DFSC_LEAST_SIZE 1024    /* bytes that a referral reply may have: the size given at the start, */
 #define DFSC_MOST_SIZE 57344    /* doubled up to this when a server says 0x80000005 */
 
-/* Refusals: what the calls that move a walk give back, 0 where they are taken. If several hold, 4 comes first, then the lowest. */
+/* Refusals: what the calls that move a walk or change a cache give back, 0 where they are taken. If several hold, 4 comes first, then the lowest. */
 enum {
     DFSC_TAKEN = 0,
     DFSC_BAD_PATH = 1,
@@ -100,7 +100,8 @@ enum {
     DFSC_BAD_DOMAIN_REPLY = 7, /* malformed or empty */
     DFSC_BAD_LISTING = 8,      /* a text is no listing, or its entries are not in order */
     DFSC_TOO_MANY_ENTRIES = 9, /* a listing has more entries than the cache has places */
-    DFSC_SHORT_BUFFER = 10     /* the request, text or numbers are longer than the buffer */
+    DFSC_SHORT_BUFFER = 10,    /* the request, text or numbers are longer than the buffer */
+    DFSC_NO_ENTRY = 27         /* no entry has this prefix or name, or it has no DC; DFSC_END_GONE has this number too */
 };
 
 /* What the calls that show something give back: the elements written, or one of these. */
@@ -112,7 +113,8 @@ enum {
 /*
  * Whether a result is a refusal, and its number (0 where it is none). Results are of three kinds, and the first argument says which:
  *
- *     DFSC_IS_REFUSED(TAKES, r)   0 or the number        dfsc_start, both answers, dfsc_domain_request, dfsc_read_domains, dfsc_read
+ *     DFSC_IS_REFUSED(TAKES, r)   0 or the number        dfsc_start, both answers, dfsc_domain_request, dfsc_read_domains, dfsc_read, dfsc_expire_all,
+ *                                                        dfsc_expire, dfsc_next_dc
  *     DFSC_IS_REFUSED(SHOWS, r)   as DFSC_REFUSED        dfsc_question, dfsc_question_party, dfsc_question_name, dfsc_end, dfsc_end_path
  *     DFSC_IS_REFUSED(LISTS, r)   as DFSC_LIST_REFUSED   dfsc_list
  */
@@ -228,6 +230,27 @@ uint64_t dfsc_list(const uint16_t *refs, size_t refs_len, uint16_t *out, size_t 
  * 0, or a refusal: 4, 8, 9.
  */
 uint32_t dfsc_read(const uint16_t *text, size_t text_len, uint16_t *refs, size_t refs_len);
+
+/*
+ * Expires every entry of the referral cache: its TTL becomes 0, so that it is expired at every clock and the next walk that uses it asks for it anew. The
+ * time taken and all else stay. 0, or the refusal 4.
+ */
+uint32_t dfsc_expire_all(uint16_t *refs, size_t refs_len);
+
+/*
+ * Expires the entry whose prefix is equal to this path, in any spelling that a start takes (one or two leading backslashes, a trailing one). All else stays.
+ * 0, or a refusal: 4, 1, 2, 27 (no entry has that prefix; a longer or shorter one does not count).
+ */
+uint32_t dfsc_expire(uint16_t *refs, size_t refs_len, const uint16_t *path, size_t path_len);
+
+/*
+ * Moves the DCHint of the domain with this name to its next DC, from the last to the first. All else stays.
+ * 0, or a refusal: 4, 27 (no entry has that name, or it has no DC).
+ */
+uint32_t dfsc_next_dc(uint16_t *doms, size_t doms_len, const uint16_t *name, size_t name_len);
+
+/* The version of the library, as DFSC_VERSION counts it. */
+uint32_t dfsc_version(void);
 
 #ifdef __cplusplus
 }

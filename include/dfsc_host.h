@@ -20,8 +20,8 @@
  *     }
  *     if (!refused && !(refused = dfsch_ended(&walk, &end))) ... end.number, end.status, end.moves, end.path
  *
- * Every call that can be refused gives back 0 or the number of the refusal, 27 of dfsch_ask too. dfsc.h says what each call does; dfsc_domain_request is
- * used as it is.
+ * Every call that can be refused gives back 0 or the number of the refusal, 27 of dfsch_ask too. dfsc.h says what each call does; dfsc_domain_request and
+ * dfsc_version are used as they are.
  */
 #ifndef DFSC_HOST_H
 #define DFSC_HOST_H
@@ -133,29 +133,21 @@ static inline uint32_t dfsch_read(dfsch_referrals *refs, dfsch_text listing) {
     return dfsc_read(listing.units ? listing.at : &none, listing.units, refs->units, DFSCH_PLACES * DFSC_PLACE_UNITS);
 }
 
-/* What docs/HOST.md calls expiring the entries: the TTL of each becomes 0, and the next walk that uses one asks for it anew. */
-static inline void dfsch_expire(dfsch_referrals *refs) {
-    for (size_t at = 0; at < DFSCH_PLACES * DFSC_PLACE_UNITS; at += DFSC_PLACE_UNITS)
-        refs->units[at + 22] = refs->units[at + 23] = 0;
+/* Expires every entry: the next walk that uses one asks for it anew. 0, or the refusal 4. */
+static inline uint32_t dfsch_expire_all(dfsch_referrals *refs) {
+    return dfsc_expire_all(refs->units, DFSCH_PLACES * DFSC_PLACE_UNITS);
 }
 
-static inline uint16_t dfsch_folded(uint16_t unit) {
-    return unit >= 'A' && unit <= 'Z' ? (uint16_t)(unit + 32) : unit;
+/* Expires the entry of this prefix. 0, or a refusal: 4, 1, 2, 27. */
+static inline uint32_t dfsch_expire(dfsch_referrals *refs, dfsch_text prefix) {
+    static const uint16_t none = 0;
+    return dfsc_expire(refs->units, DFSCH_PLACES * DFSC_PLACE_UNITS, prefix.units ? prefix.at : &none, prefix.units);
 }
 
-/* The hint of a domain to its next DC; the number of its DCs, 0 where the cache has none of it. */
+/* The hint of a domain to its next DC. 0, or a refusal: 4, 27. */
 static inline uint32_t dfsch_next_dc(dfsch_domains *doms, dfsch_text domain) {
-    for (size_t p = 0; p < DFSCH_PLACES; p++) {
-        uint16_t *place = doms->units + p * DFSC_PLACE_UNITS;
-        size_t same = 0;
-        while (same < domain.units && same < place[0] && dfsch_folded(place[32 + same]) == dfsch_folded(domain.at[same]))
-            same++;
-        if (place[0] && same == place[0] && same == domain.units && place[9]) {
-            place[10] = (uint16_t)((place[10] + 1) % place[9]);
-            return place[9];
-        }
-    }
-    return 0;
+    static const uint16_t none = 0;
+    return dfsc_next_dc(doms->units, DFSCH_PLACES * DFSC_PLACE_UNITS, domain.units ? domain.at : &none, domain.units);
 }
 
 /* What the network says, an errno of a socket, as the status to answer: one of the six that lead to the next target. */

@@ -82,7 +82,15 @@ static void walks(void) {
 
     /* a fresh entry is used, an expired one asked for again */
     CHECK(dfsch_start(&refs, &doms, &walk, path, settings, 102) == 0 && dfsch_ask(&refs, &doms, &walk, &q) == 0 && q.kind == DFSC_ASK_IO);
-    dfsch_expire(&refs);
+    static dfsch_referrals kept;
+    kept = refs;
+    CHECK(dfsch_expire_all(&refs) == 0);
+    CHECK(dfsch_start(&refs, &doms, &walk, path, settings, 102) == 0 && dfsch_ask(&refs, &doms, &walk, &q) == 0 && q.kind == DFSC_ASK_ROOT);
+    uint16_t prefix[16];
+    refs = kept;
+    CHECK(dfsch_expire(&refs, path) == DFSC_NO_ENTRY && dfsch_expire(&refs, text("\\files", prefix, 16)) == DFSC_NO_ENTRY);
+    CHECK(dfsch_expire(&refs, text("files", prefix, 16)) == DFSC_BAD_PATH && !memcmp(&refs, &kept, sizeof refs));
+    CHECK(dfsch_expire(&refs, text("\\\\FILES\\s\xC3\xA9jour\\", prefix, 16)) == 0);
     CHECK(dfsch_start(&refs, &doms, &walk, path, settings, 102) == 0 && dfsch_ask(&refs, &doms, &walk, &q) == 0 && q.kind == DFSC_ASK_ROOT);
 
     /* a domain, and its next DC */
@@ -90,15 +98,16 @@ static void walks(void) {
     path = text("\\corp\\sysvol\\x", path_units, 600);
     CHECK(dfsch_start(&refs, &doms, &walk, path, settings, 102) == 0 && dfsch_ask(&refs, &doms, &walk, &q) == 0 && q.kind == DFSC_ASK_DC);
     uint16_t corp[8];
-    CHECK(dfsch_next_dc(&doms, text("corp", corp, 8)) == 0);
+    CHECK(dfsch_next_dc(&doms, text("corp", corp, 8)) == DFSC_NO_ENTRY);
     CHECK(dfsch_answer_referral(&refs, &doms, &walk, 0, names("\\corp", "dc2", "dc3"), 102) == 0);
     CHECK(dfsch_ask(&refs, &doms, &walk, &q) == 0 && q.kind == DFSC_ASK_SYSVOL && named(&q.party, "dc2"));
     dfsch_bytes none = {NULL, 0};
     CHECK(dfsch_answer_referral(&refs, &doms, &walk, DFSC_STATUS_IO_TIMEOUT, none, 102) == 0);
     CHECK(dfsch_ended(&walk, &end) == 0 && end.number == DFSC_END_NO_DC && end.status == DFSC_STATUS_IO_TIMEOUT);
-    CHECK(dfsch_next_dc(&doms, text("CORP", corp, 8)) == 2 && dfsch_next_dc(&doms, text("corpo", corp, 8)) == 0 && dfsch_next_dc(&doms, text("cor", corp, 8)) == 0);
+    CHECK(dfsch_next_dc(&doms, text("CORP", corp, 8)) == 0);
+    CHECK(dfsch_next_dc(&doms, text("corpo", corp, 8)) == DFSC_NO_ENTRY && dfsch_next_dc(&doms, text("cor", corp, 8)) == DFSC_NO_ENTRY);
     CHECK(dfsch_start(&refs, &doms, &walk, path, settings, 103) == 0 && dfsch_ask(&refs, &doms, &walk, &q) == 0 && named(&q.party, "dc3"));
-    CHECK(dfsch_next_dc(&doms, text("corp", corp, 8)) == 2);
+    CHECK(dfsch_next_dc(&doms, text("corp", corp, 8)) == 0);
     CHECK(dfsch_start(&refs, &doms, &walk, path, settings, 103) == 0 && dfsch_ask(&refs, &doms, &walk, &q) == 0 && named(&q.party, "dc2"));
 
     /* the listing, and back */
@@ -118,8 +127,9 @@ static void walks(void) {
     CHECK(dfsch_ask(&refs, &doms, &walk, &q) == DFSC_END_GONE);
     refs.units[5] = 1;
     CHECK(dfsch_ask(&refs, &doms, &walk, &q) == DFSC_NOT_IN_ORDER && dfsch_list(&refs, listing, 9, &n) == DFSC_NOT_IN_ORDER);
+    CHECK(dfsch_expire_all(&refs) == DFSC_NOT_IN_ORDER && dfsch_expire(&refs, empty) == DFSC_NOT_IN_ORDER && dfsch_next_dc(&doms, empty) == DFSC_NO_ENTRY);
 #ifdef EXCHANGED
-    dfsch_expire(&doms);
+    dfsch_expire_all(&doms);
 #endif
 #ifdef MIXED
     dfsch_read(&refs, none);
@@ -137,7 +147,7 @@ static void results(void) {
     CHECK(!DFSC_IS_REFUSED(TAKES, dfsc_domain_request(request, 4)) && DFSC_REFUSAL(TAKES, dfsc_domain_request(request, 3)) == DFSC_SHORT_BUFFER);
     CHECK(!DFSC_IS_REFUSED(LISTS, DFSC_LISTING_UNITS) && DFSC_REFUSAL(LISTS, DFSC_LIST_REFUSED(10)) == 10);
     CHECK(!DFSC_IS_REFUSED(LISTS, dfsc_list(refs.units, DFSCH_PLACES * DFSC_PLACE_UNITS, units, 0)));
-    CHECK(DFSC_VERSION == 100 && !strcmp(DFSC_VERSION_TEXT, "0.1.0"));
+    CHECK(dfsc_version() == DFSC_VERSION && DFSC_VERSION == 100 && !strcmp(DFSC_VERSION_TEXT, "0.1.0"));
 }
 
 static void texts(void) {

@@ -33,7 +33,7 @@ from dataclasses import dataclass
 
 __all__ = [
     "DomainCache", "DomainEntry", "End", "Question", "ReferralCache", "ReferralEntry", "Refused", "Resolver", "Walk", "clock", "domain_request", "severity",
-    "status_of", "DONE", "NOT_DFS", "NO_DC", "FAILED", "LIMIT_REACHED", "MALFORMED", "TOO_LONG", "GONE", "SUCCESS", "BUFFER_OVERFLOW", "OBJECT_PATH_NOT_FOUND",
+    "status_of", "version", "DONE", "NOT_DFS", "NO_DC", "FAILED", "LIMIT_REACHED", "MALFORMED", "TOO_LONG", "GONE", "SUCCESS", "BUFFER_OVERFLOW", "OBJECT_PATH_NOT_FOUND",
     "PATH_NOT_COVERED", "IO_TIMEOUT", "BAD_NETWORK_PATH", "NETWORK_NAME_DELETED", "BAD_NETWORK_NAME", "CONNECTION_REFUSED", "HOST_UNREACHABLE", "NEXT_TARGET",
 ]
 
@@ -47,7 +47,7 @@ _REFUSALS = {
     1: "bad path", 2: "path of over 256 units", 3: "bad limit, size or bootstrap DC", 4: "a cache is not in order",
     5: "the walk has ended, is out of form, or waits for another kind of answer", 6: "more domains than the cache has places",
     7: "domain reply malformed or empty", 8: "no listing, or its entries are not in order", 9: "more entries than the cache has places",
-    10: "buffer too short", 27: "the entry in use is gone",
+    10: "buffer too short", 27: "the entry is gone",
 }
 
 # Statuses
@@ -109,6 +109,10 @@ _FUNCTIONS = {
     "read_domains": (_I, [_U8, _N, _I, _U16, _N]),
     "list": (_c.c_uint64, [_U16, _N, _U16, _N]),
     "read": (_I, [_U16, _N, _U16, _N]),
+    "expire_all": (_I, [_U16, _N]),
+    "expire": (_I, [_U16, _N, _U16, _N]),
+    "next_dc": (_I, [_U16, _N, _U16, _N]),
+    "version": (_I, []),
 }
 
 
@@ -249,10 +253,13 @@ class ReferralCache(_Cache):
                 self._text_of(p, 0), p[19] == 1, p[20] == 1, p[21] == 1, p[22] | p[23] << 16, p[24] | p[25] << 16, p[10],
                 tuple(self._text_of(p, 1 + j) for j in range(count)), tuple(j for j in range(count) if p[11 + j]))
 
-    def expire(self):
+    def expire_all(self):
         """Expires every entry: its TTL becomes 0, and the next walk that uses it asks for it anew."""
-        for at in range(0, len(self._memory), PLACE_UNITS):
-            self._memory[at + 22] = self._memory[at + 23] = 0
+        _taken(_lib.dfsc_expire_all(*self._lent))
+
+    def expire(self, path):
+        """Expires the entry whose prefix is equal to this path. Refused(27) where there is none."""
+        _taken(_lib.dfsc_expire(*self._lent, *_units(path)))
 
     def list(self):
         """The cache as text: include/dfsc.h has its form. Target sets are not in it."""
@@ -283,14 +290,18 @@ class DomainCache(_Cache):
         """A domain reply, asked for with this size, in place of all that the cache holds."""
         _taken(_lib.dfsc_read_domains(*_octets(reply), _setting(size), *self._lent))
 
+    def entry(self, domain):
+        """The entry of a domain, by a name that is equal but for the case of A to Z, or None."""
+        return next((e for e in self.entries() if _folded(e.name) == _folded(domain)), None)
+
     def next_dc(self, domain):
-        """The hint of a domain to its next DC; the number of its DCs, 0 where none is known."""
-        for at in range(0, len(self._memory), PLACE_UNITS):
-            place = self._memory[at : at + PLACE_UNITS]
-            if place[0] and place[9] and _folded(self._text_of(place, 0)) == _folded(domain):
-                self._memory[at + 10] = (place[10] + 1) % place[9]
-                return place[9]
-        return 0
+        """The hint of a domain to its next DC, from the last to the first. Refused(27) where it is not known, or no DC of it is."""
+        _taken(_lib.dfsc_next_dc(*self._lent, *_units(domain)))
+
+
+def version():
+    """The version of the library: 10000 * major + 100 * minor + patch."""
+    return _lib.dfsc_version()
 
 
 def domain_request():
@@ -417,6 +428,14 @@ class Resolver:
                 asked = asked or severity(status) < 2
                 walk.answer_referral(status, reply, network.clock())
 
+    def _moved(self, domain):
+        """The hint of a domain moved on: the number of its DCs, 0 where none is known."""
+        entry = self.domains.entry(domain)
+        if not entry or not entry.dcs:
+            return 0
+        self.domains.next_dc(domain)
+        return len(entry.dcs)
+
     def follow(self, path, network, most=8):
         """Walks, and walks again where docs/HOST.md has a recipe for the end: a path in another namespace that the referral did not tell, and an entry that others
         took away (`most` times in all); targets or root targets of an entry in the cache that are gone (once); a DC that does not answer for SYSVOL (each DC once)."""
@@ -431,11 +450,11 @@ class Resolver:
                 most -= 1
             elif end.number == FAILED and end.status in NEXT_TARGET and kind == "io" and not asked and not renewed:
                 renewed = True
-                self.referrals.expire()
+                self.referrals.expire_all()
             elif end.number == FAILED and kind == "link" and held and not renewed:
                 renewed = True
                 self.referrals.clear()
-            elif end.number == NO_DC and kind == "sysvol" and dcs < self.domains.next_dc(end.path.lstrip("\\").split("\\")[0]):
+            elif end.number == NO_DC and kind == "sysvol" and self._moved(end.path.lstrip("\\").split("\\")[0]) > dcs:
                 dcs += 1
             else:
                 return end

@@ -91,6 +91,7 @@ class Header(unittest.TestCase):
         self.assertEqual(len(statuses), 10)
         for name, number in statuses:
             self.assertEqual(int(number, 0), getattr(dfsc, name), name)
+        self.assertEqual(dfsc.version(), int(re.search(r"#define DFSC_VERSION (\d+)", header)[1]))
         for name, number in re.findall(r"DFSC_END_(\w+) = (\d+)", header):
             self.assertEqual(int(number), getattr(dfsc, name), name)
 
@@ -101,7 +102,7 @@ class Header(unittest.TestCase):
         for result, name, parameters in declared:
             got, types = dfsc._FUNCTIONS[name]
             self.assertEqual(got, {"uint32_t": dfsc._I, "uint64_t": dfsc._c.c_uint64}[result], name)
-            kinds_of = [re.sub(r"\w+$", "", p.strip()).replace("const ", "") for p in parameters.split(",")]
+            kinds_of = [re.sub(r"\w+$", "", p.strip()).replace("const ", "") for p in parameters.split(",") if p != "void"]
             self.assertEqual([kinds[k] for k in kinds_of], types, name)
 
 
@@ -254,7 +255,16 @@ class Recipes(unittest.TestCase):
         s.files[r"\dc2\sysvol\x"] = 0
         self.assertEqual(r.follow(path, s).path, r"\dc2\sysvol\x")
         self.assertEqual([e.hint for e in r.domains.entries() if e.dcs], [1])
-        self.assertEqual((r.domains.next_dc("CORP.EXAMPLE"), r.domains.next_dc("nowhere")), (3, 0))
+        r.domains.next_dc("CORP.EXAMPLE")
+        self.assertEqual(r.domains.entry("corp.EXAMPLE").hint, 2)
+        r.domains.next_dc("corp.example")
+        self.assertEqual(r.domains.entry("corp.example").hint, 0, "from the last to the first")
+        for name in "nowhere", "CORP", "":
+            before = bytes(r.domains)
+            with self.assertRaises(dfsc.Refused) as e:
+                r.domains.next_dc(name)
+            self.assertEqual((e.exception.number, bytes(r.domains)), (27, before))
+        self.assertIsNone(r.domains.entry("nowhere"))
 
     def test_gone(self):
         s, r = train(), dfsc.Resolver("none")
@@ -291,13 +301,25 @@ class Memory(unittest.TestCase):
         again.clear()
         again.read(listing)
         self.assertEqual(again.list(), listing)
-        again.expire()
-        self.assertTrue(all(e.ttl == 0 and e.expired(100) for e in again.entries()))
+        again.expire("\\\\Files\\REC\\")
+        after = list(again.entries())
+        self.assertEqual((after[0].ttl, after[0].taken, after[0].targets, after[1]), (0, root.taken, root.targets, link))
+        for path, number in (r"\files", 27), (r"\files\rec\trai", 27), ("files", 1), ("\\a\\" + 254 * "b", 2):
+            before = bytes(again)
+            with self.assertRaises(dfsc.Refused) as e:
+                again.expire(path)
+            self.assertEqual((e.exception.number, bytes(again)), (number, before))
+        again.expire_all()
+        self.assertTrue(all(e.ttl == 0 and e.taken == 100 and e.expired(100) and e.expired(0) for e in again.entries()))
         damaged = dfsc.ReferralCache.from_bytes(b"\1" * len(bytes(r.referrals)))
         list(damaged.entries())
         with self.assertRaises(dfsc.Refused) as e:
             dfsc.Walk(damaged, r.domains, TRAIN, "none", 1)
         self.assertEqual(e.exception.number, 4)
+        for refused in damaged.expire_all, lambda: damaged.expire(""), lambda: dfsc.DomainCache.from_bytes(bytes(damaged)).next_dc(""):
+            with self.assertRaises(dfsc.Refused) as e:
+                refused()
+            self.assertEqual(e.exception.number, 4)
 
     def test_places(self):
         """Links that are used in turn, with one place fewer than there are: none is found in the cache. With places for all and the root each is."""

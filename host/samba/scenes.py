@@ -177,7 +177,7 @@ check("a host that is not there", end.number, dfsc.NOT_DFS)
 
 # the caches saved and read again
 saved = dfsc.ReferralCache.from_bytes(bytes(R.referrals))
-saved.expire()
+saved.expire_all()
 again = dfsc.Resolver("none")
 again.referrals = saved
 resolves("a saved cache", again, N, r"\\files\rec\share\feb.wav", r"\old2\train\feb.wav", "old", follow=False)

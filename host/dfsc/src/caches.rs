@@ -72,10 +72,13 @@ impl ReferralCache {
     }
 
     /// Expires every entry: its TTL becomes 0, and the next walk that uses it asks for it anew.
-    pub fn expire(&mut self) {
-        for place in self.0.chunks_exact_mut(PLACE_UNITS) {
-            place[22..24].fill(0);
-        }
+    pub fn expire_all(&mut self) -> Result<(), Refusal> {
+        taken(calls::expire_all(&mut self.0))
+    }
+
+    /// Expires the entry whose prefix is equal to this path.
+    pub fn expire(&mut self, path: &[u16]) -> Result<(), Refusal> {
+        taken(calls::expire(&mut self.0, path))
     }
 
     /// Empties the cache.
@@ -123,13 +126,15 @@ impl DomainCache {
         used(&self.0).map(domain)
     }
 
-    /// The hint of a domain to its next DC: the number of its DCs, 0 where none is known.
-    pub fn next_dc(&mut self, name: &[u16]) -> usize {
-        let fold = |u: u16| if (0x41..=0x5A).contains(&u) { u + 32 } else { u };
-        let same = |d: &DomainEntry| d.name.iter().map(|u| fold(*u)).eq(name.iter().map(|u| fold(*u)));
-        let Some(d) = self.entries().find(|d| same(d) && !d.dcs.is_empty()) else { return 0 };
-        self.0[d.place * PLACE_UNITS + 10] = ((d.hint + 1) % d.dcs.len()) as u16;
-        d.dcs.len()
+    /// The entry of a domain, by a name that is equal but for the case of A to Z.
+    pub fn entry(&self, name: &[u16]) -> Option<DomainEntry> {
+        let fold = |u: &u16| if (0x41..=0x5A).contains(u) { u + 32 } else { *u };
+        self.entries().find(|d| d.name.iter().map(fold).eq(name.iter().map(fold)))
+    }
+
+    /// The hint of a domain to its next DC, from the last to the first.
+    pub fn next_dc(&mut self, name: &[u16]) -> Result<(), Refusal> {
+        taken(calls::next_dc(&mut self.0, name))
     }
 
     /// Empties the cache.

@@ -35,6 +35,13 @@ extern "C" {
     // the referral cache as text, and back
     fn dfsc_list(refs: *const u16, refs_len: usize, out: *mut u16, out_len: usize) -> u64;
     fn dfsc_read(text: *const u16, text_len: usize, refs: *mut u16, refs_len: usize) -> u32;
+
+    // what a host does to its caches beside walks
+    fn dfsc_expire_all(refs: *mut u16, refs_len: usize) -> u32;
+    fn dfsc_expire(refs: *mut u16, refs_len: usize, path: *const u16, path_len: usize) -> u32;
+    fn dfsc_next_dc(doms: *mut u16, doms_len: usize, name: *const u16, name_len: usize) -> u32;
+
+    fn dfsc_version() -> u32;
 }
 
 /// `dfsc_start`: a new walk for a path. 0, or a refusal.
@@ -142,4 +149,28 @@ pub fn list(refs: &[u16], out: &mut [u16]) -> u64 {
 #[inline]
 pub fn read(text: &[u16], refs: &mut [u16]) -> u32 {
     unsafe { dfsc_read(text.as_ptr(), text.len(), refs.as_mut_ptr(), refs.len()) }
+}
+
+/// `dfsc_expire_all`: every referral entry is expired. 0, or a refusal.
+#[inline]
+pub fn expire_all(refs: &mut [u16]) -> u32 {
+    unsafe { dfsc_expire_all(refs.as_mut_ptr(), refs.len()) }
+}
+
+/// `dfsc_expire`: the referral entry whose prefix is equal to the path is expired. 0, or a refusal.
+#[inline]
+pub fn expire(refs: &mut [u16], path: &[u16]) -> u32 {
+    unsafe { dfsc_expire(refs.as_mut_ptr(), refs.len(), path.as_ptr(), path.len()) }
+}
+
+/// `dfsc_next_dc`: the hint of a domain to its next DC. 0, or a refusal.
+#[inline]
+pub fn next_dc(doms: &mut [u16], name: &[u16]) -> u32 {
+    unsafe { dfsc_next_dc(doms.as_mut_ptr(), doms.len(), name.as_ptr(), name.len()) }
+}
+
+/// `dfsc_version`: the version of the library.
+#[inline]
+pub fn version() -> u32 {
+    unsafe { dfsc_version() }
 }

@@ -54,3 +54,8 @@ pub use resolver::{Network, Resolver};
 pub use status::NtStatus;
 pub use text::{units, Text, TEXT_UNITS};
 pub use walk::{End, Kind, Outcome, Question, Rest, Settings, Walk, REQUEST_BYTES, WALK_UNITS};
+
+/// The version of the library that is linked: 10000 * major + 100 * minor + patch.
+pub fn version() -> u32 {
+    calls::version()
+}

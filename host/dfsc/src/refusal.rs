@@ -26,6 +26,7 @@ pub enum Refusal {
     /// 10: a buffer is too short. The buffers of this crate are long enough.
     ShortBuffer,
     /// 27: the entry in use is gone from its cache, or has lost the target or DC that was to be asked. Any answer ends such a walk with [`Outcome::Gone`](crate::Outcome).
+    /// Of [`expire`](crate::ReferralCache::expire) and [`next_dc`](crate::DomainCache::next_dc): there is no such entry, or it has no DC.
     Gone,
     /// A number that has no name here.
     Other(u32),
@@ -42,7 +43,7 @@ const NAMED: [(u32, Refusal, &str); 11] = [
     (8, Refusal::BadListing, "no listing, or its entries are not in order"),
     (9, Refusal::TooManyEntries, "more entries than the cache has places"),
     (10, Refusal::ShortBuffer, "buffer too short"),
-    (27, Refusal::Gone, "the entry in use is gone"),
+    (27, Refusal::Gone, "the entry is gone"),
 ];
 
 impl Refusal {

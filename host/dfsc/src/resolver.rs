@@ -110,7 +110,7 @@ impl Resolver {
                 }
                 (Outcome::Failed, Some((None, _))) if end.status.tries_next_target() && !asked && !renewed => {
                     renewed = true;
-                    self.referrals.expire();
+                    self.referrals.expire_all()?;
                     true
                 }
                 (Outcome::Failed, Some((Some(Kind::Link), _))) if held && !renewed => {
@@ -119,9 +119,10 @@ impl Resolver {
                     true
                 }
                 (Outcome::NoDc, Some((Some(Kind::Sysvol), _))) => {
-                    let dcs = self.domains.next_dc(&end.path.component(0));
+                    let domain = end.path.component(0);
+                    let dcs = self.domains.entry(&domain).map_or(0, |d| d.dcs.len());
                     moved += 1;
-                    moved <= dcs
+                    self.domains.next_dc(&domain).is_ok() && moved <= dcs
                 }
                 _ => false,
             };

@@ -34,7 +34,7 @@ fn functions(text: &str, before: &str, after: &str, parameter: impl Fn(&str) -> 
         let Some((name, rest)) = piece.split_once('(') else { continue };
         let Some((parameters, rest)) = rest.split_once(')') else { continue };
         if rest.starts_with(after) {
-            all.insert(name.to_string(), parameters.split(',').map(str::trim).filter(|p| !p.is_empty()).map(&parameter).collect());
+            all.insert(name.to_string(), parameters.split(',').map(str::trim).filter(|p| !p.is_empty() && *p != "void").map(&parameter).collect());
         }
     }
     all
@@ -42,7 +42,7 @@ fn functions(text: &str, before: &str, after: &str, parameter: impl Fn(&str) -> 
 
 #[test]
 fn declarations() {
-    for (c, rust, least) in [("uint32_t dfsc_", " -> u32;", 11), ("uint64_t dfsc_", " -> u64;", 1)] {
+    for (c, rust, least) in [("uint32_t dfsc_", " -> u32;", 15), ("uint64_t dfsc_", " -> u64;", 1)] {
         let header = functions(&read("../../include/dfsc.h"), c, ";", from_c);
         let declared = functions(&read("src/calls.rs"), "fn dfsc_", rust, str::to_string);
         assert!(declared.len() >= least, "{} functions are declared", declared.len());
@@ -63,6 +63,7 @@ fn constants() {
 
     let part = |n: usize| env!("CARGO_PKG_VERSION").split('.').nth(n).unwrap().parse::<usize>().unwrap();
     assert_eq!(defined("VERSION"), Some(10000 * part(0) + 100 * part(1) + part(2)));
+    assert_eq!(defined("VERSION"), Some(dfsc::version() as usize));
     assert!(header.contains(concat!("#define DFSC_VERSION_TEXT \"", env!("CARGO_PKG_VERSION"), "\" ")));
 }
 
@@ -83,6 +84,7 @@ fn numbers() {
         ("TOO_MANY_ENTRIES", Refusal::TooManyEntries),
         ("SHORT_BUFFER", Refusal::ShortBuffer),
         ("END_GONE", Refusal::Gone),
+        ("NO_ENTRY", Refusal::Gone),
     ];
     for (name, refusal) in refusals {
         assert_eq!((refusal.number(), Refusal::of(number(name))), (number(name), refusal));

@@ -175,8 +175,14 @@ fn domains_and_sysvol() {
     assert!(end.outcome == Outcome::Done && end.path == r"\dc2\sysvol\x");
     let hint = |r: &Resolver| r.domains.entries().find(|d| d.name == "corp.example").unwrap().hint;
     assert_eq!(hint(&r), 1);
-    assert_eq!((r.domains.next_dc(&units("Corp.Example")), hint(&r)), (3, 2));
-    assert_eq!((r.domains.next_dc(&units("CORP")), r.domains.next_dc(&units("corp.exampl"))), (0, 0));
+    assert_eq!((r.domains.next_dc(&units("Corp.Example")), hint(&r)), (Ok(()), 2));
+    assert_eq!((r.domains.next_dc(&units("corp.example")), hint(&r)), (Ok(()), 0), "from the last to the first");
+    let before = r.domains.clone();
+    for name in ["CORP", "corp.exampl", ""] {
+        assert_eq!(r.domains.next_dc(&units(name)), Err(Refusal::Gone), "a domain without DCs, and names that are not there");
+    }
+    assert_eq!(r.domains, before);
+    assert!(r.domains.entry(&units("corp")).is_some_and(|d| d.name == "CORP") && r.domains.entry(&units("cor")).is_none());
 }
 
 #[test]
@@ -188,8 +194,17 @@ fn entries() {
     assert!(all[0].place == 0 && all[0].root && all[0].prefix == r"\files\rec" && !all[1].root && !all[1].interlink && !all[1].failback);
     assert!(all[1].ttl == 300 && all[1].taken == 100 && all[1].hint == 1 && all[1].targets[1].path == r"\old2\train" && !all[1].targets[1].opens_set);
     assert!(!all[1].expired(399) && all[1].expired(400) && all[1].expired(99));
-    r.referrals.expire();
-    assert!(r.referrals.entries().all(|e| e.ttl == 0 && e.expired(100)));
+    let kept = r.referrals.clone();
+    assert_eq!(r.referrals.expire(&units(r"\\Files\REC\")), Ok(()));
+    let after: Vec<_> = r.referrals.entries().collect();
+    assert!(after[0].ttl == 0 && after[0].taken == all[0].taken && after[0].targets == all[0].targets && after[1] == all[1]);
+    for (path, refusal) in [(r"\files", Refusal::Gone), (r"\files\rec\trai", Refusal::Gone), ("files", Refusal::BadPath), (r"\a\..", Refusal::BadPath)] {
+        assert_eq!(r.referrals.expire(&units(path)), Err(refusal));
+    }
+    assert_eq!(r.referrals.expire(&units(&format!(r"\a\{}", "b".repeat(254)))), Err(Refusal::LongPath));
+    r.referrals = kept;
+    assert_eq!(r.referrals.expire_all(), Ok(()));
+    assert!(r.referrals.entries().all(|e| e.ttl == 0 && e.taken == 100 && [100, 0, u32::MAX].iter().all(|c| e.expired(*c))));
     r.referrals.clear();
     assert_eq!(r.referrals, ReferralCache::new(32).unwrap());
     // any units can be looked at
@@ -197,7 +212,9 @@ fn entries() {
         let units = vec![fill; 2 * dfsc::PLACE_UNITS + 7];
         assert_eq!(ReferralCache::from_units(units.clone()).entries().count(), 2);
         assert_eq!(DomainCache::from_units(units.clone()).entries().count(), 2);
-        DomainCache::from_units(units).next_dc(&[fill; 256]);
+        assert_eq!(ReferralCache::from_units(units.clone()).expire_all(), Err(Refusal::NotInOrder));
+        assert_eq!(ReferralCache::from_units(units.clone()).expire(&[]), Err(Refusal::NotInOrder));
+        assert_eq!(DomainCache::from_units(units).next_dc(&[fill; 256]), Err(Refusal::NotInOrder));
     }
 }
 

@@ -16,6 +16,7 @@ pub struct Lender {
     pub text: Slot<u16>,
     pub numbers: Slot<u32>,
     pub listing: Slot<u16>,
+    pub name: Slot<u16>,
 }
 
 impl Lender {
@@ -32,6 +33,7 @@ impl Lender {
             text: Slot::new(side),
             numbers: Slot::new(side),
             listing: Slot::new(side),
+            name: Slot::new(side),
         }
     }
 }
@@ -156,4 +158,34 @@ pub fn read(text: &[u16], refs: &mut [u16]) -> u32 {
         l.refs.take_back(refs);
         number
     })
+}
+
+pub fn expire_all(refs: &mut [u16]) -> u32 {
+    lending(|l| {
+        let number = calls::expire_all(l.refs.lend(refs));
+        l.refs.take_back(refs);
+        number
+    })
+}
+
+pub fn expire(refs: &mut [u16], path: &[u16]) -> u32 {
+    lending(|l| {
+        let number = calls::expire(l.refs.lend(refs), l.path.lend(path));
+        l.path.is_as_lent(path);
+        l.refs.take_back(refs);
+        number
+    })
+}
+
+pub fn next_dc(doms: &mut [u16], name: &[u16]) -> u32 {
+    lending(|l| {
+        let number = calls::next_dc(l.doms.lend(doms), l.name.lend(name));
+        l.name.is_as_lent(name);
+        l.doms.take_back(doms);
+        number
+    })
+}
+
+pub fn version() -> u32 {
+    calls::version()
 }

@@ -1,6 +1,6 @@
 //! The control of the lending: for each slot a call that uses the whole of its slice, with elements of its memory missing, must not survive at an
-//! unreadable page, and is reported by valgrind on the heap. With nothing missing the same call is taken. The listing's slot has two: it is written by
-//! one call and read by another.
+//! unreadable page, and is reported by valgrind on the heap. With nothing missing the same call is taken. A slot that one call writes
+//! and another reads, or that calls of another kind use, has one more for each.
 use crate::calls::Lender;
 use crate::rules::names::ascii;
 use crate::slots::Side;
@@ -8,7 +8,8 @@ use dfsc::{calls, PLACE_UNITS, WALK_UNITS};
 use std::os::unix::process::ExitStatusExt;
 use std::process::Command;
 
-pub const SLOTS: [&str; 11] = ["refs", "doms", "walk", "path", "boot", "reply", "request", "text", "numbers", "listing", "listing-read"];
+pub const SLOTS: [&str; 16] = ["refs", "doms", "walk", "path", "boot", "reply", "request", "text", "numbers", "listing", "listing-read", "refs-expire-all",
+    "refs-expire", "path-expire", "doms-next-dc", "name"];
 /// The control of which nothing is missing.
 pub const NONE: &str = "none";
 const SEGMENTATION_FAULT: i32 = 11;
@@ -19,9 +20,18 @@ fn reply() -> Vec<u8> {
     [fields, vec![0; 16], string("\\files\\s1"), string("\\nas1\\s1")].concat()
 }
 
+// A domain with one DC, in a cache of one place.
+fn domain() -> Vec<u16> {
+    let mut units = vec![0; PLACE_UNITS];
+    (units[0], units[1], units[9]) = (4, 3, 1);
+    units[32..36].copy_from_slice(&ascii("corp"));
+    units[288..291].copy_from_slice(&ascii("dc1"));
+    units
+}
+
 const LISTING: &str = "prefix=\\a\\b\nkind=root\ninterlink=0\nfailback=0\nttl=0\ntaken=0\nhint=0\ntarget=\\c\\d\n";
 
-/// A start and what follows, and a listing read and listed again, with elements of one slot missing, or of none: whether each call was taken.
+/// A start and what follows, a listing read and listed again, its entry expired and a hint moved, with elements of one slot missing, or of none: whether each call was taken.
 pub fn survives(side: Option<Side>, slot: &str) -> bool {
     // the first two bytes of a reply, PathConsumed, are not used
     let missed = |name: &str| (name == slot) as usize * if name == "reply" && side == Some(Side::Start) { 3 } else { 1 };
@@ -42,7 +52,10 @@ pub fn survives(side: Option<Side>, slot: &str) -> bool {
     let read = calls::read(l.listing.lend_short(&text, missed("listing-read")), l.refs.lend(&refs));
     l.refs.take_back(&mut refs);
     let listed = calls::list(l.refs.lend(&refs), l.listing.lend_short(&vec![0; text.len()], missed("listing")));
-    (started, named, asked, answered, read, listed) == (0, 9, 3, 0, 0, text.len() as u64)
+    let expired_all = calls::expire_all(l.refs.lend_short(&refs, missed("refs-expire-all")));
+    let expired = calls::expire(l.refs.lend_short(&refs, missed("refs-expire")), l.path.lend_short(&ascii("\\a\\b"), missed("path-expire")));
+    let moved = calls::next_dc(l.doms.lend_short(&domain(), missed("doms-next-dc")), l.name.lend_short(&ascii("corp"), missed("name")));
+    (started, named, asked, answered, read, listed, expired_all, expired, moved) == (0, 9, 3, 0, 0, text.len() as u64, 0, 0, 0)
 }
 
 /// Runs each control in a process of its own: whether all came out as they must.

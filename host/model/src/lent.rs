@@ -113,7 +113,8 @@ pub fn referrals(refs: &[u16]) -> Option<Vec<Option<Referral>>> {
     entries(refs, referral).filter(|places| referrals_in_order(places) && referral_units(places) == refs)
 }
 
-fn domains(doms: &[u16]) -> Option<Vec<Option<Domain>>> {
+/// A domain cache; None where it is not in order.
+pub fn domains(doms: &[u16]) -> Option<Vec<Option<Domain>>> {
     entries(doms, domain).filter(|places| domains_in_order(places) && domain_units(places) == doms)
 }
 

@@ -1,5 +1,5 @@
-//! Random walks, and listings made and read between their calls, given both to libdfsc.a and to the model of the rules: each call's number, all lent memory
-//! after it, and what the walk then shows.
+//! Random walks, and between their calls listings made and read, entries expired and hints moved, given both to libdfsc.a and to the model of the rules: each
+//! call's number, all lent memory after it, and what the walk then shows.
 //! `--calls N` (200,000), `--seed S` (1); `--scene K` runs that scene of the seed alone.
 //!
 //! Each slice is lent in a heap block of exactly its length. With `--guard end` it ends at an unreadable page, with `--guard start` it begins after one;
@@ -15,6 +15,7 @@ mod scenes;
 #[allow(unsafe_code)]
 mod slots;
 mod texts;
+mod upkeep;
 
 use lent::{PLACE, WALK};
 use random::Random;
@@ -28,6 +29,8 @@ use std::collections::BTreeMap;
 use std::fmt::Debug;
 
 const FILL: u16 = 0xEEEE;
+/// 0.1.0
+const VERSION: u32 = 100;
 
 #[derive(Default)]
 struct Counts {
@@ -361,6 +364,9 @@ fn scene(r: &mut Random, counts: &mut Counts) -> Outcome {
             if r.in_hundred(12) {
                 host.read_listing(r, now, counts)?;
             }
+            if r.in_hundred(12) {
+                host.tend(r, counts)?;
+            }
             if r.in_hundred(changes) {
                 host.change_walks();
             }
@@ -403,7 +409,7 @@ fn wanted() -> Vec<String> {
     let domains = [0, 3, 4, 6, 7].map(|n| format!("domains {n:2}"));
     let kinds = [Kind::Dc, Kind::Root, Kind::Link, Kind::Sysvol, Kind::Io].map(|k| format!("question {k:?}"));
     let damage = DAMAGE.map(|d| format!("damage to {d}"));
-    ends.chain(refusals).chain(requests).chain(domains).chain(kinds).chain(damage).chain(listings::wanted()).collect()
+    ends.chain(refusals).chain(requests).chain(domains).chain(kinds).chain(damage).chain(listings::wanted()).chain(upkeep::wanted()).collect()
 }
 
 fn main() {
@@ -427,6 +433,7 @@ fn main() {
         }
         calls::lend_at(side);
     }
+    assert_eq!(calls::version(), VERSION, "DFSC_VERSION of include/dfsc.h");
     let calls = number(&args, "--calls").unwrap_or(200_000);
     let seed = number(&args, "--seed").unwrap_or(1);
     let only = number(&args, "--scene");

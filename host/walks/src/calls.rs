@@ -50,3 +50,15 @@ pub fn list(refs: &[u16], out: &mut [u16]) -> u64 {
 pub fn read(text: &[u16], refs: &mut [u16]) -> u32 {
     measured("dfsc_read", || calls::read(text, refs))
 }
+
+pub fn expire_all(refs: &mut [u16]) -> u32 {
+    measured("dfsc_expire_all", || calls::expire_all(refs))
+}
+
+pub fn expire(refs: &mut [u16], path: &[u16]) -> u32 {
+    measured("dfsc_expire", || calls::expire(refs, path))
+}
+
+pub fn next_dc(doms: &mut [u16], name: &[u16]) -> u32 {
+    measured("dfsc_next_dc", || calls::next_dc(doms, name))
+}

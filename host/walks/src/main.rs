@@ -323,7 +323,7 @@ fn dcs_stored(limit: u32, buffer: usize) -> usize {
     used
 }
 
-// Calls that no scenario has: memory of another length, and a domain request.
+// Calls that no scenario has: memory of another length, a domain request, entries expired and a hint moved.
 fn others() -> usize {
     let mut wrong = 0;
     let mut says = |ok: bool, what: &str| {
@@ -357,6 +357,25 @@ fn others() -> usize {
     let mut request = [0xEEu8; 6];
     says(calls::domain_request(&mut request) == 0 && request == [4, 0, 0, 0, 0xEE, 0xEE], "the domain request");
     says(calls::domain_request(&mut request[..3]) == 10 && request[..3] == [4, 0, 0], "a short domain request");
+    // full caches: each call goes over every place
+    let mut refs = vec![0u16; 32 * PLACE_UNITS];
+    let entry = |i: usize| format!("prefix=\\f{i}\\{}\nkind=root\ninterlink=0\nfailback=0\nttl=300\ntaken=1\nhint=0\ntarget=\\t\\s\n", "p".repeat(200));
+    says(calls::read(&units(&(0..32).map(entry).collect::<String>()), &mut refs) == 0, "32 entries read");
+    let (before, prefix) = (refs.clone(), units(&format!("\\\\F31\\{}\\", "P".repeat(200))));
+    says(calls::expire(&mut refs, &prefix) == 0 && refs.iter().zip(&before).filter(|(a, b)| a != b).count() == 1, "an entry expired");
+    says(calls::expire(&mut refs, &units("\\a\\b")) == 27 && calls::expire(&mut refs, &units("a")) == 1, "no entry, no path");
+    says(calls::expire_all(&mut refs) == 0 && refs.chunks(PLACE_UNITS).all(|p| p[22] == 0 && p[24] == 1), "all expired");
+    let mut doms = vec![0u16; 32 * PLACE_UNITS];
+    for (i, place) in doms.chunks_mut(PLACE_UNITS).enumerate() {
+        (place[0], place[1], place[2], place[9]) = (2, 1, 1, 2);
+        place[32..34].copy_from_slice(&[b'd' as u16, b'0' as u16 + i as u16]);
+        (place[288], place[544]) = (b'x' as u16, b'y' as u16);
+    }
+    let last = [b'D' as u16, b'0' as u16 + 31];
+    says(calls::next_dc(&mut doms, &last) == 0 && doms[31 * PLACE_UNITS + 10] == 1, "the next DC");
+    says(calls::next_dc(&mut doms, &last) == 0 && doms[31 * PLACE_UNITS + 10] == 0 && calls::next_dc(&mut doms, &[b'e' as u16]) == 27, "the first DC again");
+    doms[5] = 1;
+    says(calls::next_dc(&mut doms, &last) == 4 && calls::expire_all(&mut doms[1..]) == 4 && calls::expire(&mut doms, &[]) == 4, "caches that are not in order");
     wrong
 }
 

@@ -116,6 +116,13 @@ S.start("new1")
 S.start("new2")
 S.ready("new1", "new2")
 
+# one entry expired by its prefix: the link is asked for anew at its root's target, whatever its TTL
+S.link("files", "rec/train", r"\new1\train", r"\new2\train")
+R.referrals.expire("\\\\FILES\\rec\\train\\")
+N.asked.clear()
+resolves("one entry expired", R, N, TRAIN, r"\new1\train\feb.wav", "new", follow=False)
+check("one entry expired: its questions", kinds(N), ["referral", "io"])
+
 # a link that is gone, and a folder in its place
 os.unlink(S.at("files", "rec/train"))
 S.put("files", "rec/train/feb.wav", "a folder")

@@ -8,11 +8,10 @@ ghost use Rattle.cache.specs.order.Memory.{referrals, domains, decode, encode, 
 ghost use Rattle.cache_lookup.specs.Lookup.{withKey};
 ghost use Rattle.cache_upkeep.specs.Calls.{expireEntry, dcAfter, entryChanged, upkept, expireAllCall, foundExpired, expireCall, nextDcCall};
 use cache::places::PLACE;
+use cache::places::ROOM;
+use cache::places::TTL;
 use cache_lookup::Found;
 use unc::names::Form;
-
-// The unit of a place at which the TTL begins.
-const TTL: usize = 22;
 
 // What such a call answers.
 pub enum Upkeep {
@@ -69,7 +68,7 @@ pub fn expire(refs: &mut [u16], path: &[u16]) -> Upkeep
     if !cache::order::referrals_in_order(refs) {
         return Upkeep::NotInOrder;
     }
-    let mut room = [0; 256];
+    let mut room = [0; ROOM];
     let f = unc::path_form::normalise(path, &mut room);
     match f {
         Form::Bad => Upkeep::BadPath,

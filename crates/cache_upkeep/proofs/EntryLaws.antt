@@ -18,7 +18,7 @@ use Rattle.cache.specs.places.Layout.{placeCount, placeAt, unitAt, flagUnit, wr
 use Rattle.cache.specs.places.Code.{changed, putUnit, putWide}
 use Rattle.cache.specs.order.Entries.{Referral, Place, free, used}
 use Rattle.cache.specs.order.Order.{distinct, goodReferral}
-use Rattle.cache.specs.order.Memory.{Kind, referrals, domains, decode, encode, goodPlace, keys, inOrder, referralUnits, referralSettings}
+use Rattle.cache.specs.order.Memory.{Kind, referrals, domains, decode, encode, goodPlace, keys, inOrder, referralUnits, settingsUnits}
 use Rattle.cache.proofs.places.WrittenLaws.{Shaped, length-written, written-setting}
 use Rattle.cache.proofs.places.PutLaws.{put-written}
 use Rattle.cache.proofs.order.MemoryLaws.{Lawful, GoodCache, cache-told, good-cache, order-good, place-free, place-used, decode-at, encode-decode, decode-encode, encoded-in-order}
@@ -183,10 +183,10 @@ module _ (ts : List (List ℕ)) (hint : ℕ) (marks : List ℕ) (r n f a b c d :
       sym (pasted-join (written ts hint marks (r ∷ n ∷ f ∷ a ∷ b ∷ c ∷ d ∷ [])) 22 (0 ∷ []) (0 ∷ []) (omega arith)) ∙ two-written
 
 pub expire-units : (e : Referral) → goodReferral e ≡ true → putWide 22 0 (referralUnits e) ≡ referralUnits (expireEntry e)
-unfolding referralUnits referralSettings expireEntry
+unfolding referralUnits settingsUnits expireEntry
 expire-units e h =
     wide-written (e .prefix ∷ map (λ t. t .path) (e .targets)) (e .hint) (map (λ t. flagUnit (t .opens)) (e .targets))
-    (flagUnit (e .root)) (flagUnit (e .interlink)) (flagUnit (e .failback)) (e .ttl % 65536) (e .ttl / 65536) (e .taken % 65536) (e .taken / 65536) (referral-shape e h)
+    (flagUnit (e .settings .root)) (flagUnit (e .settings .interlink)) (flagUnit (e .settings .failback)) (e .settings .ttl % 65536) (e .settings .ttl / 65536) (e .settings .taken % 65536) (e .settings .taken / 65536) (referral-shape e h)
 
 -- the DC after another is one of them; of none it is the first
 after-within : (j n : ℕ) → (dcAfter j n ≡ 0) ⊎ (dcAfter j n < n)

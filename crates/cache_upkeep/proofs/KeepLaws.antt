@@ -28,7 +28,7 @@ use Rattle.cache_upkeep.proofs.EntryLaws.{Tends, expire-tends, next-ten
 -- an entry with TTL 0 is expired at every clock
 always-expired : (clock : ℕ) (e : Referral) → expired clock (expireEntry e) ≡ true
 unfolding expired expireEntry
-always-expired clock e = le-leb 0 (age clock (e .taken)) (omega arith)
+always-expired clock e = le-leb 0 (age clock (e .settings .taken)) (omega arith)
 
 -- so is each that was made so
 map-expired : (ps : List (Place Referral)) (j clock : ℕ) (e : Referral) → getD (map (onEntry expireEntry) ps) j free ≡ used e → expired clock e ≡ true

@@ -26,11 +26,13 @@ upkeepNumber NoEntry = 27
 unfoldable pub expireEntry : Referral → Referral
 expireEntry e = record {
   prefix = e .prefix;
-  root = e .root;
-  interlink = e .interlink;
-  failback = e .failback;
-  ttl = 0;
-  taken = e .taken;
+  settings = record {
+    root = e .settings .root;
+    interlink = e .settings .interlink;
+    failback = e .settings .failback;
+    ttl = 0;
+    taken = e .settings .taken;
+  };
   targets = e .targets;
   hint = e .hint;
 }

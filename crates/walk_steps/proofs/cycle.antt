@@ -2,3 +2,4 @@
 pub mod MatchedLaws
 pub mod MoveLaws
 pub mod PointLaws
+pub mod GoneLaws

@@ -7,25 +7,26 @@ ghost use Prim.Native.Nat.{ℕ, suc, _+_, _*_, _/_, _%_, _≤_, _<_};
 ghost use lib.ListN.{length, take};
 ghost use Rattle.unc.specs.names.Code.{writtenWithin};
 ghost use Rattle.walk_steps.specs.walk_texts.Code.{Standing};
-ghost use Rattle.cache.specs.order.Memory.{referrals};
+ghost use Rattle.cache.specs.order.Memory.{referrals, domains, decode};
 ghost use Rattle.cache_lookup.specs.Code.{entryAt};
 ghost use Rattle.cache_lookup.specs.declared.Found.the-variants.{At};
-ghost use Rattle.walk_steps.specs.steps.Steps.{asking, hitAt, withHit, step2, step8, step11};
+ghost use Rattle.walk_steps.specs.steps.Steps.{Caches, asks, asking, hitAt, withHit, step2, step5, step8, step11, fromStep2, goes, turned};
 ghost use Rattle.walk_steps.specs.steps.Held.{cachesOf, coreOf};
-ghost use Rattle.walk_steps.specs.steps.Code.{step2In};
-ghost use Rattle.walk_steps.specs.cycle.Code.{joined, packed, stepsFrom, calledAt, movedTo, Ready, Usable};
+ghost use Rattle.walk_steps.specs.steps.Code.{coreAt, step2In};
+ghost use Rattle.walk_steps.specs.cycle.Code.{joined, packed, stepsFrom, calledAt, calledAfter, movedTo, Ready, Usable};
 ghost use Rattle.walk_steps.specs.cycle.Code.{whatOf, placeIn, unitsOf, stepsAt, Point, Halted, SameRest, pointFresh, pointFound, goneTo, pointReached};
 use crate::steps::Asking;
 use crate::steps::End;
 use crate::steps::Kind;
 use crate::steps::Matched;
 use crate::steps::Next;
+use crate::steps::Progress;
 use crate::steps::Rested;
 use cache_lookup::Found;
 use unc::names::Written;
 
 // Steps 3 and 8: the I/O try at target `party` of the entry at place i.
-pub fn step8(
+fn step8(
     refs: &[u16],
     texts: &mut [u16],
     len: usize,
@@ -251,8 +252,8 @@ fn rest_at(refs: &[u16], doms: &[u16], texts: &mut [u16], n: u64, size: u32) -> 
     crate::steps::step5(doms, &texts[..len], left, true, size)
 }
 
-// From step 2.
-pub fn from_lookup(
+// Step 2.
+fn lookup_rest(
     refs: &[u16],
     doms: &[u16],
     texts: &mut [u16],
@@ -274,7 +275,7 @@ pub fn from_lookup(
 }
 
 // From step 5, or from step 7 where the entry at a place has just been stored.
-pub fn from_domain(
+fn domain_rest(
     refs: &[u16],
     doms: &[u16],
     texts: &mut [u16],
@@ -294,4 +295,74 @@ pub fn from_domain(
     let n = fresh(refs, texts, len, i);
     let r = domain(refs, texts, with_left(n, left as u64), clock);
     rest_at(refs, doms, texts, r, size)
+}
+
+// From step 2.
+pub fn from_lookup(refs: &[u16], doms: &[u16], texts: &mut [u16], g: Progress) -> Rested
+    requires { ⌜ Ready (now refs) (now texts) (g .len) ⌝ }
+    ensures { λ r. ⌜ joined r (now (texts .exit)) ≡ packed (turned (g .left) (g .clock) (fromStep2 (cachesOf (now (refs .entry)) (now (doms .entry))) (coreAt g (now (texts .entry))) (g .clock))) ⌝ }
+{
+    lookup_rest(refs, doms, texts, g.len, g.left, g.hit, g.size, g.clock)
+}
+
+// From step 5.
+pub fn from_domain(refs: &[u16], doms: &[u16], texts: &mut [u16], g: Progress) -> Rested
+    requires { ⌜ Ready (now refs) (now texts) (g .len) ⌝ }
+    ensures { λ r. ⌜ joined r (now (texts .exit)) ≡ packed (goes (g .left) (cachesOf (now (refs .entry)) (now (doms .entry))) (g .clock) (coreAt g (now (texts .entry))) (asks (step5 (decode domains (now (doms .entry))) (coreAt g (now (texts .entry)))))) ⌝ }
+{
+    domain_rest(
+        refs,
+        doms,
+        texts,
+        g.len,
+        g.left,
+        g.hit,
+        g.size,
+        g.clock,
+        Found::Nothing,
+    )
+}
+
+// From the entry at a place, which has just been stored: SYSVOL goes to step 3, any other to step 7.
+pub fn from_stored(
+    refs: &[u16],
+    doms: &[u16],
+    texts: &mut [u16],
+    g: Progress,
+    i: usize,
+    sysvol: bool,
+) -> Rested
+    requires { ⌜ Ready (now refs) (now texts) (g .len) × (Usable (now refs) (take (g .len) (now texts)) i × (g .hit ≡ true)) ⌝ }
+    ensures { λ r. ⌜ joined r (now (texts .exit)) ≡ packed (goes (g .left) (cachesOf (now (refs .entry)) (now (doms .entry))) (g .clock) (coreAt g (now (texts .entry))) (calledAfter sysvol (coreAt g (now (texts .entry))) (entryAt referrals i (now (refs .entry))))) ⌝ }
+{
+    if sysvol {
+        let hint = cache_lookup::target_hint(refs, i);
+        return step8(refs, texts, g.len, g.left, g.hit, i, hint, hint);
+    }
+    domain_rest(
+        refs,
+        doms,
+        texts,
+        g.len,
+        g.left,
+        g.hit,
+        g.size,
+        g.clock,
+        Found::At(i),
+    )
+}
+
+// Step 8: the try at a target of the entry at place i, in a round that began at `began`.
+pub fn try_target(
+    refs: &[u16],
+    texts: &mut [u16],
+    g: Progress,
+    i: usize,
+    party: u16,
+    began: u16,
+) -> Rested
+    requires { ⌜ Standing (g .len) (now texts) × (Usable (now refs) (take (g .len) (now texts)) i × (party < length (entryAt referrals i (now refs) .targets))) ⌝ }
+    ensures { λ r. ⌜ ((c : Caches) → joined r (now (texts .exit)) ≡ packed (goes (g .left) c (g .clock) (coreAt g (now (texts .entry))) (asks (step8 (coreAt g (now (texts .entry))) (entryAt referrals i (now (refs .entry))) party began)))) ⌝ }
+{
+    step8(refs, texts, g.len, g.left, g.hit, i, party, began)
 }

@@ -1,22 +1,23 @@
 // Rounds over DCs and targets: whether the entry in use still has its parties, and what comes after a failure.
 ghost use mathlib.Core.Path.{_≡_};
-ghost use mathlib.Core.Bool.{true, _||_};
-ghost use mathlib.Core.List.{[]};
-ghost use Prim.Native.Nat.{_≤_, _<_, _*_, min};
+ghost use mathlib.Core.Bool.{Bool, true, _||_};
+ghost use mathlib.Core.List.{List, []};
+ghost use Prim.Native.Nat.{ℕ, _≤_, _<_, _*_, min};
 ghost use lib.ListN.{length, getD, take};
 ghost use lib.Dec.{eqb};
 ghost use Rattle.unc.specs.names.Paths.{components};
 ghost use Rattle.cache.specs.order.Memory.{domains, decode};
 ghost use Rattle.cache.specs.order.Order.{goodPrefix};
 ghost use Rattle.cache_lookup.specs.Lookup.{withKey};
-ghost use Rattle.walk_steps.specs.steps.Steps.{inUse, nextPlace, doubled, failedHost, failed, referralFails, isOneOf, nextTargetStatuses};
-ghost use Rattle.walk_steps.specs.steps.Held.{cachesOf, coreOf, askingOf, questionOf};
-ghost use Rattle.walk_steps.specs.steps.Code.{restedOf, askedAt};
-ghost use Rattle.walk_steps.specs.rounds.Code.{failureRests, domainThere, dcsNamed, targetsUnder, inRound, again, failedDc, failedRoot, failedLink};
+ghost use Rattle.walk_steps.specs.steps.Steps.{asks, inUse, nextPlace, doubled, failedHost, failed, referralFails, isOneOf, nextTargetStatuses};
+ghost use Rattle.walk_steps.specs.steps.Held.{cachesOf, coreOf, questionOf};
+ghost use Rattle.walk_steps.specs.steps.Code.{calledOf};
+ghost use Rattle.walk_steps.specs.rounds.Code.{domainThere, dcsNamed, targetsUnder, inRound, again, failedDc, failedRoot, failedLink};
 use crate::steps::Asking;
 use crate::steps::End;
 use crate::steps::Kind;
-use crate::steps::Rested;
+use crate::steps::Next;
+use crate::steps::Progress;
 use cache_lookup::Found;
 
 const OVERFLOW: u32 = 0x80000005;
@@ -142,99 +143,79 @@ fn doubled(size: u32) -> u32
 }
 
 // The same party again, with the size doubled.
-fn ask_again(path: usize, left: u16, hit: bool, q: Asking) -> Rested
-    requires { ⌜ (path ≤ 256) × (q .size < 57344) ⌝ }
-    ensures { λ r. ⌜ r ≡ askedAt (askingOf (doubled (questionOf q []))) path left hit ⌝ }
+fn ask_again(q: Asking) -> Next
+    requires { ⌜ q .size < 57344 ⌝ }
+    ensures { λ r. ⌜ calledOf r ≡ asks (doubled (questionOf q [])) ⌝ }
 {
     let kind = q.kind;
-    let more = Asking {
+    Next::Asks(Asking {
         kind,
         entry: q.entry,
         party: q.party,
         began: q.began,
         size: doubled(q.size),
         covered: q.covered,
-    };
-    crate::steps::ask(more, path, left, hit)
+    })
 }
 
 // A root request to a host has one party.
-fn failed_host(path: &[u16], left: u16, hit: bool, size: u32, status: u32) -> Rested
-    requires { ⌜ length (now path) ≤ 256 ⌝ }
-    ensures { λ r. ⌜ r ≡ restedOf (failureRests left (coreOf (now (path .entry)) size hit) (failedHost (coreOf (now (path .entry)) size hit) status)) ⌝ }
+fn failed_host(hit: bool, status: u32) -> Next
+    ensures { λ r. ⌜ ((path : List ℕ) (size : ℕ) → calledOf r ≡ failedHost (coreOf path size hit) status) ⌝ }
 {
     if hit {
-        return crate::steps::end_at(End::Failed, status, path.len(), left, hit);
+        return Next::Ends(End::Failed, status);
     }
-    crate::steps::end_at(End::NotDfs, 0, path.len(), left, hit)
+    Next::Ends(End::NotDfs, 0)
 }
 
 // The next DC, from the given size.
-fn failed_dc(doms: &[u16], path: &[u16], left: u16, hit: bool, size: u32, q: Asking) -> Rested
+fn failed_dc(doms: &[u16], path: &[u16], size: u32, q: Asking) -> Next
     requires { ⌜ goodPrefix (now path) ≡ true ⌝ }
-    ensures { λ r. ⌜ r ≡ restedOf (failureRests left (coreOf (now (path .entry)) size hit) (failedDc (dcsNamed (now (path .entry)) (now (doms .entry))) (coreOf (now (path .entry)) size hit) (questionOf q []))) ⌝ }
+    ensures { λ r. ⌜ ((hit : Bool) → calledOf r ≡ failedDc (dcsNamed (now (path .entry)) (now (doms .entry))) (coreOf (now (path .entry)) size hit) (questionOf q [])) ⌝ }
 {
     let dc = next_place(dcs(doms, path), q.party);
     if dc == q.began {
-        return crate::steps::end_at(End::NoDc, NOT_FOUND, path.len(), left, hit);
+        return Next::Ends(End::NoDc, NOT_FOUND);
     }
     let entry = unc::prefix::first_end(path, 1) as u16;
-    let asked = Asking {
+    Next::Asks(Asking {
         kind: Kind::Root,
         entry,
         party: dc,
         began: q.began,
         size,
         covered: false,
-    };
-    crate::steps::ask(asked, path.len(), left, hit)
+    })
 }
 
-fn failed_root(
-    doms: &[u16],
-    path: &[u16],
-    left: u16,
-    hit: bool,
-    size: u32,
-    q: Asking,
-    status: u32,
-) -> Rested
+fn failed_root(doms: &[u16], path: &[u16], g: Progress, q: Asking, status: u32) -> Next
     requires { ⌜ goodPrefix (now path) ≡ true ⌝ }
-    ensures { λ r. ⌜ r ≡ restedOf (failureRests left (coreOf (now (path .entry)) size hit) (failedRoot (dcsNamed (now (path .entry)) (now (doms .entry))) (coreOf (now (path .entry)) size hit) (questionOf q []) status)) ⌝ }
+    ensures { λ r. ⌜ calledOf r ≡ failedRoot (dcsNamed (now (path .entry)) (now (doms .entry))) (coreOf (now (path .entry)) (g .size) (g .hit)) (questionOf q []) status ⌝ }
 {
     if q.entry == 0 {
-        return failed_host(path, left, hit, size, status);
+        return failed_host(g.hit, status);
     }
-    failed_dc(doms, path, left, hit, size, q)
+    failed_dc(doms, path, g.size, q)
 }
 
 // The next target, from the given size.
-fn failed_link(
-    refs: &[u16],
-    path: &[u16],
-    left: u16,
-    hit: bool,
-    size: u32,
-    q: Asking,
-    status: u32,
-) -> Rested
-    requires { ⌜ (length (now path) ≤ 256) × (q .entry ≤ length (now path)) ⌝ }
-    ensures { λ r. ⌜ r ≡ restedOf (failureRests left (coreOf (now (path .entry)) size hit) (failedLink (targetsUnder (take (q .entry) (now (path .entry))) (now (refs .entry))) (coreOf (now (path .entry)) size hit) (questionOf q []) status)) ⌝ }
+fn failed_link(refs: &[u16], path: &[u16], size: u32, q: Asking, status: u32) -> Next
+    requires { ⌜ q .entry ≤ length (now path) ⌝ }
+    ensures { λ r. ⌜ ((hit : Bool) → calledOf r ≡ failedLink (targetsUnder (take (q .entry) (now (path .entry))) (now (refs .entry))) (coreOf (now (path .entry)) size hit) (questionOf q []) status) ⌝ }
 {
     let entry = q.entry as usize;
     let target = next_place(targets(refs, &path[..entry]), q.party);
     if target == q.began {
-        return crate::steps::end_at(End::Failed, status, path.len(), left, hit);
+        return Next::Ends(End::Failed, status);
     }
-    let asked = Asking {
+    Next::Asks(Asking {
         kind: Kind::Link,
         entry: q.entry,
         party: target,
         began: q.began,
         size,
         covered: q.covered,
-    };
-    crate::steps::ask(asked, path.len(), left, hit)
+    })
 }
 
 // What comes after the party, by the kind of the question.
@@ -242,43 +223,39 @@ fn failed(
     refs: &[u16],
     doms: &[u16],
     path: &[u16],
-    left: u16,
-    hit: bool,
-    size: u32,
+    g: Progress,
     q: Asking,
     status: u32,
-) -> Rested
+) -> Next
     requires { ⌜ (goodPrefix (now path) ≡ true) × (q .entry ≤ length (now path)) ⌝ }
-    ensures { λ r. ⌜ r ≡ restedOf (failureRests left (coreOf (now (path .entry)) size hit) (failed (cachesOf (now (refs .entry)) (now (doms .entry))) (coreOf (now (path .entry)) size hit) (questionOf q []) status)) ⌝ }
+    ensures { λ r. ⌜ calledOf r ≡ failed (cachesOf (now (refs .entry)) (now (doms .entry))) (coreOf (now (path .entry)) (g .size) (g .hit)) (questionOf q []) status ⌝ }
 {
     let kind = q.kind;
     match kind {
-        Kind::Dc => crate::steps::end_at(End::NoDc, status, path.len(), left, hit),
-        Kind::Root => failed_root(doms, path, left, hit, size, q, status),
-        Kind::Link => failed_link(refs, path, left, hit, size, q, status),
-        Kind::Sysvol => crate::steps::end_at(End::NoDc, status, path.len(), left, hit),
-        Kind::Io => crate::steps::end_at(End::Failed, status, path.len(), left, hit),
+        Kind::Dc => Next::Ends(End::NoDc, status),
+        Kind::Root => failed_root(doms, path, g, q, status),
+        Kind::Link => failed_link(refs, path, g.size, q, status),
+        Kind::Sysvol => Next::Ends(End::NoDc, status),
+        Kind::Io => Next::Ends(End::Failed, status),
     }
 }
 
-// A referral request failed: severity 2 or 3.
+// What a referral request that failed, with severity 2 or 3, calls for.
 pub fn referral_fails(
     refs: &[u16],
     doms: &[u16],
     path: &[u16],
-    left: u16,
-    hit: bool,
-    size: u32,
+    g: Progress,
     q: Asking,
     status: u32,
-) -> Rested
+) -> Next
     requires { ⌜ (goodPrefix (now path) ≡ true) × (q .entry ≤ length (now path)) ⌝ }
-    ensures { λ r. ⌜ r ≡ restedOf (failureRests left (coreOf (now (path .entry)) size hit) (referralFails (cachesOf (now (refs .entry)) (now (doms .entry))) (coreOf (now (path .entry)) size hit) (questionOf q []) status)) ⌝ }
+    ensures { λ r. ⌜ calledOf r ≡ referralFails (cachesOf (now (refs .entry)) (now (doms .entry))) (coreOf (now (path .entry)) (g .size) (g .hit)) (questionOf q []) status ⌝ }
 {
     if asks_again(status, q.size) {
-        return ask_again(path.len(), left, hit, q);
+        return ask_again(q);
     }
-    failed(refs, doms, path, left, hit, size, q, status)
+    failed(refs, doms, path, g, q, status)
 }
 
 fn is_one_of(status: u32, table: &[u32]) -> bool

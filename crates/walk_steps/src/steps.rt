@@ -11,7 +11,7 @@ ghost use Rattle.cache.specs.order.Memory.{referrals, domains, decode};
 ghost use Rattle.cache_lookup.specs.Code.{entryAt};
 ghost use Rattle.walk_steps.specs.steps.Steps.{step5Domain, step5, linkRequest, asking};
 ghost use Rattle.walk_steps.specs.steps.Held.{coreOf};
-ghost use Rattle.walk_steps.specs.steps.Code.{restedOf, endedAt, askedAt, domainAsking, turning, step9In, step2In};
+ghost use Rattle.walk_steps.specs.steps.Code.{restedOf, endedAt, askedAt, restAt, domainAsking, turning, step9In, step2In};
 use cache_lookup::Found;
 
 // The kinds of question.
@@ -61,6 +61,17 @@ pub struct Rested {
     pub hit: bool,
 }
 
+// What a walk hands on in a call: the units of its path, the moves left, whether there was a hit, the size given, the time, and the bytes
+// of the buffer.
+pub struct Progress {
+    pub len: usize,
+    pub left: u16,
+    pub hit: bool,
+    pub size: u32,
+    pub clock: u32,
+    pub room: usize,
+}
+
 pub fn end_at(end: End, status: u32, path: usize, left: u16, hit: bool) -> Rested
     requires { ⌜ path ≤ 256 ⌝ }
     ensures { λ r. ⌜ r ≡ endedAt end status path left hit ⌝ }
@@ -88,6 +99,17 @@ pub fn ask(q: Asking, path: usize, left: u16, hit: bool) -> Rested
         tried: 0,
         left: left - 1,
         hit,
+    }
+}
+
+// The rest at an end, or at a question that tries no path.
+pub fn rest(next: Next, g: Progress) -> Rested
+    requires { ⌜ g .len ≤ 256 ⌝ }
+    ensures { λ r. ⌜ r ≡ restAt next (g .len) (g .left) (g .hit) ⌝ }
+{
+    match next {
+        Next::Asks(q) => ask(q, g.len, g.left, g.hit),
+        Next::Ends(end, status) => end_at(end, status, g.len, g.left, g.hit),
     }
 }
 

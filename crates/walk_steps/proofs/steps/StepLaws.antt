@@ -27,12 +27,14 @@ use Rattle.cache_lookup.specs.declared.Found.{Found}
 use Rattle.cache_lookup.specs.declared.Found.the-variants.{At, Nothing}
 use Rattle.walk_steps.specs.steps.Steps.{Core, Question, waits, ended, rests, asking, domainNamed, dcRequest, step5, step5With, step5Domain, step6, step6Host, step10, linkRequest}
 use Rattle.walk_steps.specs.steps.Held.{askingOf, nextOf, triedOf}
-use Rattle.walk_steps.specs.steps.Code.{restedOf, endedAt, askedAt, domainAsking, turning, step9At, step9In, step2At, step2In}
+use Rattle.walk_steps.specs.steps.Code.{restedOf, endedAt, askedAt, restAt, domainAsking, turning, step9At, step9In, step2At, step2In}
 use Rattle.walk_steps.specs.declared.steps.Kind.{Kind}
 use Rattle.walk_steps.specs.declared.steps.Kind.the-variants.{Dc, Root, Link, Sysvol}
+use Rattle.walk_steps.specs.declared.steps.End.{End}
 use Rattle.walk_steps.specs.declared.steps.End.the-variants.{LimitReached, TooLong}
 use Rattle.walk_steps.specs.declared.steps.Asking.{Asking}
-use Rattle.walk_steps.specs.declared.steps.Next.the-variants.{Asks}
+use Rattle.walk_steps.specs.declared.steps.Next.{Next}
+use Rattle.walk_steps.specs.declared.steps.Next.the-variants.{Asks, Ends}
 use Rattle.walk_steps.specs.declared.steps.Rested.{Rested}
 use Rattle.walk_steps.specs.declared.steps.Matched.{Matched}
 use Rattle.walk_steps.specs.declared.steps.Matched.the-variants.{Fresh, Refresh, Stale, Missed}
@@ -47,6 +49,16 @@ module _ (q : Asking) (path left : ℕ) (hit : Bool) where
   pub asked-put : (left ≡ 0 → ⊥) → record { next = Asks q; path = path; tried = 0; left = left - 1; hit = hit } ≡ askedAt q path left hit
   unfolding askedAt
   asked-put h = sym (choose-no _ _ (ne-eqb left 0 h))
+
+-- the rest at a next move
+module _ {r : Rested} (next : Next) (path left : ℕ) (hit : Bool) where
+  pub rests-asked : (q : Asking) → next ≡ Asks q → r ≡ askedAt q path left hit → r ≡ restAt next path left hit
+  unfolding restAt
+  rests-asked q h e = e ∙ sym (ap (λ (n : Next). restAt n path left hit) h)
+
+  pub rests-ended : (e : End) (status : ℕ) → next ≡ Ends e status → r ≡ endedAt e status path left hit → r ≡ restAt next path left hit
+  unfolding restAt
+  rests-ended e status h f = f ∙ sym (ap (λ (n : Next). restAt n path left hit) h)
 
 -- it is what the steps do with a question that has no path tried
 pub asked-rests : (left : ℕ) (w : Core) (q : Question) → q .tried ≡ [] → askedAt (askingOf q) (length (w .path)) left (w .hit) ≡ restedOf (asking left w q)

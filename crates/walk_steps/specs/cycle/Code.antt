@@ -1,7 +1,7 @@
 -- Shapes of the code, proved equal to the rules; nothing here is to be believed.
 use Prim.Native.Nat.{ℕ, _<_, zero, suc, _+_, _*_, _/_, _%_}
 use mathlib.Core.Path.{_≡_}
-use mathlib.Core.Bool.{true, false}
+use mathlib.Core.Bool.{Bool, true, false}
 use mathlib.Core.List.{List, []}
 use lib.Dec.{leb}
 use lib.ListN.{length, take}
@@ -45,6 +45,11 @@ stepsFrom left refs doms clock w a = packed (goes left (cachesOf refs doms) cloc
 unfoldable pub calledAt : List ℕ → List ℕ → Core → Found → Called
 calledAt refs doms w Nothing = asks (step5 (decode domains doms) w)
 calledAt refs doms w (At i) = step7 w (entryAt referrals i refs)
+
+-- what a stored entry calls for: SYSVOL goes to step 3, root and link replies to step 3 or 4 by their kind
+unfoldable pub calledAfter : Bool → Core → Referral → Called
+calledAfter true w e = asks (step3 w e)
+calledAfter false w e = step7 w e
 
 -- the path stands in its room and is good, and the referral cache is in order
 pub record Ready (refs texts : List ℕ) (len : ℕ) : Type 0 where

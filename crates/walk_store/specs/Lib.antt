@@ -1,4 +1,4 @@
--- A reply stored, and the steps that follow. Where the request that then waits does not fit the buffer the caches are put back.
-pub mod dc_reply
-pub mod referral_reply
-pub mod hint_then_reply
+-- A reply taken into the caches, the steps that follow, and both caches put back where the request that then waits does not fit the buffer.
+pub mod party_hint
+pub mod reply_taken
+pub mod after_reply

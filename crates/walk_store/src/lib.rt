@@ -1,9 +1,7 @@
-// A reply stored, and the steps that follow. Where the request that then waits does not fit the buffer the caches are put back.
-// - dc_reply: a DC reply into its domain entry, and on
-// - referral_reply: a root, link or SYSVOL reply into the referral cache, and on
-// - hint_then_reply: the hint of the party that answered, then its reply stored
-// - by_kind: the reply by the kind of its question
-pub mod by_kind;
-pub mod dc_reply;
-pub mod hint_then_reply;
-pub mod referral_reply;
+// A reply taken into the caches, the steps that follow, and both caches put back where the request that then waits does not fit the buffer.
+// - party_hint: the hint of the party that answered, set and taken back
+// - reply_taken: the reply read, tested and stored
+// - after_reply: on with the steps, and both caches put back
+pub mod after_reply;
+pub mod party_hint;
+pub mod reply_taken;

@@ -1,0 +1,3 @@
+-- Laws.
+pub mod RestLaws
+pub mod BackLaws

@@ -1,3 +1,0 @@
--- Laws.
-pub mod RestLaws
-pub mod AnswerLaws

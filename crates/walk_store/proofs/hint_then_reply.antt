@@ -1,3 +1,0 @@
--- Laws.
-pub mod HintLaws
-pub mod TurnLaws

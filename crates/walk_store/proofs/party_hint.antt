@@ -1,0 +1,3 @@
+-- Laws.
+pub mod HintLaws
+pub mod PartyLaws

@@ -1,0 +1,4 @@
+-- Laws.
+pub mod PlaceLaws
+pub mod SaidLaws
+pub mod TakenLaws

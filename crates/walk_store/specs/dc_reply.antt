@@ -1,2 +1,0 @@
--- Answers that store.
-pub mod Code

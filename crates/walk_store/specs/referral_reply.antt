@@ -1,2 +1,0 @@
--- A reply stored, and on.
-pub mod Code

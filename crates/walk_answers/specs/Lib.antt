@@ -1,3 +1,3 @@
 -- The answers to the questions of a walk.
-pub mod reply_cases
+pub mod referral_answer
 pub mod io_answer

@@ -1,2 +1,2 @@
--- The answer to an I/O try.
+-- Definitions.
 pub mod Code

@@ -1,6 +1,6 @@
 -- Laws of the answer to an I/O try.
 use mathlib.Core.Path.{_≡_, refl, sym, ap, _∙_, subst}
-use mathlib.Core.Bool.{Bool, true, false}
+use mathlib.Core.Bool.{Bool, true, false, not}
 use mathlib.Core.List.{List, []}
 use mathlib.Core.Logic.{_⊎_, inl, inr}
 use mathlib.Core.Option.{Option, none, some}
@@ -9,12 +9,11 @@ use native.Mathlib.Omega.{arith}
 use lib.ListN.{length, take, drop, replicate, length-drop}
 use lib.Seq.{length-take-le, take-take}
 use lib.Dec.{leb, ltb, eqb}
-use borrow.Author.Tests.{eq-eqb, ne-eqb, lt-ltb, le-ltb, leb-false, ltb-true}
+use borrow.Author.Tests.{eq-eqb, ne-eqb, lt-ltb, le-ltb, leb-false, ltb-true, not-true, not-false}
 use Rattle.laws.specs.Choice.{choose}
 use Rattle.laws.specs.Lists.{pasted, roomed}
 use Rattle.laws.proofs.Choices.{choose-yes, choose-no, and-left}
 use Rattle.laws.proofs.Orders.{told}
-use Rattle.laws.proofs.Tests.{eq-or-ne}
 use Rattle.unc.specs.names.Paths.{matches}
 use Rattle.walk_steps.specs.walk_texts.Texts.{textsOf}
 use Rattle.walk_steps.specs.walk_texts.Code.{Standing}
@@ -32,24 +31,29 @@ use Rattle.cache_lookup.specs.declared.Found.the-variants.{At, Nothing}
 use Rattle.cache_lookup.proofs.LookupLaws.{KeyAt, key-found}
 use Rattle.cache_lookup.proofs.StoreLaws.{entry-good}
 use Rattle.cache_store.specs.entry_after_reply.Stored.{prefixed}
-use Rattle.walk_steps.specs.steps.Steps.{Caches, Core, Question, Called, stops, ends, asks, Turn, ended, rests, asking, goes, inUse, referralInUse, hintSet, targetHintSet, withReferrals, nextPlace, onward, step8, linkRequest, severity, isOneOf, nextTargetStatuses, pathNotCovered, ioFails, ioWith, ioAnswered}
-use Rattle.walk_steps.specs.steps.Held.{cachesOf, coreOf, askingOf, nextOf, triedOf, questionOf}
-use Rattle.walk_steps.specs.steps.Code.{restedOf, endedAt, askedAt}
+use Rattle.walk_steps.specs.steps.Steps.{Caches, Core, Question, Called, stops, ends, asks, Turn, ended, rests, goes, turned, inUse, referralInUse, hintSet, targetHintSet, withReferrals, nextPlace, onward, step8, linkRequest, severity, isOneOf, nextTargetStatuses, pathNotCovered, ioFails, ioWith, ioAnswered}
+use Rattle.walk_steps.specs.steps.Held.{cachesOf, coreOf, nextOf, triedOf, questionOf}
+use Rattle.walk_steps.specs.steps.Code.{coreAt, restedOf, restAt, calledOf}
 use Rattle.walk_steps.specs.declared.steps.Kind.{Kind}
 use Rattle.walk_steps.specs.declared.steps.Kind.the-variants.{Link, Io}
 use Rattle.walk_steps.specs.declared.steps.End.the-variants.{Done, Failed, Gone}
-use Rattle.walk_steps.specs.declared.steps.Next.the-variants.{Ends}
+use Rattle.walk_steps.specs.declared.steps.Next.{Next}
+use Rattle.walk_steps.specs.declared.steps.Next.the-variants.{Asks, Ends}
 use Rattle.walk_steps.specs.declared.steps.Asking.{Asking}
+use Rattle.walk_steps.specs.declared.steps.Progress.{Progress}
 use Rattle.walk_steps.specs.declared.steps.Rested.{Rested}
 use Rattle.walk_steps.proofs.steps.HeldLaws.{key-held, key-fits, used-is}
-use Rattle.walk_steps.proofs.steps.StepLaws.{asked-as}
 use Rattle.walk_steps.specs.cycle.Code.{Packed, joined, packed, Usable}
-use Rattle.walk_steps.proofs.cycle.MoveLaws.{standing-path, packed-end, packed-asked, tried-size, matches-same}
-use Rattle.walk_steps.specs.rounds.Code.{failureRests, targetsUnder, inRound}
+use Rattle.walk_steps.proofs.cycle.MoveLaws.{matches-same, goes-stops}
+use Rattle.walk_steps.specs.question_request.Questions.{requestName, nameFits, restFits}
+use Rattle.walk_steps.specs.rounds.Code.{targetsUnder, inRound}
 use Rattle.walk_steps.proofs.rounds.RoundLaws.{round-past, round-on, targets-gone, targets-held, in-use-same, in-use-io}
 use Rattle.walk_steps.proofs.rounds.FailLaws.{onward-end, onward-next}
-use Rattle.walk_steps.proofs.rounds.QuietLaws.{Quiet, still, quiet-goes, quiet-io}
-use Rattle.walk_answers.specs.io_answer.Code.{triedRoom, Trying, Failing, withParties, placeInUse, notCovered, nextTarget, restOf, withDoms}
+use Rattle.walk_store.specs.after_reply.Code.{leftBy, leaves}
+use Rattle.walk_answers.proofs.referral_answer.AnswerLaws.{rest-called, still-left}
+use Rattle.walk_answers.specs.declared.io_answer.Failure.{Failure}
+use Rattle.walk_answers.specs.declared.io_answer.Failure.the-variants.{Calls, Tries}
+use Rattle.walk_answers.specs.io_answer.Code.{triedRoom, Trying, Failing, withParties, placeInUse, notCovered, nextTarget, failureCalls}
 
 -- the place of the entry in use
 module _ (prefix raw : List ℕ) (party began : ℕ) {f : Found} (e : f ≡ withKey referrals prefix (decode referrals raw)) where
@@ -193,9 +197,9 @@ unfolding roomed
 blank-room n = let z : n ≡ n - 0 = omega arith in ap (λ (m : ℕ). replicate m 0) z
 
 -- the rooms of a walk that waits for an I/O answer
-module _ {refs rooms : List ℕ} {len tried : ℕ} {q : Asking} (k : Trying refs rooms len tried q) where
-  path-units : length (take len rooms) ≡ len
-  path-units = length-take-le len rooms (omega (arith, k .few, k .long))
+module _ {refs doms rooms : List ℕ} {g : Progress} {q : Asking} {tried : ℕ} (k : Trying refs doms rooms g q tried) where
+  path-units : length (take (g .len) rooms) ≡ g .len
+  path-units = length-take-le (g .len) rooms (omega (arith, k .few, k .long))
 
   tried-units : length (triedRoom tried rooms) ≡ tried
   unfolding triedRoom
@@ -205,29 +209,42 @@ module _ {refs rooms : List ℕ} {len tried : ℕ} {q : Asking} (k : Trying refs
   pub entry-units : q .entry ≡ length (take (q .entry) rooms)
   entry-units = sym (length-take-le (q .entry) rooms (omega (arith, k .inside, k .few, k .long)))
 
-  prefix-taken : take (q .entry) rooms ≡ take (q .entry) (take len rooms)
-  prefix-taken = sym (take-take (q .entry) len rooms (k .inside))
+  prefix-taken : take (q .entry) rooms ≡ take (q .entry) (take (g .len) rooms)
+  prefix-taken = sym (take-take (q .entry) (g .len) rooms (k .inside))
 
   -- the path tried is taken away
   module _ {o : List ℕ} (e : o ≡ pasted rooms 256 (replicate 256 0)) where
-    cleared : o ≡ textsOf (take len rooms) []
+    cleared : o ≡ textsOf (take (g .len) rooms) []
     cleared =
         e
         ∙ ((λ j. pasted (k .stands j) 256 (blank-room 256 j))
-        ∙ tried-put (take len rooms) (triedRoom tried rooms) [] (omega (arith, path-units, k .few)) (omega (arith, tried-units, k .tried-few)) (omega arith))
+        ∙ tried-put (take (g .len) rooms) (triedRoom tried rooms) [] (omega (arith, path-units, k .few)) (omega (arith, tried-units, k .tried-few)) (omega arith))
 
-    cleared-path : take len o ≡ take len rooms
-    cleared-path = (λ j. take (sym path-units j) (cleared j)) ∙ path-in (take len rooms) []
+    cleared-path : take (g .len) o ≡ take (g .len) rooms
+    cleared-path = (λ j. take (sym path-units j) (cleared j)) ∙ path-in (take (g .len) rooms) []
 
-    cleared-standing : Standing len o
+    cleared-standing : Standing (g .len) o
     cleared-standing = record { few = k .few; stands = cleared ∙ ap (λ (l : List ℕ). textsOf l []) (sym cleared-path) }
 
+  abbrev turn : ℕ → Turn
+  turn status = ioAnswered (cachesOf refs doms) (coreAt g rooms) (questionOf q (triedRoom tried rooms)) status
+
   module _ {f : Found} (e : f ≡ placeInUse (take (q .entry) rooms) refs (q .party) (q .began)) where
-    place-is : {g : Found} → f ≡ g → placeInUse (take (q .entry) (take len rooms)) refs (q .party) (q .began) ≡ g
+    place-is : {x : Found} → f ≡ x → placeInUse (take (q .entry) (take (g .len) rooms)) refs (q .party) (q .began) ≡ x
     place-is h = ap (λ (p : List ℕ). placeInUse p refs (q .party) (q .began)) (sym prefix-taken) ∙ (sym e ∙ h)
 
+    -- the entry is gone
+    pub gone-left : (status : ℕ) → f ≡ Nothing → {o : List ℕ} {r : Rested} → o ≡ pasted rooms 256 (replicate 256 0) → r ≡ restAt (Ends Gone 0) (g .len) (g .left) (g .hit)
+        → leftBy r o refs doms ≡ leaves g refs doms (turn status)
+    unfolding calledOf
+    gone-left status h {o} d x =
+        still-left g refs doms (k .order) (k .doms-order) (coreAt g rooms) (ends Gone 0)
+        (sym (answered-gone refs doms (take (g .len) rooms) (g .size) (g .hit) q (triedRoom tried rooms) status (k .waits-io) (place-is h)))
+        (rest-called o g (cleared-standing d) (Ends Gone 0) (cachesOf refs doms) x
+        ∙ (λ j. packed (goes (g .left) (cachesOf refs doms) (g .clock) (coreOf (cleared-path d j) (g .size) (g .hit)) (ends Gone 0))))
+
     module _ (i : ℕ) (h : f ≡ At i) where
-      in-use : InUse (take (q .entry) (take len rooms)) refs (q .party) (q .began) i
+      in-use : InUse (take (q .entry) (take (g .len) rooms)) refs (q .party) (q .began) i
       in-use = use-told _ refs _ _ i (place-is h)
 
       pub done-fits : i < placeCount refs
@@ -236,81 +253,64 @@ module _ {refs rooms : List ℕ} {len tried : ℕ} {q : Asking} (k : Trying refs
       pub done-party : q .party < length (entryAt referrals i refs .targets)
       done-party = use-party in-use
 
-      pub failing : {o : List ℕ} → o ≡ pasted rooms 256 (replicate 256 0) → Failing refs o len i
+      pub failing : {o : List ℕ} → o ≡ pasted rooms 256 (replicate 256 0) → Failing refs o (g .len) i
       failing d = record {
         standing = cleared-standing d;
-        usable = subst (λ (p : List ℕ). Usable refs p i) (sym (cleared-path d)) (use-usable in-use (take len rooms) (k .order) (k .matched));
+        usable = subst (λ (p : List ℕ). Usable refs p i) (sym (cleared-path d)) (use-usable in-use (take (g .len) rooms) (k .order) (k .matched));
       }
 
-    module _ (left size : ℕ) (hit : Bool) (status : ℕ) where
-      -- the entry is gone
-      module _ (h : f ≡ Nothing) where
-        gone-turn : ioAnswered (cachesOf refs []) (coreOf (take len rooms) size hit) (questionOf q (triedRoom tried rooms)) status
-            ≡ record { caches = cachesOf refs []; core = coreOf (take len rooms) size hit; called = ends Gone 0 }
-        gone-turn = answered-gone refs [] (take len rooms) size hit q (triedRoom tried rooms) status (k .waits-io) (place-is h)
+      -- the try is done
+      module _ (status : ℕ) (x : status / 1073741824 ≡ 3 → ⊥) where
+        abbrev done : Turn
+        done = record {
+          caches = record { referrals = targetHinted i (q .party) (decode referrals refs); domains = decode domains doms };
+          core = coreAt g rooms;
+          called = stops Done status (triedRoom tried rooms);
+        }
 
-        pub gone-rest : {o : List ℕ} {r : Rested} → o ≡ pasted rooms 256 (replicate 256 0) → r ≡ endedAt Gone 0 len left hit
-            → joined r o ≡ packed (restOf left (ioAnswered (cachesOf refs []) (coreOf (take len rooms) size hit) (questionOf q (triedRoom tried rooms)) status))
-        unfolding restOf failureRests
-        gone-rest {o} d g =
-            packed-end len o (cleared-standing d) Gone 0 left size hit g
-            ∙ ((λ j. packed (rests (coreOf (cleared-path d j) size hit) left (ended Gone 0 [])))
-            ∙ ap (λ (t : Turn). packed (restOf left t)) (sym gone-turn))
+        done-turn : done ≡ turn status
+        unfolding severity
+        done-turn = sym (answered-done refs doms (take (g .len) rooms) (g .size) (g .hit) q (triedRoom tried rooms) status (k .waits-io) i in-use x)
 
-        pub gone-cache : refs ≡ encode referrals (ioAnswered (cachesOf refs []) (coreOf (take len rooms) size hit) (questionOf q (triedRoom tried rooms)) status .caches .referrals)
-        unfolding cachesOf
-        gone-cache = sym (encode-decode referrals refs (k .order)) ∙ ap (λ (t : Turn). encode referrals (t .caches .referrals)) (sym gone-turn)
+        done-rests : turned (g .left) (g .clock) done ≡ rests (coreAt g rooms) (g .left) (ended Done status (triedRoom tried rooms))
+        unfolding turned
+        done-rests = goes-stops (g .left) _ (g .clock) (coreAt g rooms) Done status (triedRoom tried rooms)
 
-      module _ (i : ℕ) (h : f ≡ At i) where
-        -- the try is done
-        module _ (g : status / 1073741824 ≡ 3 → ⊥) where
-          done-turn : ioAnswered (cachesOf refs []) (coreOf (take len rooms) size hit) (questionOf q (triedRoom tried rooms)) status
-              ≡ record {
-                caches = record { referrals = targetHinted i (q .party) (decode referrals refs); domains = decode domains [] };
-                core = coreOf (take len rooms) size hit;
-                called = stops Done status (triedRoom tried rooms);
-              }
-          unfolding severity
-          done-turn = answered-done refs [] (take len rooms) size hit q (triedRoom tried rooms) status (k .waits-io) i (in-use i h) g
+        done-fit : restFits (g .room) (turned (g .left) (g .clock) done) ≡ true
+        unfolding restFits rests requestName nameFits
+        done-fit = ap (restFits (g .room)) done-rests
 
-          pub done-rest : joined (record { next = Ends Done status; path = len; tried = tried; left = left; hit = hit }) rooms
-              ≡ packed (restOf left (ioAnswered (cachesOf refs []) (coreOf (take len rooms) size hit) (questionOf q (triedRoom tried rooms)) status))
-          unfolding restOf failureRests packed rests restedOf nextOf triedOf
-          done-rest =
-              (λ j.
-              record {
-                rested = record { next = Ends Done status; path = sym path-units j; tried = sym tried-units j; left = left; hit = hit };
-                texts = k .stands j;
-              })
-              ∙ ap (λ (t : Turn). packed (restOf left t)) (sym done-turn)
+        pub done-left : {m : List ℕ} → m ≡ encode referrals (targetHinted i (q .party) (decode referrals refs))
+            → leftBy (record { next = Ends Done status; path = g .len; tried = tried; left = g .left; hit = g .hit }) rooms m doms ≡ leaves g refs doms (turn status)
+        unfolding leaves packed rests restedOf nextOf triedOf
+        done-left d =
+            (λ j.
+            record {
+              rest =
+                  ((λ n.
+                  record {
+                    rested = record { next = Ends Done status; path = sym path-units n; tried = sym tried-units n; left = g .left; hit = g .hit };
+                    texts = k .stands n;
+                  })
+                  ∙ ap packed (sym done-rests)) j;
+              refs = (d ∙ sym (choose-yes _ refs done-fit)) j;
+              doms = (sym (encode-decode domains doms (k .doms-order)) ∙ sym (choose-yes _ doms done-fit)) j;
+            })
+            ∙ ap (leaves g refs doms) done-turn
 
-          pub done-cache : {m : List ℕ} → m ≡ encode referrals (targetHinted i (q .party) (decode referrals refs))
-              → m ≡ encode referrals (ioAnswered (cachesOf refs []) (coreOf (take len rooms) size hit) (questionOf q (triedRoom tried rooms)) status .caches .referrals)
-          done-cache d = d ∙ ap (λ (t : Turn). encode referrals (t .caches .referrals)) (sym done-turn)
-
-        -- the try failed
-        module _ (g : status / 1073741824 ≡ 3) where
-          fails-turn : ioAnswered (cachesOf refs []) (coreOf (take len rooms) size hit) (questionOf q (triedRoom tried rooms)) status
-              ≡ record {
-                caches = cachesOf refs [];
-                core = coreOf (take len rooms) size hit;
-                called = ioFails (coreOf (take len rooms) size hit) (questionOf q []) status (entryAt referrals i refs);
-              }
-          unfolding severity
-          fails-turn = answered-fails refs [] (take len rooms) size hit q (triedRoom tried rooms) status (k .waits-io) i (in-use i h) g
-
-          pub fails-rest : {o : List ℕ} {x : Packed} → o ≡ pasted rooms 256 (replicate 256 0)
-              → x ≡ packed (failureRests left (coreOf (take len o) size hit) (ioFails (coreOf (take len o) size hit) (questionOf q []) status (entryAt referrals i refs)))
-              → x ≡ packed (restOf left (ioAnswered (cachesOf refs []) (coreOf (take len rooms) size hit) (questionOf q (triedRoom tried rooms)) status))
-          unfolding restOf
-          fails-rest d x =
-              x
-              ∙ ((λ j. packed (failureRests left (coreOf (cleared-path d j) size hit) (ioFails (coreOf (cleared-path d j) size hit) (questionOf q []) status (entryAt referrals i refs))))
-              ∙ ap (λ (t : Turn). packed (restOf left t)) (sym fails-turn))
-
-          pub fails-cache : refs ≡ encode referrals (ioAnswered (cachesOf refs []) (coreOf (take len rooms) size hit) (questionOf q (triedRoom tried rooms)) status .caches .referrals)
-          unfolding cachesOf
-          fails-cache = sym (encode-decode referrals refs (k .order)) ∙ ap (λ (t : Turn). encode referrals (t .caches .referrals)) (sym fails-turn)
+      -- the try failed
+      pub fails-left : (status : ℕ) → status / 1073741824 ≡ 3 → {o p : List ℕ} {r : Rested} → o ≡ pasted rooms 256 (replicate 256 0)
+          → ((c : Caches) (tries : List ℕ) → joined r p ≡ packed (goes (g .left) c (g .clock) (coreAt g o) (ioFails (coreAt g o) (questionOf q tries) status (entryAt referrals i refs))))
+          → leftBy r p refs doms ≡ leaves g refs doms (turn status)
+      unfolding severity
+      fails-left status x d y =
+          still-left g refs doms (k .order) (k .doms-order) (coreAt g rooms) (ioFails (coreAt g rooms) (questionOf q []) status (entryAt referrals i refs))
+          (sym (answered-fails refs doms (take (g .len) rooms) (g .size) (g .hit) q (triedRoom tried rooms) status (k .waits-io) i in-use x))
+          (y (cachesOf refs doms) []
+          ∙ (λ j.
+          packed
+          (goes (g .left) (cachesOf refs doms) (g .clock) (coreOf (cleared-path d j) (g .size) (g .hit))
+          (ioFails (coreOf (cleared-path d j) (g .size) (g .hit)) (questionOf q []) status (entryAt referrals i refs)))))
 
 -- the place after is one of the round
 next-below : (n place : ℕ) → 0 < n → nextPlace n place < n
@@ -321,146 +321,83 @@ next-below n place h = go (told (leb n (place + 1)))
     go (inl t) = rw (choose-yes 0 (place + 1) t) h
     go (inr t) = rw (choose-no 0 (place + 1) t) (leb-false n (place + 1) t)
 
-next-size : (left : ℕ) (p : List ℕ) (size : ℕ) (hit : Bool) (q : Question) (status : ℕ) (e : Referral)
-    → packed (failureRests left (coreOf p 0 hit) (nextTarget (coreOf p 0 hit) q status e)) ≡ packed (failureRests left (coreOf p size hit) (nextTarget (coreOf p size hit) q status e))
-unfolding nextTarget onward failureRests packed rests restedOf nextOf triedOf
-next-size left p size hit q status e = go (told (eqb (nextPlace (length (e .targets)) (q .party)) (q .began)))
-  where
-    from : ℕ → Called → Packed
-    from s a = packed (failureRests left (coreOf p s hit) a)
+-- PATH_NOT_COVERED
+module _ (q : Asking) (g : Progress) (status : ℕ) (e : Referral) {b : Bool} (h : b ≡ e .root) where
+  pub covered-end : not b ≡ true → (path tried : List ℕ) → calledOf (Ends Failed status) ≡ notCovered (coreOf path (g .size) (g .hit)) (questionOf q tried) status e
+  unfolding notCovered calledOf
+  covered-end x path tried = sym (choose-no _ (ends Failed status) (sym h ∙ not-true b x))
 
-    onto : ℕ → Called
-    onto s = nextTarget (coreOf p s hit) q status e
+  pub covered-asks : not b ≡ false → (path tried : List ℕ)
+      → calledOf (Asks (record { kind = Link; entry = q .entry; party = q .party; began = q .party; size = g .size; covered = true }))
+      ≡ notCovered (coreOf path (g .size) (g .hit)) (questionOf q tried) status e
+  unfolding notCovered calledOf linkRequest questionOf
+  covered-asks x path tried = sym (choose-yes (asks (linkRequest (coreOf path (g .size) (g .hit)) (q .entry) (q .party) (q .party) true)) _ (sym h ∙ not-false b x))
 
-    go : (eqb (nextPlace (length (e .targets)) (q .party)) (q .began) ≡ true) ⊎ (eqb (nextPlace (length (e .targets)) (q .party)) (q .began) ≡ false)
-        → from 0 (onto 0) ≡ from size (onto size)
-    go (inl t) = ap (from 0) (choose-yes (ends Failed status) _ t) ∙ sym (ap (from size) (choose-yes (ends Failed status) _ t))
-    go (inr t) =
-        ap (from 0) (choose-no (ends Failed status) _ t)
-        ∙ (tried-size left p 0 size hit e (nextPlace (length (e .targets)) (q .party)) (q .began) ∙ sym (ap (from size) (choose-no (ends Failed status) _ t)))
+failure-number : Failure → ℕ
+failure-number (Calls next) = 0
+failure-number (Tries place) = 1
 
--- after a failed try
-module _ (refs rooms : List ℕ) (len i left size : ℕ) (hit : Bool) (q : Asking) (status : ℕ) (f : Failing refs rooms len i) where
-  -- PATH_NOT_COVERED
-  module _ {b : Bool} (e : b ≡ entryAt referrals i refs .root) where
-    pub covered-end : {r : Rested} → b ≡ false → r ≡ endedAt Failed status len left hit
-        → joined r rooms ≡ packed (failureRests left (coreOf (take len rooms) size hit) (notCovered (coreOf (take len rooms) size hit) (questionOf q []) status (entryAt referrals i refs)))
-    unfolding notCovered failureRests
-    covered-end h g =
-        packed-end len rooms (f .standing) Failed status left size hit g
-        ∙ ap (λ (a : Called). packed (failureRests left (coreOf (take len rooms) size hit) a)) (sym (choose-no _ (ends Failed status) (sym e ∙ h)))
+target-in : Failure → ℕ
+target-in (Calls next) = 0
+target-in (Tries place) = place
 
-    pub covered-asks : {r : Rested} → b ≡ true
-        → r ≡ askedAt (record { kind = Link; entry = q .entry; party = q .party; began = q .party; size = size; covered = true }) len left hit
-        → joined r rooms ≡ packed (failureRests left (coreOf (take len rooms) size hit) (notCovered (coreOf (take len rooms) size hit) (questionOf q []) status (entryAt referrals i refs)))
-    unfolding notCovered failureRests linkRequest askingOf questionOf
-    covered-asks h g =
-        packed-asked len rooms (f .standing) left size hit (linkRequest (coreOf (take len rooms) size hit) (q .entry) (q .party) (q .party) true) refl
-        (asked-as left (coreOf (take len rooms) size hit) (linkRequest (coreOf (take len rooms) size hit) (q .entry) (q .party) (q .party) true) _ g refl (sym (standing-path len rooms (f .standing))) refl)
-        ∙ ap (λ (a : Called). packed (failureRests left (coreOf (take len rooms) size hit) a))
-        (sym (choose-yes (asks (linkRequest (coreOf (take len rooms) size hit) (q .entry) (q .party) (q .party) true)) _ (sym e ∙ h)))
+pub no-try : (n : ℕ) (next : Next) (place : ℕ) → Calls next ≡ Tries place → place < n
+unfolding failure-number
+no-try n next place h = absurd (let z : _≡_ {A = ℕ} 0 1 = ap failure-number h in omega arith)
 
 -- the next target
-module _ (refs rooms : List ℕ) (len i left : ℕ) (hit : Bool) (q : Asking) (status : ℕ) (f : Failing refs rooms len i) {m next : ℕ} (e : next ≡ nextPlace m (q .party)) (c : m ≡ length (entryAt referrals i refs .targets)) where
-  pub next-inside : next < length (entryAt referrals i refs .targets)
-  next-inside =
-      let s : 1 ≤ length (entryAt referrals i refs .targets) = referral-told (entryAt referrals i refs) (f .usable .good) .some in
+module _ (q : Asking) (status : ℕ) (e : Referral) {m next : ℕ} (h : next ≡ nextPlace m (q .party)) (c : m ≡ length (e .targets)) where
+  pub next-end : next ≡ q .began → (w : Core) (tried : List ℕ) → failureCalls w e (q .began) (Calls (Ends Failed status)) ≡ nextTarget w (questionOf q tried) status e
+  unfolding nextTarget failureCalls calledOf questionOf
+  next-end x w tried = onward-end (questionOf q tried) h c (λ place. step8 w e place (q .began)) (ends Failed status) x
+
+  pub next-try : (next ≡ q .began → ⊥) → (w : Core) (tried : List ℕ) → failureCalls w e (q .began) (Tries next) ≡ nextTarget w (questionOf q tried) status e
+  unfolding nextTarget failureCalls questionOf
+  next-try x w tried = onward-next (questionOf q tried) h c (λ place. step8 w e place (q .began)) (ends Failed status) x
+
+  pub next-inside : goodReferral e ≡ true → (place : ℕ) → Tries next ≡ Tries place → place < length (e .targets)
+  unfolding target-in
+  next-inside g place x =
+      let s : 1 ≤ length (e .targets) = referral-told e g .some in
       let z : nextPlace m (q .party) < m = next-below m (q .party) (omega arith) in
+      let y : next ≡ place = ap target-in x in
       omega arith
 
-  pub next-end : {r : Rested} → next ≡ q .began → r ≡ endedAt Failed status len left hit
-      → joined r rooms ≡ packed (failureRests left (coreOf (take len rooms) 0 hit) (nextTarget (coreOf (take len rooms) 0 hit) (questionOf q []) status (entryAt referrals i refs)))
-  unfolding nextTarget failureRests questionOf
-  next-end h g =
-      packed-end len rooms (f .standing) Failed status left 0 hit g
-      ∙ ap (λ (a : Called). packed (failureRests left (coreOf (take len rooms) 0 hit) a))
-      (onward-end (questionOf q []) e c (λ place. step8 (coreOf (take len rooms) 0 hit) (entryAt referrals i refs) place (q .began)) (ends Failed status) h)
-
-  pub next-try : {x : Packed} → (next ≡ q .began → ⊥)
-      → x ≡ packed (asking left (coreOf (take len rooms) 0 hit) (step8 (coreOf (take len rooms) 0 hit) (entryAt referrals i refs) next (q .began)))
-      → x ≡ packed (failureRests left (coreOf (take len rooms) 0 hit) (nextTarget (coreOf (take len rooms) 0 hit) (questionOf q []) status (entryAt referrals i refs)))
-  unfolding nextTarget failureRests questionOf
-  next-try h g =
-      g
-      ∙ ap (λ (a : Called). packed (failureRests left (coreOf (take len rooms) 0 hit) a))
-      (onward-next (questionOf q []) e c (λ place. step8 (coreOf (take len rooms) 0 hit) (entryAt referrals i refs) place (q .began)) (ends Failed status) h)
-
 -- by the status
-module _ (left : ℕ) (w : Core) (q : Question) (status : ℕ) (e : Referral) where
-  pub fails-covered : {x : Packed} → status ≡ pathNotCovered → x ≡ packed (failureRests left w (notCovered w q status e)) → x ≡ packed (failureRests left w (ioFails w q status e))
-  unfolding ioFails notCovered
-  fails-covered h g = g ∙ ap (λ (a : Called). packed (failureRests left w a)) (sym (choose-yes _ _ (eq-eqb status pathNotCovered h)))
+module _ (q : Asking) (g : Progress) (status : ℕ) (e : Referral) where
+  pub fails-covered : status ≡ pathNotCovered → (next : Next) → ((path tried : List ℕ) → calledOf next ≡ notCovered (coreOf path (g .size) (g .hit)) (questionOf q tried) status e)
+      → (path tried : List ℕ) → failureCalls (coreOf path (g .size) (g .hit)) e (q .began) (Calls next) ≡ ioFails (coreOf path (g .size) (g .hit)) (questionOf q tried) status e
+  unfolding ioFails notCovered failureCalls
+  fails-covered h next f path tried = f path tried ∙ sym (choose-yes _ _ (eq-eqb status pathNotCovered h))
 
   module _ (h : status ≡ pathNotCovered → ⊥) {t : Bool} (n : t ≡ isOneOf status nextTargetStatuses) where
-    fails-next : t ≡ true → nextTarget w q status e ≡ ioFails w q status e
+    pub fails-on : t ≡ true → (r : Failure) → ((w : Core) (tried : List ℕ) → failureCalls w e (q .began) r ≡ nextTarget w (questionOf q tried) status e)
+        → (path tried : List ℕ) → failureCalls (coreOf path (g .size) (g .hit)) e (q .began) r ≡ ioFails (coreOf path (g .size) (g .hit)) (questionOf q tried) status e
     unfolding ioFails nextTarget
-    fails-next k = sym (choose-no _ _ (ne-eqb status pathNotCovered h) ∙ choose-yes _ _ (sym n ∙ k))
+    fails-on k r f path tried =
+        f (coreOf path (g .size) (g .hit)) tried ∙ sym (choose-no _ _ (ne-eqb status pathNotCovered h) ∙ choose-yes _ _ (sym n ∙ k))
 
-    fails-other : t ≡ false → ends Failed status ≡ ioFails w q status e
-    unfolding ioFails
-    fails-other k = sym (choose-no _ _ (ne-eqb status pathNotCovered h) ∙ choose-no _ _ (sym n ∙ k))
+    pub fails-end : t ≡ false → (path tried : List ℕ)
+        → failureCalls (coreOf path (g .size) (g .hit)) e (q .began) (Calls (Ends Failed status)) ≡ ioFails (coreOf path (g .size) (g .hit)) (questionOf q tried) status e
+    unfolding ioFails failureCalls calledOf
+    fails-end k path tried = sym (choose-no _ _ (ne-eqb status pathNotCovered h) ∙ choose-no _ _ (sym n ∙ k))
 
-module _ (rooms : List ℕ) (len left size : ℕ) (hit : Bool) (q : Asking) (status : ℕ) (e : Referral) (h : status ≡ pathNotCovered → ⊥) {t : Bool}
-    (n : t ≡ isOneOf status nextTargetStatuses) where
-  pub fails-on : {x : Packed} → t ≡ true → x ≡ packed (failureRests left (coreOf (take len rooms) 0 hit) (nextTarget (coreOf (take len rooms) 0 hit) (questionOf q []) status e))
-      → x ≡ packed (failureRests left (coreOf (take len rooms) size hit) (ioFails (coreOf (take len rooms) size hit) (questionOf q []) status e))
-  fails-on k g =
-      g
-      ∙ (next-size left (take len rooms) size hit (questionOf q []) status e
-      ∙ ap (λ (a : Called). packed (failureRests left (coreOf (take len rooms) size hit) a)) (fails-next left (coreOf (take len rooms) size hit) (questionOf q []) status e h n k))
+-- where the steps rest after a failed try
+module _ (rooms : List ℕ) (g : Progress) (q : Asking) (status : ℕ) (e : Referral) {f : Failure}
+    (x : (path tried : List ℕ) → failureCalls (coreOf path (g .size) (g .hit)) e (q .began) f ≡ ioFails (coreOf path (g .size) (g .hit)) (questionOf q tried) status e) where
+  pub called-rests : Standing (g .len) rooms → (next : Next) → f ≡ Calls next → {r : Rested} → r ≡ restAt next (g .len) (g .left) (g .hit) → (c : Caches) (tried : List ℕ)
+      → joined r rooms ≡ packed (goes (g .left) c (g .clock) (coreAt g rooms) (ioFails (coreAt g rooms) (questionOf q tried) status e))
+  unfolding failureCalls
+  called-rests s next h k c tried =
+      rest-called rooms g s next c k
+      ∙ ap (λ (a : Called). packed (goes (g .left) c (g .clock) (coreAt g rooms) a))
+      (ap (failureCalls (coreAt g rooms) e (q .began)) (sym h) ∙ x (take (g .len) rooms) tried)
 
-  pub fails-end : Standing len rooms → t ≡ false → {r : Rested} → r ≡ endedAt Failed status len left hit
-      → joined r rooms ≡ packed (failureRests left (coreOf (take len rooms) size hit) (ioFails (coreOf (take len rooms) size hit) (questionOf q []) status e))
-  unfolding failureRests
-  fails-end s k g =
-      packed-end len rooms s Failed status left size hit g
-      ∙ ap (λ (a : Called). packed (failureRests left (coreOf (take len rooms) size hit) a)) (fails-other left (coreOf (take len rooms) size hit) (questionOf q []) status e h n k)
-
--- the domain cache plays no part and stays as it is
-pub io-domains : (refs doms path : List ℕ) (size : ℕ) (hit : Bool) (q : Asking) (tried : List ℕ) (status : ℕ) → q .kind ≡ Io
-    → ioAnswered (cachesOf refs doms) (coreOf path size hit) (questionOf q tried) status
-    ≡ withDoms doms (ioAnswered (cachesOf refs []) (coreOf path size hit) (questionOf q tried) status)
-unfolding cachesOf withDoms
-io-domains refs doms path size hit q tried status io = go (placeInUse (take (q .entry) path) refs (q .party) (q .began)) refl (eq-or-ne (severity status) 3)
-  where
-    bare : Turn
-    bare = ioAnswered (cachesOf refs []) (coreOf path size hit) (questionOf q tried) status
-
-    same : {x y : Turn} → ioAnswered (cachesOf refs doms) (coreOf path size hit) (questionOf q tried) status ≡ x → bare ≡ y → x ≡ withDoms doms y
-        → ioAnswered (cachesOf refs doms) (coreOf path size hit) (questionOf q tried) status ≡ withDoms doms bare
-    same a b c = a ∙ (c ∙ ap (withDoms doms) (sym b))
-
-    go : (f : Found) → placeInUse (take (q .entry) path) refs (q .party) (q .began) ≡ f → (severity status ≡ 3) ⊎ (severity status ≡ 3 → ⊥)
-        → ioAnswered (cachesOf refs doms) (coreOf path size hit) (questionOf q tried) status ≡ withDoms doms bare
-    go Nothing h s = same (answered-gone refs doms path size hit q tried status io h) (answered-gone refs [] path size hit q tried status io h) refl
-    go (At i) h (inl s) =
-        let u = use-told _ refs _ _ i h in
-        same (answered-fails refs doms path size hit q tried status io i u s) (answered-fails refs [] path size hit q tried status io i u s) refl
-    go (At i) h (inr s) =
-        let u = use-told _ refs _ _ i h in
-        same (answered-done refs doms path size hit q tried status io i u s) (answered-done refs [] path size hit q tried status io i u s) refl
-
--- it calls for an end or a question, so the steps rest there
-quiet-with : (c : Caches) (w : Core) (q : Question) (status : ℕ) (o : Option Referral) → Quiet (ioWith c w q status o .called)
-unfolding ioWith
-quiet-with c w q status none = still Gone 0 []
-quiet-with c w q status (some e) = go (told (eqb (severity status) 3))
-  where
-    go : (eqb (severity status) 3 ≡ true) ⊎ (eqb (severity status) 3 ≡ false)
-        → Quiet (choose {A = Turn} (eqb (severity status) 3) (record { caches = c; core = w; called = ioFails w q status e }) (record { caches = hintSet c w q; core = w; called = stops Done status (q .tried) }) .called)
-    go (inl t) = subst (λ (x : Turn). Quiet (x .called)) (sym (choose-yes _ _ t)) (quiet-io w q status e)
-    go (inr t) = subst (λ (x : Turn). Quiet (x .called)) (sym (choose-no _ _ t)) (still Done status (q .tried))
-
-pub quiet-answered : (c : Caches) (w : Core) (q : Question) (status : ℕ) → Quiet (ioAnswered c w q status .called)
-unfolding ioAnswered
-quiet-answered c w q status = go (told (inUse c w q))
-  where
-    go : (inUse c w q ≡ true) ⊎ (inUse c w q ≡ false)
-        → Quiet (choose {A = Turn} (inUse c w q) (ioWith c w q status (referralInUse c w q)) (record { caches = c; core = w; called = ends Gone 0 }) .called)
-    go (inl t) = subst (λ (x : Turn). Quiet (x .called)) (sym (choose-yes _ _ t)) (quiet-with c w q status (referralInUse c w q))
-    go (inr t) = subst (λ (x : Turn). Quiet (x .called)) (sym (choose-no _ _ t)) (still Gone 0 [])
-
-pub io-goes : (left clock : ℕ) (c : Caches) (w : Core) (q : Question) (status : ℕ)
-    → goes left (ioAnswered c w q status .caches) clock (ioAnswered c w q status .core) (ioAnswered c w q status .called) ≡ restOf left (ioAnswered c w q status)
-unfolding restOf
-io-goes left clock c w q status = quiet-goes left (ioAnswered c w q status .caches) clock (ioAnswered c w q status .core) (quiet-answered c w q status)
+  pub tried-rests : (place : ℕ) → f ≡ Tries place → {y : Packed}
+      → ((c : Caches) → y ≡ packed (goes (g .left) c (g .clock) (coreAt g rooms) (asks (step8 (coreAt g rooms) e place (q .began))))) → (c : Caches) (tried : List ℕ)
+      → y ≡ packed (goes (g .left) c (g .clock) (coreAt g rooms) (ioFails (coreAt g rooms) (questionOf q tried) status e))
+  unfolding failureCalls
+  tried-rests place h k c tried =
+      k c
+      ∙ ap (λ (a : Called). packed (goes (g .left) c (g .clock) (coreAt g rooms) a))
+      (ap (failureCalls (coreAt g rooms) e (q .began)) (sym h) ∙ x (take (g .len) rooms) tried)

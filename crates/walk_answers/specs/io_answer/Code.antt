@@ -16,28 +16,33 @@ use Rattle.cache_lookup.specs.Lookup.{withKey}
 use Rattle.cache_lookup.specs.Code.{entryAt}
 use Rattle.cache_lookup.specs.declared.Found.{Found}
 use Rattle.cache_lookup.specs.declared.Found.the-variants.{At, Nothing}
-use Rattle.walk_steps.specs.steps.Steps.{Core, Question, Called, ends, asks, Turn, Resting, linkRequest, onward, step8}
+use Rattle.walk_steps.specs.steps.Steps.{Core, Question, Called, ends, asks, linkRequest, onward, step8}
+use Rattle.walk_steps.specs.steps.Code.{calledOf}
 use Rattle.walk_steps.specs.declared.steps.Kind.the-variants.{Io}
 use Rattle.walk_steps.specs.declared.steps.End.the-variants.{Failed}
 use Rattle.walk_steps.specs.declared.steps.Asking.{Asking}
+use Rattle.walk_steps.specs.declared.steps.Progress.{Progress}
 use Rattle.walk_steps.specs.cycle.Code.{Usable}
-use Rattle.walk_steps.specs.rounds.Code.{inRound, failureRests}
+use Rattle.walk_steps.specs.rounds.Code.{inRound}
+use Rattle.walk_answers.specs.declared.io_answer.Failure.{Failure}
+use Rattle.walk_answers.specs.declared.io_answer.Failure.the-variants.{Calls, Tries}
 
 -- the path tried, in its room
 unfoldable pub triedRoom : ℕ → List ℕ → List ℕ
 triedRoom tried rooms = take tried (drop 256 rooms)
 
--- a walk waits for an I/O answer: the cache is in order, both texts stand in their rooms, the prefix in use matches the path
-pub record Trying (refs rooms : List ℕ) (len tried : ℕ) (q : Asking) : Type 0 where
+-- a walk waits for an I/O answer: both caches are in order, both texts stand in their rooms, the prefix in use matches the path
+pub record Trying (refs doms rooms : List ℕ) (g : Progress) (q : Asking) (tried : ℕ) : Type 0 where
   pub order : inOrder referrals refs ≡ true
-  pub few : len ≤ 256
+  pub doms-order : inOrder domains doms ≡ true
+  pub few : g .len ≤ 256
   pub tried-few : tried ≤ 256
   pub long : length rooms ≡ 512
-  pub stands : rooms ≡ textsOf (take len rooms) (triedRoom tried rooms)
-  pub good : goodPrefix (take len rooms) ≡ true
+  pub stands : rooms ≡ textsOf (take (g .len) rooms) (triedRoom tried rooms)
+  pub good : goodPrefix (take (g .len) rooms) ≡ true
   pub waits-io : q .kind ≡ Io
-  pub inside : q .entry ≤ len
-  pub matched : matches (take (q .entry) (take len rooms)) (take len rooms) ≡ true
+  pub inside : q .entry ≤ g .len
+  pub matched : matches (take (q .entry) (take (g .len) rooms)) (take (g .len) rooms) ≡ true
 
 -- a try that failed: there is no path tried any more, and place i holds the entry in use
 pub record Failing (refs rooms : List ℕ) (len i : ℕ) : Type 0 where
@@ -61,11 +66,7 @@ notCovered w q status e = choose (e .root) (asks (linkRequest w (q .entry) (q .p
 unfoldable pub nextTarget : Core → Question → ℕ → Referral → Called
 nextTarget w q status e = onward (length (e .targets)) q (λ place. step8 w e place (q .began)) (ends Failed status)
 
--- where a turn that calls for an end or a question rests
-unfoldable pub restOf : ℕ → Turn → Resting
-restOf left t = failureRests left (t .core) (t .called)
-
--- a turn with this domain cache in place of its own
-unfoldable pub withDoms : List ℕ → Turn → Turn
-withDoms doms t =
-    record { caches = record { referrals = t .caches .referrals; domains = decode domains doms }; core = t .core; called = t .called }
+-- what a failed try calls for, in a round that began so
+unfoldable pub failureCalls : Core → Referral → ℕ → Failure → Called
+failureCalls w e began (Calls next) = calledOf next
+failureCalls w e began (Tries place) = asks (step8 w e place began)

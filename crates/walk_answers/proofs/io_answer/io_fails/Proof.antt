@@ -1,20 +1,17 @@
-use Rattle.walk_answers.proofs.io_answer.TryLaws.{fails-covered, fails-on, fails-end}
+use Rattle.walk_answers.proofs.io_answer.TryLaws.{called-rests, tried-rests}
 use denote.Ref.{now}
 use borrow.Author.Needs.{needs}
 use Rattle.walk_answers.proofs.io_answer.io_fails.Statement.{statement}
 use Rattle.walk_answers.proofs.io_answer.io_fails.Tie as tie
 
+try-target-requires : tie.Need-try-target-requires
+try-target-requires c κs = let p7 = c .before .before .before .before .before .before .before in (p7 .pre .standing, (p7 .pre .usable, c .before .before .before .before .after-failure .ensures .1 _ (c .before .before .failure2 .given .1)))
+
 returns : tie.Need-returns
-returns c = fails-covered _ _ _ _ _ (c .before .before .if1 .taken) (c .not-covered .ensures)
+returns c = let p7 = c .before .before .before .before .before .before .before in called-rests (now (p7 .args .rooms)) (p7 .args .g) (p7 .args .q) (p7 .args .status) _ (c .before .before .before .before .after-failure .ensures .0) (p7 .pre .standing) _ (c .before .before .failure .given .1) (c .rest .ensures)
 
 returns-2 : tie.Need-returns-2
-returns-2 c = let p9 = c .before .before .before .before .before .before .before .before .before in fails-on (now (p9 .args .rooms)) (p9 .args .len) (p9 .args .left) (p9 .args .size) (p9 .args .hit) (p9 .args .q) (p9 .args .status) _ (c .before .before .before .before .before .before .if1 .left) (c .before .before .before .before .before .is-next .ensures) (c .before .before .before .before .if2 .taken) (c .before .before .next-target .ensures)
-
-end-at-requires : tie.Need-end-at-requires
-end-at-requires c κs = c .before .before .before .before .before .pre .standing .few
-
-returns-3 : tie.Need-returns-3
-returns-3 c = let p6 = c .before .before .before .before .before .before in fails-end (now (p6 .args .rooms)) (p6 .args .len) (p6 .args .left) (p6 .args .size) (p6 .args .hit) (p6 .args .q) (p6 .args .status) _ (c .before .before .before .if1 .left) (c .before .before .is-next .ensures) (p6 .pre .standing) (c .before .if2 .left) (c .end-at .ensures)
+returns-2 c = let p10 = c .before .before .before .before .before .before .before .before .before .before in tried-rests (now (p10 .args .rooms)) (p10 .args .g) (p10 .args .q) (p10 .args .status) _ (c .before .before .before .before .before .before .before .after-failure .ensures .0) _ (c .before .before .before .before .before .failure2 .given .1) (c .before .before .try-target .ensures)
 
 pub io-fails-spec : {M : Type 1} → statement M
 io-fails-spec =
@@ -22,10 +19,9 @@ io-fails-spec =
     (tie.spec
     (λ c κs. search needs)
     (λ c. search needs)
-    returns
-    (λ c κs. search needs)
     (λ c κs. search needs)
     (λ c. search needs)
-    returns-2
-    end-at-requires
-    returns-3)
+    try-target-requires
+    returns
+    (λ c. search needs)
+    returns-2)

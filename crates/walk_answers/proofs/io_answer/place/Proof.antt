@@ -5,6 +5,9 @@ use borrow.Author.Needs.{needs}
 use Rattle.walk_answers.proofs.io_answer.place.Statement.{statement}
 use Rattle.walk_answers.proofs.io_answer.place.Tie as tie
 
+enum-told : tie.Need-enum-told
+enum-told c = search needs
+
 returns : tie.Need-returns
 returns c = let p5 = c .before .before .before .before .before in place-gone (now (p5 .args .prefix)) (now (p5 .args .refs)) (p5 .args .party) (p5 .args .began) (c .before .before .find-prefix .ensures) (c .enum-told .given .1)
 
@@ -26,7 +29,7 @@ place-spec =
     (tie.spec
     (λ c κs. search needs)
     (λ c. search needs)
-    (λ c. search needs)
+    enum-told
     returns
     target-count-requires
     returns-2

@@ -1,3 +1,0 @@
--- Laws.
-pub mod SaidLaws
-pub mod EventLaws

@@ -1,2 +1,0 @@
--- The answer to a referral request.
-pub mod Code

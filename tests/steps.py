@@ -39,7 +39,7 @@ def caches(c):
         if i in ref:
             e=ref[i]
             ts="".join(f"record {{ path = {lst(p)}; opens = {B(b)} }} ∷ " for p,b in e['targets'])+"[]"
-            rs.append(f"used (record {{ prefix = {lst(e['prefix'])}; root = {B(e['root'])}; interlink = {B(e['interlink'])}; failback = {B(e['failback'])}; ttl = {e['ttl']}; taken = {e['taken']}; targets = {ts}; hint = {e['hint']} }})")
+            rs.append(f"used (record {{ prefix = {lst(e['prefix'])}; settings = record {{ root = {B(e['root'])}; interlink = {B(e['interlink'])}; failback = {B(e['failback'])}; ttl = {e['ttl']}; taken = {e['taken']} }}; targets = {ts}; hint = {e['hint']} }})")
         else: rs.append("free")
     ds=[]
     for i in range(nd):

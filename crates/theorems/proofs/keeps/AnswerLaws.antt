@@ -228,7 +228,7 @@ module _ (c : Caches) (cs : GoodCaches c) (w : Core) (q : Question) (p : Proper 
     unfolding ioFails
     well-io e well m =
         chosen (Well (w .path)) (eqb status pathNotCovered) _ _
-        (chosen (Well (w .path)) (e .root) _ _ (well-asks (w .path) (link-again (q .entry) (q .party) (q .party) true refl (names-io io))) (well-failed (w .path) status))
+        (chosen (Well (w .path)) (e .settings .root) _ _ (well-asks (w .path) (link-again (q .entry) (q .party) (q .party) true refl (names-io io))) (well-failed (w .path) status))
         (chosen (Well (w .path)) (isOneOf status nextTargetStatuses) _ _
         (onward-well (w .path) (length (e .targets)) q (λ place. step8 w e place (q .began)) (ends Failed status)
         (asked-io w (told-q .good) (p .size) e _ (q .began) well m (next-inside (length (e .targets)) (q .party) (let z : 1 ≤ length (e .targets) = referral-told e well .some in omega arith)))

@@ -145,8 +145,8 @@ module _ (w : Core) (good : goodPrefix (w .path) ≡ true) (size : goodSize (w .
   pub well-step7 : (e : Referral) → goodReferral e ≡ true → matches (e .prefix) (w .path) ≡ true → Well (w .path) (step7 w e)
   unfolding step7 step4
   well-step7 e well m =
-      chosen (Well (w .path)) (e .root) _ _ (well-asks (w .path) (asked-hint e well m))
-      (chosen (Well (w .path)) (not (isSysvol (w .path)) && e .interlink) _ _ (well-new e well m) (well-asks (w .path) (asked-hint e well m)))
+      chosen (Well (w .path)) (e .settings .root) _ _ (well-asks (w .path) (asked-hint e well m))
+      (chosen (Well (w .path)) (not (isSysvol (w .path)) && e .settings .interlink) _ _ (well-new e well m) (well-asks (w .path) (asked-hint e well m)))
 
   pub well-stored : (k : Kind) (e : Referral) → goodReferral e ≡ true → matches (e .prefix) (w .path) ≡ true → Well (w .path) (afterStore k w e)
   unfolding afterStore
@@ -182,7 +182,7 @@ module _ (w : Core) (good : goodPrefix (w .path) ≡ true) (size : goodSize (w .
         go (inl h) = subst Fit (sym (h .1)) (asked-step5 (c .domains))
         go (inr h) =
             subst Fit (sym (h .1 .0))
-            (chosen (Asked (w .path)) (h .0 .root) _ _
+            (chosen (Asked (w .path)) (h .0 .settings .root) _ _
             (asked-refresh (h .0) (h .1 .1 .well) (matches-same (h .0 .prefix) (firstOf 2 (w .path)) (w .path) (h .1 .1 .same) (first-matches 2 (w .path))))
             (asked-step5 (c .domains)))
 
@@ -199,5 +199,5 @@ module _ (w : Core) (good : goodPrefix (w .path) ≡ true) (size : goodSize (w .
         go (inr h) =
             subst Fit (sym (h .1 .0))
             (chosen (Well (w .path)) (expired clock (h .0)) _ _
-            (well-asks (w .path) (chosen (Asked (w .path)) (h .0 .root) _ _ (asked-step5 (c .domains)) asked-step9))
+            (well-asks (w .path) (chosen (Asked (w .path)) (h .0 .settings .root) _ _ (asked-step5 (c .domains)) asked-step9))
             (well-step7 (h .0) (h .1 .1 .well) (h .1 .1 .matching)))

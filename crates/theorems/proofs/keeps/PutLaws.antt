@@ -197,7 +197,7 @@ module _ (c : Caches) (cs : GoodCaches c) (w : Core) (q : Question) where
           let m : n ≡ length (e .targets) = ap targetCount h in
           let k : (ltb (q .party) (length (e .targets)) && ltb (q .began) (length (e .targets))) ≡ true = subst (λ (x : ℕ). (ltb (q .party) x && ltb (q .began) x) ≡ true) m r in
           chosen (Uses c w) (eqb status pathNotCovered) _ _
-          (chosen (Uses c w) (e .root) _ _
+          (chosen (Uses c w) (e .settings .root) _ _
           (uses-asks c w _
           (use-link c w (q .entry) (q .party) (q .party) true n refl (party-inside (q .party) (q .began) n r) (party-inside (q .party) (q .began) n r)))
           (uses-stops c w _ _ _))

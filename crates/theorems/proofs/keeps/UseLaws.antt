@@ -112,8 +112,8 @@ module _ (c : Caches) (w : Core) where
   use-step7 : (e : Referral) → Under (c .referrals) (w .path) e → Uses c w (step7 w e)
   unfolding step7 step4
   use-step7 e u =
-      chosen (Uses c w) (e .root) _ _ (uses-asks c w _ (use-hint e u))
-      (chosen (Uses c w) (not (isSysvol (w .path)) && e .interlink) _ _ (uses-new c w _) (uses-asks c w _ (use-hint e u)))
+      chosen (Uses c w) (e .settings .root) _ _ (uses-asks c w _ (use-hint e u))
+      (chosen (Uses c w) (not (isSysvol (w .path)) && e .settings .interlink) _ _ (uses-new c w _) (uses-asks c w _ (use-hint e u)))
 
   pub use-stored : (k : Kind) (e : Referral) → Under (c .referrals) (w .path) e → Uses c w (afterStore k w e)
   unfolding afterStore
@@ -181,7 +181,7 @@ module _ (c : Caches) (w : Core) where
         go (inl h) = subst Fits (sym (h .1)) use-step5
         go (inr h) =
             subst Fits (sym (h .1 .0))
-            (chosen Fit (h .0 .root) _ _
+            (chosen Fit (h .0 .settings .root) _ _
             (use-refresh (h .0) (h .1 .1 .well)
             (under-path (c .referrals) (cs .refs) (w .path) (h .1 .1 .place) (h .0) (h .1 .1 .here)
             (matches-same (h .0 .prefix) (firstOf 2 (w .path)) (w .path) (h .1 .1 .same) (first-matches 2 (w .path)))))
@@ -203,7 +203,7 @@ module _ (c : Caches) (w : Core) where
             let b : LongestAt (w .path) (c .referrals) i = longest-found (w .path) (c .referrals) i h in
             subst Fits (sym (held-is (c .referrals) i (b .entry) (b .found .here) h))
             (chosen (Uses c w) (expired clock (b .entry)) _ _
-            (uses-asks c w _ (chosen Fit (b .entry .root) _ _ use-step5 use-step9))
+            (uses-asks c w _ (chosen Fit (b .entry .settings .root) _ _ use-step5 use-step9))
             (use-step7 (b .entry) (record {
               well = place-good referrals referrals-lawful (c .referrals) (cs .refs) i (b .entry) (b .found .here);
               here = under-path (c .referrals) (cs .refs) (w .path) i (b .entry) (b .found .here) (b .found .matched);

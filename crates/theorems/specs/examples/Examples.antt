@@ -61,11 +61,13 @@ overflows (suc n) = then (overflows n) (referral bufferOverflow [] 0 (replicate 
 unfoldable pub dated : ℕ → ℕ → Referral
 dated ttl taken = record {
   prefix = [];
-  root = true;
-  interlink = false;
-  failback = false;
-  ttl = ttl;
-  taken = taken;
+  settings = record {
+    root = true;
+    interlink = false;
+    failback = false;
+    ttl = ttl;
+    taken = taken;
+  };
   targets = [];
   hint = 0;
 }
@@ -156,11 +158,13 @@ interlinked = record {
   referrals =
       used (record {
         prefix = ab;
-        root = false;
-        interlink = true;
-        failback = false;
-        ttl = 300;
-        taken = 0;
+        settings = record {
+          root = false;
+          interlink = true;
+          failback = false;
+          ttl = 300;
+          taken = 0;
+        };
         targets = record { path = ab; opens = false } ∷ [];
         hint = 0;
       })

@@ -322,7 +322,7 @@ next-below n place h = go (told (leb n (place + 1)))
     go (inr t) = rw (choose-no 0 (place + 1) t) (leb-false n (place + 1) t)
 
 -- PATH_NOT_COVERED
-module _ (q : Asking) (g : Progress) (status : ℕ) (e : Referral) {b : Bool} (h : b ≡ e .root) where
+module _ (q : Asking) (g : Progress) (status : ℕ) (e : Referral) {b : Bool} (h : b ≡ e .settings .root) where
   pub covered-end : not b ≡ true → (path tried : List ℕ) → calledOf (Ends Failed status) ≡ notCovered (coreOf path (g .size) (g .hit)) (questionOf q tried) status e
   unfolding notCovered calledOf
   covered-end x path tried = sym (choose-no _ (ends Failed status) (sym h ∙ not-true b x))

@@ -60,7 +60,7 @@ placeInUse prefix refs party began = withParties refs party began (withKey refer
 
 -- after PATH_NOT_COVERED a root's target is asked for the link
 unfoldable pub notCovered : Core → Question → ℕ → Referral → Called
-notCovered w q status e = choose (e .root) (asks (linkRequest w (q .entry) (q .party) (q .party) true)) (ends Failed status)
+notCovered w q status e = choose (e .settings .root) (asks (linkRequest w (q .entry) (q .party) (q .party) true)) (ends Failed status)
 
 -- the try at the next target, or the round is exhausted
 unfoldable pub nextTarget : Core → Question → ℕ → Referral → Called

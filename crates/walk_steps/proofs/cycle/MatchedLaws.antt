@@ -62,11 +62,11 @@ module _ (refs doms : List ℕ) (w : Core) where
       go Nothing h = ap (λ (o : Option Referral). asks (step9With (cachesOf refs doms) w o)) (none-held (decode referrals refs) h)
       go (At i) h =
           ap (λ (o : Option Referral). asks (step9With (cachesOf refs doms) w o)) (key-held referrals (firstOf 2 (w .path)) refs i h)
-          ∙ at (told (entryAt referrals i refs .root))
+          ∙ at (told (entryAt referrals i refs .settings .root))
         where
-          at : (entryAt referrals i refs .root ≡ true) ⊎ (entryAt referrals i refs .root ≡ false)
-              → asks (choose (entryAt referrals i refs .root) (linkRequest w (length (entryAt referrals i refs .prefix)) (entryAt referrals i refs .hint) (entryAt referrals i refs .hint) false) (step5 (decode domains doms) w))
-              ≡ calledBy (choose (entryAt referrals i refs .root) (Refresh i) Stale)
+          at : (entryAt referrals i refs .settings .root ≡ true) ⊎ (entryAt referrals i refs .settings .root ≡ false)
+              → asks (choose (entryAt referrals i refs .settings .root) (linkRequest w (length (entryAt referrals i refs .prefix)) (entryAt referrals i refs .hint) (entryAt referrals i refs .hint) false) (step5 (decode domains doms) w))
+              ≡ calledBy (choose (entryAt referrals i refs .settings .root) (Refresh i) Stale)
           at (inl t) = ap asks (choose-yes _ _ t) ∙ sym (ap calledBy (choose-yes (Refresh i) Stale t))
           at (inr t) = ap asks (choose-no _ _ t) ∙ sym (ap calledBy (choose-no (Refresh i) Stale t))
 
@@ -80,18 +80,18 @@ module _ (refs doms : List ℕ) (w : Core) where
       go Nothing h = ap (step2With (cachesOf refs doms) w clock) (none-held (decode referrals refs) h)
       go (At i) h =
           ap (step2With (cachesOf refs doms) w clock) (longest-held (w .path) refs i h)
-          ∙ at (told (expired clock (entryAt referrals i refs))) (told (entryAt referrals i refs .root))
+          ∙ at (told (expired clock (entryAt referrals i refs))) (told (entryAt referrals i refs .settings .root))
         where
           at : (expired clock (entryAt referrals i refs) ≡ true) ⊎ (expired clock (entryAt referrals i refs) ≡ false)
-              → (entryAt referrals i refs .root ≡ true) ⊎ (entryAt referrals i refs .root ≡ false)
-              → choose (expired clock (entryAt referrals i refs)) (asks (choose (entryAt referrals i refs .root) (step5 (decode domains doms) w) (step9 (cachesOf refs doms) w))) (step7 w (entryAt referrals i refs))
-              ≡ calledBy (choose (expired clock (entryAt referrals i refs)) (choose (entryAt referrals i refs .root) Stale (step9In (w .path) refs)) (Fresh i))
+              → (entryAt referrals i refs .settings .root ≡ true) ⊎ (entryAt referrals i refs .settings .root ≡ false)
+              → choose (expired clock (entryAt referrals i refs)) (asks (choose (entryAt referrals i refs .settings .root) (step5 (decode domains doms) w) (step9 (cachesOf refs doms) w))) (step7 w (entryAt referrals i refs))
+              ≡ calledBy (choose (expired clock (entryAt referrals i refs)) (choose (entryAt referrals i refs .settings .root) Stale (step9In (w .path) refs)) (Fresh i))
           at (inl t) (inl u) =
               choose-yes _ _ t ∙ (ap asks (choose-yes _ _ u) ∙ sym (ap calledBy (choose-yes _ (Fresh i) t ∙ choose-yes Stale (step9In (w .path) refs) u)))
           at (inl t) (inr u) =
               choose-yes _ _ t
               ∙ (ap asks (choose-no _ _ u) ∙ (step9-called ∙ sym (ap calledBy (choose-yes _ (Fresh i) t ∙ choose-no Stale (step9In (w .path) refs) u))))
-          at (inr t) u = choose-no _ _ t ∙ sym (ap calledBy (choose-no (choose (entryAt referrals i refs .root) Stale (step9In (w .path) refs)) (Fresh i) t))
+          at (inr t) u = choose-no _ _ t ∙ sym (ap calledBy (choose-no (choose (entryAt referrals i refs .settings .root) Stale (step9In (w .path) refs)) (Fresh i) t))
 
 -- what is true of what step 2 finds
 module _ (refs path : List ℕ) where
@@ -114,10 +114,10 @@ module _ (refs path : List ℕ) where
     where
       go : (f : Found) → withKey referrals (firstOf 2 path) (decode referrals refs) ≡ f → Facts (step9At refs f) × (Matching (step9At refs f) ≡ true)
       go Nothing h = (refl, refl)
-      go (At i) h = at (told (entryAt referrals i refs .root))
+      go (At i) h = at (told (entryAt referrals i refs .settings .root))
         where
-          at : (entryAt referrals i refs .root ≡ true) ⊎ (entryAt referrals i refs .root ≡ false)
-              → Facts (choose (entryAt referrals i refs .root) (Refresh i) Stale) × (Matching (choose (entryAt referrals i refs .root) (Refresh i) Stale) ≡ true)
+          at : (entryAt referrals i refs .settings .root ≡ true) ⊎ (entryAt referrals i refs .settings .root ≡ false)
+              → Facts (choose (entryAt referrals i refs .settings .root) (Refresh i) Stale) × (Matching (choose (entryAt referrals i refs .settings .root) (Refresh i) Stale) ≡ true)
           at (inl t) = subst (λ (m : Matched). Facts m × (Matching m ≡ true)) (sym (choose-yes (Refresh i) Stale t)) (key-fits referrals (firstOf 2 path) refs i h, refl)
           at (inr t) = subst (λ (m : Matched). Facts m × (Matching m ≡ true)) (sym (choose-no (Refresh i) Stale t)) (refl, refl)
 
@@ -128,7 +128,7 @@ module _ (refs path : List ℕ) where
       go : (f : Found) → longestMatch path (decode referrals refs) ≡ f
           → Facts (step2At clock path refs f) × (isThere (longest path (decode referrals refs)) ≡ Matching (step2At clock path refs f))
       go Nothing h = (refl, ap isThere (none-held (decode referrals refs) h))
-      go (At i) h = at (told (expired clock (entryAt referrals i refs))) (told (entryAt referrals i refs .root))
+      go (At i) h = at (told (expired clock (entryAt referrals i refs))) (told (entryAt referrals i refs .settings .root))
         where
           there : isThere (longest path (decode referrals refs)) ≡ true
           there = ap isThere (longest-held path refs i h)
@@ -137,13 +137,13 @@ module _ (refs path : List ℕ) where
           Both m = Facts m × (isThere (longest path (decode referrals refs)) ≡ Matching m)
 
           at : (expired clock (entryAt referrals i refs) ≡ true) ⊎ (expired clock (entryAt referrals i refs) ≡ false)
-              → (entryAt referrals i refs .root ≡ true) ⊎ (entryAt referrals i refs .root ≡ false)
-              → Both (choose (expired clock (entryAt referrals i refs)) (choose (entryAt referrals i refs .root) Stale (step9In path refs)) (Fresh i))
+              → (entryAt referrals i refs .settings .root ≡ true) ⊎ (entryAt referrals i refs .settings .root ≡ false)
+              → Both (choose (expired clock (entryAt referrals i refs)) (choose (entryAt referrals i refs .settings .root) Stale (step9In path refs)) (Fresh i))
           at (inl t) (inl u) = subst Both (sym (choose-yes _ (Fresh i) t ∙ choose-yes Stale (step9In path refs) u)) (refl, there)
           at (inl t) (inr u) =
               subst Both (sym (choose-yes _ (Fresh i) t ∙ choose-no Stale (step9In path refs) u)) (facts9 .0, there ∙ sym (facts9 .1))
           at (inr t) u =
-              subst Both (sym (choose-no (choose (entryAt referrals i refs .root) Stale (step9In path refs)) (Fresh i) t))
+              subst Both (sym (choose-no (choose (entryAt referrals i refs .settings .root) Stale (step9In path refs)) (Fresh i) t))
               (record { fits = longest-fits path refs i h; good = longest-good path refs i h order; matched = longest-matches path refs i h }, there)
 
   -- by a result that equals it

@@ -295,14 +295,14 @@ module _ (w : Core) (e : Referral) where
   pub turns-to : turning (w .path) e ≡ true → step7 w e ≡ replaces (step11 w e)
   unfolding step7 step4 turning
   turns-to h =
-      choose-no _ _ (not-true _ (and-left (not (e .root)) _ h)) ∙ choose-yes _ _ (and-right (not (e .root)) _ h)
+      choose-no _ _ (not-true _ (and-left (not (e .settings .root)) _ h)) ∙ choose-yes _ _ (and-right (not (e .settings .root)) _ h)
 
   pub tries-at : turning (w .path) e ≡ false → step7 w e ≡ asks (step3 w e)
   unfolding step7 step4 turning choose
-  tries-at h = go (told (e .root)) (told (not (isSysvol (w .path)) && e .interlink))
+  tries-at h = go (told (e .settings .root)) (told (not (isSysvol (w .path)) && e .settings .interlink))
     where
-      go : (e .root ≡ true) ⊎ (e .root ≡ false) → ((not (isSysvol (w .path)) && e .interlink) ≡ true) ⊎ ((not (isSysvol (w .path)) && e .interlink) ≡ false)
-          → choose (e .root) (asks (step3 w e)) (choose (not (isSysvol (w .path)) && e .interlink) (replaces (step11 w e)) (asks (step3 w e))) ≡ asks (step3 w e)
+      go : (e .settings .root ≡ true) ⊎ (e .settings .root ≡ false) → ((not (isSysvol (w .path)) && e .settings .interlink) ≡ true) ⊎ ((not (isSysvol (w .path)) && e .settings .interlink) ≡ false)
+          → choose (e .settings .root) (asks (step3 w e)) (choose (not (isSysvol (w .path)) && e .settings .interlink) (replaces (step11 w e)) (asks (step3 w e))) ≡ asks (step3 w e)
       go (inl t) u = choose-yes _ _ t
       go (inr t) (inl u) = absurd (not-both (and-both (ap not t) u) h)
       go (inr t) (inr u) = choose-no _ _ t ∙ choose-no _ _ u

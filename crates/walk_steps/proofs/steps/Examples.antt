@@ -26,11 +26,13 @@ turning = record {
   referrals =
       used (record {
         prefix = ab;
-        root = false;
-        interlink = true;
-        failback = false;
-        ttl = 300;
-        taken = 0;
+        settings = record {
+          root = false;
+          interlink = true;
+          failback = false;
+          ttl = 300;
+          taken = 0;
+        };
         targets = record { path = ab; opens = false } ∷ [];
         hint = 0;
       })

@@ -86,11 +86,11 @@ module _ (path raw : List ℕ) {f : Found} (e : f ≡ withKey referrals (firstOf
     pub step9-fits : i < placeCount raw
     step9-fits = key-fits referrals (firstOf 2 path) raw i (sym e ∙ h)
 
-    pub step9-root : {r : Bool} → r ≡ entryAt referrals i raw .root → r ≡ true → Refresh i ≡ step9In path raw
+    pub step9-root : {r : Bool} → r ≡ entryAt referrals i raw .settings .root → r ≡ true → Refresh i ≡ step9In path raw
     unfolding step9In step9At
     step9-root p t = sym (ap (step9At raw) (sym e ∙ h) ∙ choose-yes _ _ (sym p ∙ t))
 
-    pub step9-link : {r : Bool} → r ≡ entryAt referrals i raw .root → r ≡ false → Stale ≡ step9In path raw
+    pub step9-link : {r : Bool} → r ≡ entryAt referrals i raw .settings .root → r ≡ false → Stale ≡ step9In path raw
     unfolding step9In step9At
     step9-link p t = sym (ap (step9At raw) (sym e ∙ h) ∙ choose-no _ _ (sym p ∙ t))
 
@@ -109,11 +109,11 @@ module _ (clock : ℕ) (path raw : List ℕ) {f : Found} (e : f ≡ longestMatch
     step2-fresh p t = sym (ap (step2At clock path raw) (sym e ∙ h) ∙ choose-no _ _ (sym p ∙ t))
 
     module _ {r : Bool} (p : r ≡ expired clock (entryAt referrals i raw)) (t : r ≡ true) where
-      pub step2-root : {s : Bool} → s ≡ entryAt referrals i raw .root → s ≡ true → Stale ≡ step2In clock path raw
+      pub step2-root : {s : Bool} → s ≡ entryAt referrals i raw .settings .root → s ≡ true → Stale ≡ step2In clock path raw
       unfolding step2In step2At
       step2-root q u = sym (ap (step2At clock path raw) (sym e ∙ h) ∙ (choose-yes _ _ (sym p ∙ t) ∙ choose-yes _ _ (sym q ∙ u)))
 
-      pub step2-link : {s : Bool} {m : Matched} → s ≡ entryAt referrals i raw .root → s ≡ false → m ≡ step9In path raw → m ≡ step2In clock path raw
+      pub step2-link : {s : Bool} {m : Matched} → s ≡ entryAt referrals i raw .settings .root → s ≡ false → m ≡ step9In path raw → m ≡ step2In clock path raw
       unfolding step2In step2At
       step2-link q u g = g ∙ sym (ap (step2At clock path raw) (sym e ∙ h) ∙ (choose-yes _ _ (sym p ∙ t) ∙ choose-no _ _ (sym q ∙ u)))
 
@@ -201,7 +201,7 @@ unfolding domainAsking
 domain-asking kind path party size e = λ j. record { kind = kind; entry = e j; party = party; began = party; size = size; covered = false }
 
 -- whether step 4 goes to step 11
-module _ (path : List ℕ) (a : Referral) {r : Bool} (e : r ≡ a .root) where
+module _ (path : List ℕ) (a : Referral) {r : Bool} (e : r ≡ a .settings .root) where
   pub turns-root : r ≡ true → false ≡ turning path a
   unfolding turning
   turns-root h = rw (← e, h)
@@ -211,7 +211,7 @@ module _ (path : List ℕ) (a : Referral) {r : Bool} (e : r ≡ a .root) where
     unfolding turning
     turns-sysvol g = rw (← e, h, ← f, g)
 
-    pub turns-link : s ≡ false → {t : Bool} → t ≡ a .interlink → t ≡ turning path a
+    pub turns-link : s ≡ false → {t : Bool} → t ≡ a .settings .interlink → t ≡ turning path a
     unfolding turning
     turns-link g k = rw (← e, h, ← f, g) k
 

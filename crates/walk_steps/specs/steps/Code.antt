@@ -64,12 +64,12 @@ domainAsking kind path party size =
 
 -- step 4 goes to step 11 at a link with Interlink, SYSVOL and NETLOGON apart
 unfoldable pub turning : List ℕ → Referral → Bool
-turning path e = not (e .root) && (not (isSysvol path) && e .interlink)
+turning path e = not (e .settings .root) && (not (isSysvol path) && e .settings .interlink)
 
 -- step 9, and step 2 at an entry that was found, and step 2
 unfoldable pub step9At : List ℕ → Found → Matched
 step9At raw Nothing = Stale
-step9At raw (At i) = choose (entryAt referrals i raw .root) (Refresh i) Stale
+step9At raw (At i) = choose (entryAt referrals i raw .settings .root) (Refresh i) Stale
 
 unfoldable pub step9In : List ℕ → List ℕ → Matched
 step9In path raw = step9At raw (withKey referrals (firstOf 2 path) (decode referrals raw))
@@ -77,7 +77,7 @@ step9In path raw = step9At raw (withKey referrals (firstOf 2 path) (decode refer
 unfoldable pub step2At : ℕ → List ℕ → List ℕ → Found → Matched
 step2At clock path raw Nothing = Missed
 step2At clock path raw (At i) =
-    choose (expired clock (entryAt referrals i raw)) (choose (entryAt referrals i raw .root) Stale (step9In path raw)) (Fresh i)
+    choose (expired clock (entryAt referrals i raw)) (choose (entryAt referrals i raw .settings .root) Stale (step9In path raw)) (Fresh i)
 
 unfoldable pub step2In : ℕ → List ℕ → List ℕ → Matched
 step2In clock path raw = step2At clock path raw (longestMatch path (decode referrals raw))

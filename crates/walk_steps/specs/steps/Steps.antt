@@ -131,11 +131,11 @@ step11 w e = replaced (targetPath (e .hint) e) (length (e .prefix)) (w .path)
 
 -- Step 4: a link. SYSVOL and NETLOGON go to step 3, an Interlink to step 11, any other to step 3.
 unfoldable pub step4 : Core → Referral → Called
-step4 w e = choose (not (isSysvol (w .path)) && e .interlink) (replaces (step11 w e)) (asks (step3 w e))
+step4 w e = choose (not (isSysvol (w .path)) && e .settings .interlink) (replaces (step11 w e)) (asks (step3 w e))
 
 -- Steps 2.3, 7, 8.1.3, 9.1 and 9.2: root targets go to step 3, link targets to step 4.
 unfoldable pub step7 : Core → Referral → Called
-step7 w e = choose (e .root) (asks (step3 w e)) (step4 w e)
+step7 w e = choose (e .settings .root) (asks (step3 w e)) (step4 w e)
 
 -- Step 6, through a domain: a root request to one of its DCs, in a round that began at `began`. The name of the domain is the path's first component.
 unfoldable pub step6 : Core → ℕ → ℕ → Question
@@ -175,7 +175,7 @@ linkRequest w entry place began covered =
 
 unfoldable pub step9With : Caches → Core → Option Referral → Question
 step9With c w none = step5 (c .domains) w
-step9With c w (some e) = choose (e .root) (linkRequest w (length (e .prefix)) (e .hint) (e .hint) false) (step5 (c .domains) w)
+step9With c w (some e) = choose (e .settings .root) (linkRequest w (length (e .prefix)) (e .hint) (e .hint) false) (step5 (c .domains) w)
 
 unfoldable pub step9 : Caches → Core → Question
 step9 c w = step9With c w (prefixed (firstOf 2 (w .path)) (c .referrals))
@@ -183,7 +183,7 @@ step9 c w = step9With c w (prefixed (firstOf 2 (w .path)) (c .referrals))
 -- Step 2: the longest match in the referral cache. An expired root goes to step 5, an expired link to step 9, a fresh entry to step 3 or 4.
 unfoldable pub step2With : Caches → Core → ℕ → Option Referral → Called
 step2With c w clock none = asks (step5 (c .domains) w)
-step2With c w clock (some e) = choose (expired clock e) (asks (choose (e .root) (step5 (c .domains) w) (step9 c w))) (step7 w e)
+step2With c w clock (some e) = choose (expired clock e) (asks (choose (e .settings .root) (step5 (c .domains) w) (step9 c w))) (step7 w e)
 
 unfoldable pub step2 : Caches → Core → ℕ → Called
 step2 c w clock = step2With c w clock (longest (w .path) (c .referrals))
@@ -428,7 +428,7 @@ isOneOf n (m ∷ ms) = eqb n m || isOneOf n ms
 unfoldable pub ioFails : Core → Question → ℕ → Referral → Called
 ioFails w q status e =
     choose (eqb status pathNotCovered)
-    (choose (e .root) (asks (linkRequest w (q .entry) (q .party) (q .party) true)) (step14 status))
+    (choose (e .settings .root) (asks (linkRequest w (q .entry) (q .party) (q .party) true)) (step14 status))
     (choose (isOneOf status nextTargetStatuses)
     (onward (length (e .targets)) q (λ place. step8 w e place (q .began)) (step14 status))
     (step14 status))

@@ -1,5 +1,4 @@
 -- Laws.
-pub mod MatchedLaws
 pub mod MoveLaws
+pub mod CaseLaws
 pub mod PointLaws
-pub mod GoneLaws

@@ -1,29 +1,45 @@
 // The steps that call each other: lookup, domain, link and interlink. Moves left and step rank fall. They hand on a point of the steps as
-// one number (specs/cycle/Code.antt); what takes more room, the look-up, the new path and the rest, is made in functions that have returned
-// before the next is called.
+// one number (specs/cycle/Code.antt), and the rest is made of the last one.
 ghost use mathlib.Core.Path.{_≡_};
-ghost use mathlib.Core.Bool.{true};
-ghost use Prim.Native.Nat.{ℕ, suc, _+_, _*_, _/_, _%_, _≤_, _<_};
+ghost use mathlib.Core.Bool.{Bool, true, false, _&&_};
+ghost use mathlib.Core.List.{List};
+ghost use Prim.Native.Nat.{ℕ, _≤_, _<_};
 ghost use lib.ListN.{length, take};
+ghost use lib.Dec.{eqb};
 ghost use Rattle.unc.specs.names.Code.{writtenWithin};
-ghost use Rattle.walk_steps.specs.walk_texts.Code.{Standing};
+ghost use Rattle.unc.specs.names.Paths.{isSysvol, replaced};
+ghost use Rattle.walk_steps.specs.walk_texts.Code.{Standing, withTried};
+ghost use Rattle.cache.specs.places.Layout.{placeCount};
+ghost use Rattle.cache.specs.order.Order.{goodPrefix};
 ghost use Rattle.cache.specs.order.Memory.{referrals, domains, decode};
+ghost use Rattle.cache_lookup.specs.Lookup.{targetPath};
 ghost use Rattle.cache_lookup.specs.Code.{entryAt};
 ghost use Rattle.cache_lookup.specs.declared.Found.the-variants.{At};
-ghost use Rattle.walk_steps.specs.steps.Steps.{Caches, asks, asking, hitAt, withHit, step2, step5, step8, step11, fromStep2, goes, turned};
-ghost use Rattle.walk_steps.specs.steps.Held.{cachesOf, coreOf};
-ghost use Rattle.walk_steps.specs.steps.Code.{coreAt, step2In};
-ghost use Rattle.walk_steps.specs.cycle.Code.{joined, packed, stepsFrom, calledAt, calledAfter, movedTo, Ready, Usable};
-ghost use Rattle.walk_steps.specs.cycle.Code.{whatOf, placeIn, unitsOf, stepsAt, Point, Halted, SameRest, pointFresh, pointFound, goneTo, pointReached};
+ghost use Rattle.walk_steps.specs.steps.Steps.{Caches, asks, asking, step3, step5, step8, fromStep2, goes, turned};
+ghost use Rattle.walk_steps.specs.steps.Held.{cachesOf, coreOf, askingOf};
+ghost use Rattle.walk_steps.specs.steps.Code.{coreAt};
+ghost use Rattle.walk_steps.specs.cycle.Code.{joined, packed, calledAfter, Ready, Usable};
+ghost use Rattle.walk_steps.specs.cycle.Code.{due2, due5, due9, due7, due11, askLink, nowhere, whatOf, placeIn, hitIn, unitsOf, leftOf, Parts, kindAt, questionAt};
+ghost use Rattle.walk_steps.specs.cycle.Code.{FoundAt, DcAt, Sought, afterMatch, Matched, replacedAt, movedTo, stepsAt, Point, Halted, Follows, SameRest};
 use crate::steps::Asking;
 use crate::steps::End;
 use crate::steps::Kind;
-use crate::steps::Matched;
 use crate::steps::Next;
 use crate::steps::Progress;
 use crate::steps::Rested;
 use cache_lookup::Found;
 use unc::names::Written;
+
+// The prefix of the path replaced by a target's path, put as the path tried.
+fn put_target(refs: &[u16], texts: &mut [u16], len: usize, i: usize, party: u16) -> Written
+    requires { ⌜ Standing len (now texts) × (Usable (now refs) (take len (now texts)) i × (party < length (entryAt referrals i (now refs) .targets))) ⌝ }
+    ensures answer { λ r. ⌜ r ≡ writtenWithin 256 (replaced (targetPath party (entryAt referrals i (now (refs .entry)))) (length (entryAt referrals i (now (refs .entry)) .prefix)) (take len (now (texts .entry)))) ⌝ }
+    ensures texts { λ r. ⌜ now (texts .exit) ≡ withTried (replaced (targetPath party (entryAt referrals i (now (refs .entry)))) (length (entryAt referrals i (now (refs .entry)) .prefix)) (take len (now (texts .entry)))) (now (texts .entry)) ⌝ }
+{
+    let k = cache_lookup::prefix(refs, i).len();
+    let target = cache_lookup::target(refs, i, party as usize);
+    crate::walk_texts::put_tried(texts, len, k, target)
+}
 
 // Steps 3 and 8: the I/O try at target `party` of the entry at place i.
 fn step8(
@@ -37,16 +53,15 @@ fn step8(
     began: u16,
 ) -> Rested
     requires { ⌜ Standing len (now texts) × (Usable (now refs) (take len (now texts)) i × (party < length (entryAt referrals i (now refs) .targets))) ⌝ }
-    ensures { λ r. ⌜ joined r (now (texts .exit)) ≡ packed (asking left (coreOf (take len (now (texts .entry))) 0 hit) (step8 (coreOf (take len (now (texts .entry))) 0 hit) (entryAt referrals i (now (refs .entry))) party began)) ⌝ }
+    ensures { λ r. ⌜ ((size : ℕ) → joined r (now (texts .exit)) ≡ packed (asking left (coreOf (take len (now (texts .entry))) size hit) (step8 (coreOf (take len (now (texts .entry))) size hit) (entryAt referrals i (now (refs .entry))) party began))) ⌝ }
 {
     if left == 0 {
         return crate::steps::end_at(End::LimitReached, 0, len, left, hit);
     }
-    let k = cache_lookup::prefix(refs, i).len();
-    let target = cache_lookup::target(refs, i, party as usize);
-    let Written::Units(n) = crate::walk_texts::put_tried(texts, len, k, target) else {
+    let Written::Units(n) = put_target(refs, texts, len, i, party) else {
         return crate::steps::end_at(End::TooLong, 0, len, left, hit);
     };
+    let k = cache_lookup::prefix(refs, i).len();
     let q = Asking {
         kind: Kind::Io,
         entry: k as u16,
@@ -65,236 +80,351 @@ fn step8(
 }
 
 // Step 3: the try at the target hinted at.
-fn step3(refs: &[u16], texts: &mut [u16], len: usize, left: u16, i: usize) -> Rested
+fn step3(refs: &[u16], texts: &mut [u16], len: usize, left: u16, hit: bool, i: usize) -> Rested
     requires { ⌜ Standing len (now texts) × Usable (now refs) (take len (now texts)) i ⌝ }
-    ensures { λ r. ⌜ joined r (now (texts .exit)) ≡ packed (asking left (coreOf (take len (now (texts .entry))) 0 true) (step8 (coreOf (take len (now (texts .entry))) 0 true) (entryAt referrals i (now (refs .entry))) (entryAt referrals i (now (refs .entry)) .hint) (entryAt referrals i (now (refs .entry)) .hint))) ⌝ }
+    ensures { λ r. ⌜ ((size : ℕ) → joined r (now (texts .exit)) ≡ packed (asking left (coreOf (take len (now (texts .entry))) size hit) (step3 (coreOf (take len (now (texts .entry))) size hit) (entryAt referrals i (now (refs .entry)))))) ⌝ }
 {
     let hint = cache_lookup::target_hint(refs, i);
-    step8(refs, texts, len, left, true, i, hint, hint)
+    step8(refs, texts, len, left, hit, i, hint, hint)
 }
 
-// Step 11: the prefix of the path replaced by the target hinted at.
-fn step11(refs: &[u16], texts: &mut [u16], len: usize, i: usize) -> Written
-    requires { ⌜ Standing len (now texts) × Usable (now refs) (take len (now texts)) i ⌝ }
-    ensures answer { λ r. ⌜ r ≡ writtenWithin 256 (step11 (coreOf (take len (now (texts .entry))) 0 true) (entryAt referrals i (now (refs .entry)))) ⌝ }
-    ensures texts { λ r. ⌜ now (texts .exit) ≡ movedTo (step11 (coreOf (take len (now (texts .entry))) 0 true) (entryAt referrals i (now (refs .entry)))) (now (texts .entry)) ⌝ }
+// A point of the steps as one number: the case, the place of its entry or the place of its DC, whether there was a hit, the units of the
+// path, the moves left. One number in and out keeps the frame of a move small.
+const PLACE: u64 = 16;
+
+const HIT: u64 = 1048576;
+
+const UNITS: u64 = 2097152;
+
+const LEFT: u64 = 1073741824;
+
+// The step that is due.
+const DUE2: u64 = 0;
+
+const DUE5: u64 = 1;
+
+const DUE9: u64 = 2;
+
+const DUE7: u64 = 3;
+
+// Step 11 is due, and the steps rest there if no move is left.
+const DUE11: u64 = 4;
+
+// Where the steps rest: step 3's try; step 9's request to a root's target; step 5.2's for DCs; step 6's or 10's to a DC; step 6's to a
+// host; the end at a new path that is too long.
+const TRY: u64 = 5;
+
+const ASK_LINK: u64 = 6;
+
+const ASK_DC: u64 = 7;
+
+const ASK_DOMAIN: u64 = 8;
+
+const ASK_HOST: u64 = 9;
+
+const TOO_LONG: u64 = 10;
+
+fn point(what: u64, i: usize, hit: bool, len: usize, left: u64) -> u64
+    requires { ⌜ (what < 16) × ((i < 65536) × ((len ≤ 256) × (left < 65536))) ⌝ }
+    ensures { λ r. ⌜ Parts what i hit len left r ⌝ }
 {
-    let k = cache_lookup::prefix(refs, i).len();
-    let hint = cache_lookup::target_hint(refs, i) as usize;
-    let target = cache_lookup::target(refs, i, hint);
-    let Written::Units(n) = crate::walk_texts::put_tried(texts, len, k, target) else {
-        return Written::TooLong;
-    };
-    crate::walk_texts::take_tried(texts);
-    Written::Units(n)
+    let n = what + PLACE * (i as u64) + UNITS * (len as u64) + LEFT * left;
+    if hit {
+        return n + HIT;
+    }
+    n
 }
 
-// What a point calls for, and how its moves left are counted in.
-const LEFT: u64 = 131072;
-
-const TRY: u64 = 0;
-
-const TURN: u64 = 1;
-
-const LINK: u64 = 2;
-
-const LONG: u64 = 3;
-
-const STALE: u64 = 4;
-
-const MISSED: u64 = 5;
-
-// A point, the moves left not counted in.
-fn point(what: u64, i: usize, len: usize) -> u64
-    requires { ⌜ (what < 8) × ((i < 32) × (len ≤ 256)) ⌝ }
-    ensures { λ r. ⌜ r ≡ what + 8 * i + 256 * len ⌝ }
+// Another case at this path.
+fn case_at(n: u64, what: u64, i: usize) -> u64
+    requires { ⌜ (what < 16) × ((i < 65536) × (leftOf n < 65536)) ⌝ }
+    ensures { λ r. ⌜ Parts what i (hitIn n) (unitsOf n) (leftOf n) r ⌝ }
 {
-    what + 8 * (i as u64) + 256 * (len as u64)
+    n / HIT * HIT + PLACE * (i as u64) + what
 }
 
-fn with_left(n: u64, left: u64) -> u64
-    requires { ⌜ (n < 131072) × (left < 65536) ⌝ }
-    ensures { λ r. ⌜ r ≡ n + 131072 * left ⌝ }
+// The same after a cache hit.
+fn case_hit(n: u64, what: u64, i: usize) -> u64
+    requires { ⌜ (what < 16) × ((i < 65536) × (leftOf n < 65536)) ⌝ }
+    ensures { λ r. ⌜ Parts what i true (unitsOf n) (leftOf n) r ⌝ }
 {
-    n + LEFT * left
+    n / UNITS * UNITS + HIT + PLACE * (i as u64) + what
 }
 
 fn place(n: u64) -> usize
     ensures { λ r. ⌜ r ≡ placeIn n ⌝ }
 {
-    (n / 8 % 32) as usize
+    (n / PLACE % 65536) as usize
 }
 
 fn units(n: u64) -> usize
     ensures { λ r. ⌜ r ≡ unitsOf n ⌝ }
 {
-    (n / 256 % 512) as usize
+    (n / UNITS % 512) as usize
 }
 
-// Steps 7 and 4 at the entry at place i: a try, or a replacement.
-fn fresh(refs: &[u16], texts: &[u16], len: usize, i: usize) -> u64
-    requires { ⌜ Ready (now refs) (now texts) len × Usable (now refs) (take len (now texts)) i ⌝ }
-    ensures { λ r. ⌜ r ≡ pointFresh (now (refs .entry)) (take len (now (texts .entry))) i ⌝ }
+fn had_hit(n: u64) -> bool
+    ensures { λ r. ⌜ r ≡ hitIn n ⌝ }
 {
-    if crate::steps::turns(refs, &texts[..len], i) {
-        return point(TURN, i, len);
+    n / HIT % 2 == 1
+}
+
+fn for_sysvol(texts: &[u16], n: u64) -> bool
+    requires { ⌜ Standing (unitsOf n) (now texts) ⌝ }
+    ensures { λ r. ⌜ r ≡ isSysvol (take (unitsOf n) (now (texts .entry))) ⌝ }
+{
+    let len = units(n);
+    unc::prefix::is_sysvol(&texts[..len])
+}
+
+// Where a look-up found nothing, and where step 5 found a domain without a DC: more than any place.
+const NOWHERE: u64 = 65536;
+
+const NO_DC: u64 = 65537;
+
+fn number(found: Found) -> u64
+    requires { ⌜ ((i : ℕ) → found ≡ At i → i < 65536) ⌝ }
+    ensures { λ r. ⌜ FoundAt found r ⌝ }
+{
+    match found {
+        Found::At(i) => i as u64,
+        Found::Nothing => NOWHERE,
     }
-    point(TRY, i, len)
 }
 
-// Step 2.
-fn found(refs: &[u16], texts: &[u16], len: usize, clock: u32) -> u64
-    requires { ⌜ Ready (now refs) (now texts) len ⌝ }
-    ensures { λ r. ⌜ r ≡ pointFound (now (refs .entry)) (take len (now (texts .entry))) (step2In clock (take len (now (texts .entry))) (now (refs .entry))) ⌝ }
+// Step 5: the DC hinted at by the domain of the first component.
+fn dc_sought(doms: &[u16], path: &[u16]) -> u64
+    requires { ⌜ goodPrefix (now path) ≡ true ⌝ }
+    ensures { λ r. ⌜ DcAt (now (doms .entry)) (now (path .entry)) r ⌝ }
 {
-    let m = crate::steps::step2(refs, &texts[..len], clock);
-    match m {
-        Matched::Fresh(i) => fresh(refs, texts, len, i),
-        Matched::Refresh(i) => point(LINK, i, len),
-        Matched::Stale => point(STALE, 0, len),
-        Matched::Missed => point(MISSED, 0, len),
-    }
-}
-
-// Step 11 at the entry before place `by`; 0: the path stays.
-fn replace(refs: &[u16], texts: &mut [u16], len: usize, by: usize) -> Written
-    requires { ⌜ Standing len (now texts) × ((i : ℕ) → by ≡ suc i → Usable (now refs) (take len (now texts)) i) ⌝ }
-    ensures answer { λ r. ⌜ r ≡ writtenWithin 256 (goneTo (now (refs .entry)) (take len (now (texts .entry))) by) ⌝ }
-    ensures texts { λ r. ⌜ now (texts .exit) ≡ movedTo (goneTo (now (refs .entry)) (take len (now (texts .entry))) by) (now (texts .entry)) ⌝ }
-{
-    if by == 0 {
-        return Written::Units(len);
-    }
-    step11(refs, texts, len, by - 1)
-}
-
-// Step 11, if it is due, and step 2.
-fn reached(refs: &[u16], texts: &mut [u16], len: usize, clock: u32, by: usize) -> u64
-    requires { ⌜ Ready (now refs) (now texts) len × ((i : ℕ) → by ≡ suc i → Usable (now refs) (take len (now texts)) i) ⌝ }
-    ensures answer { λ r. ⌜ r ≡ pointReached (now (refs .entry)) clock len (goneTo (now (refs .entry)) (take len (now (texts .entry))) by) ⌝ }
-    ensures texts { λ r. ⌜ now (texts .exit) ≡ movedTo (goneTo (now (refs .entry)) (take len (now (texts .entry))) by) (now (texts .entry)) ⌝ }
-{
-    let Written::Units(n) = replace(refs, texts, len, by) else {
-        return point(LONG, 0, len);
+    let Found::At(i) = cache_lookup::find_domain(doms, crate::steps::host(path)) else {
+        return NOWHERE;
     };
-    found(refs, texts, n, clock)
+    if cache_lookup::dc_count(doms, i) == 0 {
+        return NO_DC;
+    }
+    cache_lookup::dc_hint(doms, i) as u64
 }
 
-// Step 2: a request of step 9 waits; else on.
-fn lookup(refs: &[u16], texts: &mut [u16], n: u64, clock: u32) -> u64
-    requires { ⌜ Point (now refs) (now texts) n ⌝ }
-    ensures { λ r. ⌜ SameRest (now (refs .entry)) clock n (now (texts .entry)) r (now (texts .exit)) ⌝ }
+// What the step that is due looks up: step 2 the longest match, step 9 the root entry of the first two components, step 5 a DC.
+// One function that three steps call, so that the compiler leaves it out of the frame of a move.
+fn sought(refs: &[u16], doms: &[u16], texts: &[u16], n: u64) -> u64
+    requires { ⌜ Ready (now refs) (now texts) (unitsOf n) ⌝ }
+    ensures { λ r. ⌜ Sought (now (refs .entry)) (now (doms .entry)) (take (unitsOf n) (now (texts .entry))) (whatOf n) r ⌝ }
 {
-    if n % 8 == LINK {
-        return n;
+    let what = n % PLACE;
+    let len = units(n);
+    if what == DUE2 {
+        return number(cache_lookup::find(refs, &texts[..len]));
     }
-    domain(refs, texts, n, clock)
+    if what == DUE9 {
+        return number(crate::steps::root_entry(refs, &texts[..len]));
+    }
+    dc_sought(doms, &texts[..len])
 }
 
-// Step 5 puts its question; step 7 goes by an entry that was found fresh or has just been stored.
-fn domain(refs: &[u16], texts: &mut [u16], n: u64, clock: u32) -> u64
-    requires { ⌜ Point (now refs) (now texts) n ⌝ }
-    ensures { λ r. ⌜ SameRest (now (refs .entry)) clock n (now (texts .entry)) r (now (texts .exit)) ⌝ }
+// The step that is due after a match: step 7 at a fresh entry, step 5 at an expired root, step 9 at an expired link.
+fn after_match(refs: &[u16], i: usize, clock: u32) -> u64
+    requires { ⌜ i < placeCount (now refs) ⌝ }
+    ensures { λ r. ⌜ r ≡ afterMatch clock (entryAt referrals i (now (refs .entry))) ⌝ }
 {
-    if TURN < n % 8 {
-        return n;
+    if !cache_lookup::is_expired(refs, i, clock) {
+        return DUE7;
     }
-    link(refs, texts, n, clock)
+    if cache_lookup::is_root(refs, i) {
+        return DUE5;
+    }
+    DUE9
 }
 
-// Step 4: step 3's try, or step 11.
-fn link(refs: &[u16], texts: &mut [u16], n: u64, clock: u32) -> u64
-    requires { ⌜ Point (now refs) (now texts) n × (whatOf n < 2) ⌝ }
-    ensures { λ r. ⌜ SameRest (now (refs .entry)) clock n (now (texts .entry)) r (now (texts .exit)) ⌝ }
+// Step 2 by what it found; without a match step 5.
+fn matched(refs: &[u16], n: u64, found: u64, clock: u32) -> u64
+    requires { ⌜ (leftOf n < 65536) × ((found ≡ nowhere → ⊥) → (found < placeCount (now refs)) × (found < 65536)) ⌝ }
+    ensures { λ r. ⌜ Matched (now (refs .entry)) clock n found r ⌝ }
 {
-    if n % 8 == TRY {
-        return n;
+    if found == NOWHERE {
+        return case_at(n, DUE5, 0);
     }
-    interlink(refs, texts, n, clock)
+    let i = found as usize;
+    case_hit(n, after_match(refs, i, clock), i)
+}
+
+// Step 5: a request to a DC of the domain, or for its DCs; without a domain one to a host.
+fn step5(refs: &[u16], doms: &[u16], texts: &[u16], n: u64) -> u64
+    requires { ⌜ Point (now refs) (now texts) n × (whatOf n ≡ due5) ⌝ }
+    ensures { λ r. ⌜ ((clock : ℕ) → Follows (now (refs .entry)) (now (doms .entry)) clock (now (texts .entry)) n r) × (due11 < whatOf r) ⌝ }
+{
+    let found = sought(refs, doms, texts, n);
+    if found == NOWHERE {
+        return case_at(n, ASK_HOST, 0);
+    }
+    if found == NO_DC {
+        return case_at(n, ASK_DC, 0);
+    }
+    case_at(n, ASK_DOMAIN, found as usize)
+}
+
+// Step 9: a request to the root entry's target; without a root entry step 5.
+fn step9(refs: &[u16], doms: &[u16], texts: &[u16], n: u64) -> u64
+    requires { ⌜ Point (now refs) (now texts) n × (whatOf n ≡ due9) ⌝ }
+    ensures { λ r. ⌜ ((clock : ℕ) → Follows (now (refs .entry)) (now (doms .entry)) clock (now (texts .entry)) n r) × (due11 < whatOf r) ⌝ }
+{
+    let found = sought(refs, doms, texts, n);
+    if found == NOWHERE {
+        return step5(refs, doms, texts, case_at(n, DUE5, 0));
+    }
+    case_at(n, ASK_LINK, found as usize)
+}
+
+// Step 11: the prefix of the path replaced by the target hinted at.
+fn step11(refs: &[u16], texts: &mut [u16], n: u64) -> Written
+    requires { ⌜ Point (now refs) (now texts) n × (whatOf n ≡ due11) ⌝ }
+    ensures answer { λ r. ⌜ r ≡ writtenWithin 256 (replacedAt (now (refs .entry)) (now (texts .entry)) n) ⌝ }
+    ensures texts { λ r. ⌜ now (texts .exit) ≡ movedTo (replacedAt (now (refs .entry)) (now (texts .entry)) n) (now (texts .entry)) ⌝ }
+{
+    let i = place(n);
+    let hint = cache_lookup::target_hint(refs, i);
+    let Written::Units(len) = put_target(refs, texts, units(n), i, hint) else {
+        return Written::TooLong;
+    };
+    crate::walk_texts::take_tried(texts);
+    Written::Units(len)
+}
+
+// Step 7 at a root.
+fn at_root(refs: &[u16], n: u64) -> bool
+    requires { ⌜ (whatOf n ≡ due7 → placeIn n < placeCount (now refs)) ⌝ }
+    ensures { λ r. ⌜ r ≡ (eqb (whatOf n) due7 && entryAt referrals (placeIn n) (now (refs .entry)) .settings .root) ⌝ }
+{
+    if n % PLACE == DUE7 {
+        return cache_lookup::is_root(refs, place(n));
+    }
+    false
+}
+
+// Step 2, and on by what it found.
+fn lookup(refs: &[u16], doms: &[u16], texts: &mut [u16], n: u64, clock: u32) -> u64
+    requires { ⌜ Point (now refs) (now texts) n × (whatOf n ≡ due2) ⌝ }
+    ensures { λ r. ⌜ SameRest (now (refs .entry)) (now (doms .entry)) clock n (now (texts .entry)) r (now (texts .exit)) ⌝ }
+{
+    let found = sought(refs, doms, texts, n);
+    domain(refs, doms, texts, matched(refs, n, found, clock), clock)
+}
+
+// Step 5; step 7, where a root's targets go to step 3.
+fn domain(refs: &[u16], doms: &[u16], texts: &mut [u16], n: u64, clock: u32) -> u64
+    requires { ⌜ Point (now refs) (now texts) n × ((due2 < whatOf n) × (whatOf n ≤ due7)) ⌝ }
+    ensures { λ r. ⌜ SameRest (now (refs .entry)) (now (doms .entry)) clock n (now (texts .entry)) r (now (texts .exit)) ⌝ }
+{
+    if n % PLACE == DUE5 {
+        return step5(refs, doms, texts, n);
+    }
+    if at_root(refs, n) {
+        return case_at(n, TRY, place(n));
+    }
+    link(refs, doms, texts, n, clock)
+}
+
+// Step 9; step 4, where SYSVOL, NETLOGON and a link without Interlink go to step 3.
+fn link(refs: &[u16], doms: &[u16], texts: &mut [u16], n: u64, clock: u32) -> u64
+    requires { ⌜ Point (now refs) (now texts) n × ((due5 < whatOf n) × ((whatOf n ≤ due7) × (whatOf n ≡ due7 → entryAt referrals (placeIn n) (now refs) .settings .root ≡ false))) ⌝ }
+    ensures { λ r. ⌜ SameRest (now (refs .entry)) (now (doms .entry)) clock n (now (texts .entry)) r (now (texts .exit)) ⌝ }
+{
+    if n % PLACE == DUE9 {
+        return step9(refs, doms, texts, n);
+    }
+    if for_sysvol(texts, n) {
+        return case_at(n, TRY, place(n));
+    }
+    if !cache_lookup::is_interlink(refs, place(n)) {
+        return case_at(n, TRY, place(n));
+    }
+    interlink(refs, doms, texts, case_at(n, DUE11, place(n)), clock)
 }
 
 // Step 11, and on from step 2. The limit is tested, then the length of the new path.
-fn interlink(refs: &[u16], texts: &mut [u16], n: u64, clock: u32) -> u64
-    requires { ⌜ Point (now refs) (now texts) n × (whatOf n ≡ 1) ⌝ }
-    ensures { λ r. ⌜ SameRest (now (refs .entry)) clock n (now (texts .entry)) r (now (texts .exit)) ⌝ }
+fn interlink(refs: &[u16], doms: &[u16], texts: &mut [u16], n: u64, clock: u32) -> u64
+    requires { ⌜ Point (now refs) (now texts) n × (whatOf n ≡ due11) ⌝ }
+    ensures { λ r. ⌜ SameRest (now (refs .entry)) (now (doms .entry)) clock n (now (texts .entry)) r (now (texts .exit)) ⌝ }
 {
-    let left = n / LEFT;
-    if left == 0 {
+    if n / LEFT == 0 {
         return n;
     }
-    let m = reached(refs, texts, units(n), clock, place(n) + 1);
-    if m % 8 == LONG {
-        return with_left(m, left);
+    let Written::Units(len) = step11(refs, texts, n) else {
+        return case_at(n, TOO_LONG, 0);
+    };
+    lookup(
+        refs,
+        doms,
+        texts,
+        point(DUE2, 0, had_hit(n), len, n / LEFT - 1),
+        clock,
+    )
+}
+
+// The kind of a request that names the domain.
+fn kind(what: u64, path: &[u16]) -> Kind
+    ensures { λ r. ⌜ r ≡ kindAt what (now (path .entry)) ⌝ }
+{
+    if what == ASK_DC {
+        return Kind::Dc;
     }
-    lookup(refs, texts, with_left(m, left - 1), clock)
+    if unc::prefix::is_sysvol(path) {
+        return Kind::Sysvol;
+    }
+    Kind::Root
+}
+
+// The question at which the steps rest, if it tries no path.
+fn question(refs: &[u16], path: &[u16], what: u64, i: usize, size: u32) -> Asking
+    requires { ⌜ (length (now path) ≤ 256) × ((i < 65536) × (what ≡ askLink → i < placeCount (now refs))) ⌝ }
+    ensures { λ r. ⌜ ((hit : Bool) → r ≡ askingOf (questionAt (now (refs .entry)) (coreOf (now (path .entry)) size hit) i what)) ⌝ }
+{
+    if what == ASK_LINK {
+        let n = cache_lookup::prefix(refs, i).len();
+        let hint = cache_lookup::target_hint(refs, i);
+        return Asking {
+            kind: Kind::Link,
+            entry: n as u16,
+            party: hint,
+            began: hint,
+            size,
+            covered: false,
+        };
+    }
+    if what == ASK_HOST {
+        return Asking {
+            kind: Kind::Root,
+            entry: 0,
+            party: 0,
+            began: 0,
+            size,
+            covered: false,
+        };
+    }
+    crate::steps::domain_asking(kind(what, path), path, i as u16, size)
 }
 
 // The rest at a point from which no move is made.
-fn rest_at(refs: &[u16], doms: &[u16], texts: &mut [u16], n: u64, size: u32) -> Rested
+fn rest_at(refs: &[u16], texts: &mut [u16], n: u64, size: u32) -> Rested
     requires { ⌜ Halted (now refs) (now texts) n ⌝ }
-    ensures { λ r. ⌜ ((clock : ℕ) → joined r (now (texts .exit)) ≡ stepsAt (now (refs .entry)) (now (doms .entry)) size clock n (now (texts .entry))) ⌝ }
+    ensures { λ r. ⌜ ((doms : List ℕ) (clock : ℕ) → joined r (now (texts .exit)) ≡ stepsAt (now (refs .entry)) doms size clock n (now (texts .entry))) ⌝ }
 {
-    let what = n % 8;
+    let what = n % PLACE;
     let left = (n / LEFT) as u16;
     let len = units(n);
+    let hit = had_hit(n);
     if what == TRY {
-        return step3(refs, texts, len, left, place(n));
+        return step3(refs, texts, len, left, hit, place(n));
     }
-    if what == TURN {
-        return crate::steps::end_at(End::LimitReached, 0, len, left, true);
+    if what == DUE11 {
+        return crate::steps::end_at(End::LimitReached, 0, len, left, hit);
     }
-    if what == LINK {
-        return crate::steps::ask_link(refs, &texts[..len], place(n), left, size);
+    if what == TOO_LONG {
+        return crate::steps::end_at(End::TooLong, 0, len, left, hit);
     }
-    if what == LONG {
-        return crate::steps::end_at(End::TooLong, 0, len, left, true);
-    }
-    crate::steps::step5(doms, &texts[..len], left, true, size)
-}
-
-// Step 2.
-fn lookup_rest(
-    refs: &[u16],
-    doms: &[u16],
-    texts: &mut [u16],
-    len: usize,
-    left: u16,
-    hit: bool,
-    size: u32,
-    clock: u32,
-) -> Rested
-    requires { ⌜ Ready (now refs) (now texts) len ⌝ }
-    ensures { λ r. ⌜ joined r (now (texts .exit)) ≡ stepsFrom left (now (refs .entry)) (now (doms .entry)) clock (withHit (hitAt (cachesOf (now (refs .entry)) (now (doms .entry))) (coreOf (take len (now (texts .entry))) size hit)) (coreOf (take len (now (texts .entry))) size hit)) (step2 (cachesOf (now (refs .entry)) (now (doms .entry))) (coreOf (take len (now (texts .entry))) size hit) clock) ⌝ }
-{
-    let n = reached(refs, texts, len, clock, 0);
-    if n % 8 == MISSED {
-        return crate::steps::step5(doms, &texts[..len], left, hit, size);
-    }
-    let r = lookup(refs, texts, with_left(n, left as u64), clock);
-    rest_at(refs, doms, texts, r, size)
-}
-
-// From step 5, or from step 7 where the entry at a place has just been stored.
-fn domain_rest(
-    refs: &[u16],
-    doms: &[u16],
-    texts: &mut [u16],
-    len: usize,
-    left: u16,
-    hit: bool,
-    size: u32,
-    clock: u32,
-    stored: Found,
-) -> Rested
-    requires { ⌜ Ready (now refs) (now texts) len × ((i : ℕ) → stored ≡ At i → Usable (now refs) (take len (now texts)) i × (hit ≡ true)) ⌝ }
-    ensures { λ r. ⌜ joined r (now (texts .exit)) ≡ stepsFrom left (now (refs .entry)) (now (doms .entry)) clock (coreOf (take len (now (texts .entry))) size hit) (calledAt (now (refs .entry)) (now (doms .entry)) (coreOf (take len (now (texts .entry))) size hit) stored) ⌝ }
-{
-    let Found::At(i) = stored else {
-        return crate::steps::step5(doms, &texts[..len], left, hit, size);
-    };
-    let n = fresh(refs, texts, len, i);
-    let r = domain(refs, texts, with_left(n, left as u64), clock);
-    rest_at(refs, doms, texts, r, size)
+    let q = question(refs, &texts[..len], what, place(n), size);
+    crate::steps::ask(q, len, left, hit)
 }
 
 // From step 2.
@@ -302,7 +432,9 @@ pub fn from_lookup(refs: &[u16], doms: &[u16], texts: &mut [u16], g: Progress) -
     requires { ⌜ Ready (now refs) (now texts) (g .len) ⌝ }
     ensures { λ r. ⌜ joined r (now (texts .exit)) ≡ packed (turned (g .left) (g .clock) (fromStep2 (cachesOf (now (refs .entry)) (now (doms .entry))) (coreAt g (now (texts .entry))) (g .clock))) ⌝ }
 {
-    lookup_rest(refs, doms, texts, g.len, g.left, g.hit, g.size, g.clock)
+    let n = point(DUE2, 0, g.hit, g.len, g.left as u64);
+    let r = lookup(refs, doms, texts, n, g.clock);
+    rest_at(refs, texts, r, g.size)
 }
 
 // From step 5.
@@ -310,17 +442,9 @@ pub fn from_domain(refs: &[u16], doms: &[u16], texts: &mut [u16], g: Progress) -
     requires { ⌜ Ready (now refs) (now texts) (g .len) ⌝ }
     ensures { λ r. ⌜ joined r (now (texts .exit)) ≡ packed (goes (g .left) (cachesOf (now (refs .entry)) (now (doms .entry))) (g .clock) (coreAt g (now (texts .entry))) (asks (step5 (decode domains (now (doms .entry))) (coreAt g (now (texts .entry)))))) ⌝ }
 {
-    domain_rest(
-        refs,
-        doms,
-        texts,
-        g.len,
-        g.left,
-        g.hit,
-        g.size,
-        g.clock,
-        Found::Nothing,
-    )
+    let n = point(DUE5, 0, g.hit, g.len, g.left as u64);
+    let r = domain(refs, doms, texts, n, g.clock);
+    rest_at(refs, texts, r, g.size)
 }
 
 // From the entry at a place, which has just been stored: SYSVOL goes to step 3, any other to step 7.
@@ -336,20 +460,11 @@ pub fn from_stored(
     ensures { λ r. ⌜ joined r (now (texts .exit)) ≡ packed (goes (g .left) (cachesOf (now (refs .entry)) (now (doms .entry))) (g .clock) (coreAt g (now (texts .entry))) (calledAfter sysvol (coreAt g (now (texts .entry))) (entryAt referrals i (now (refs .entry))))) ⌝ }
 {
     if sysvol {
-        let hint = cache_lookup::target_hint(refs, i);
-        return step8(refs, texts, g.len, g.left, g.hit, i, hint, hint);
+        return step3(refs, texts, g.len, g.left, g.hit, i);
     }
-    domain_rest(
-        refs,
-        doms,
-        texts,
-        g.len,
-        g.left,
-        g.hit,
-        g.size,
-        g.clock,
-        Found::At(i),
-    )
+    let n = point(DUE7, i, g.hit, g.len, g.left as u64);
+    let r = domain(refs, doms, texts, n, g.clock);
+    rest_at(refs, texts, r, g.size)
 }
 
 // Step 8: the try at a target of the entry at place i, in a round that began at `began`.

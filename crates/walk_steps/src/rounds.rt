@@ -219,14 +219,7 @@ fn failed_link(refs: &[u16], path: &[u16], size: u32, q: Asking, status: u32) ->
 }
 
 // What comes after the party, by the kind of the question.
-fn failed(
-    refs: &[u16],
-    doms: &[u16],
-    path: &[u16],
-    g: Progress,
-    q: Asking,
-    status: u32,
-) -> Next
+fn failed(refs: &[u16], doms: &[u16], path: &[u16], g: Progress, q: Asking, status: u32) -> Next
     requires { ⌜ (goodPrefix (now path) ≡ true) × (q .entry ≤ length (now path)) ⌝ }
     ensures { λ r. ⌜ calledOf r ≡ failed (cachesOf (now (refs .entry)) (now (doms .entry))) (coreOf (now (path .entry)) (g .size) (g .hit)) (questionOf q []) status ⌝ }
 {

@@ -1,6 +1,6 @@
 -- Laws of a move: a question put, a replacement, and where the steps come to rest.
 use mathlib.Core.Path.{_≡_, refl, sym, ap, _∙_, subst}
-use mathlib.Core.Bool.{Bool, true, false, _&&_, not}
+use mathlib.Core.Bool.{Bool, true, false, _&&_}
 use mathlib.Core.List.{List, [], _++_}
 use mathlib.Core.Logic.{_⊎_, inl, inr}
 use Prim.Native.Nat.{ℕ, zero, suc, _-_, _≤_, _<_}
@@ -8,12 +8,12 @@ use native.Mathlib.Omega.{arith}
 use lib.ListN.{length, getD, take, drop, replicate, length-take}
 use lib.Seq.{length-take-le}
 use lib.Dec.{leb}
-use borrow.Author.Tests.{le-leb, leb-true, lt-leb, not-true}
+use borrow.Author.Tests.{le-leb, leb-true, lt-leb}
 use Rattle.laws.specs.Choice.{choose}
 use Rattle.laws.specs.Lists.{part, pasted}
 use Rattle.laws.proofs.Choices.{choose-yes, choose-no, and-left, and-right, and-both}
 use Rattle.laws.proofs.Orders.{told}
-use Rattle.unc.specs.names.Paths.{components, componentCount, isNormalised, normalisedCount, matches, isSysvol, replaced, pathUnits}
+use Rattle.unc.specs.names.Paths.{components, componentCount, firstOf, isNormalised, normalisedCount, matches, replaced, pathUnits}
 use Rattle.unc.specs.names.Code.{writtenWithin}
 use Rattle.unc.specs.names.Names.{sameName}
 use Rattle.unc.proofs.names.MatchLaws.{atEnd, matches-units}
@@ -22,7 +22,6 @@ use Rattle.cache.proofs.order.KindLaws.{referral-told, prefix-some}
 use Rattle.unc.proofs.names.WholeLaws.{replaced-normalised, replaced-count}
 use Rattle.laws.specs.Lists.{every}
 use Rattle.laws.proofs.Every.{every-at}
-use Rattle.laws.proofs.Tests.{not-both}
 use Rattle.unc.specs.declared.names.Written.{Written}
 use Rattle.unc.specs.declared.names.Written.the-variants.{Units, TooLong}
 use Rattle.walk_steps.specs.walk_texts.Texts.{textsOf}
@@ -31,25 +30,20 @@ use Rattle.walk_steps.proofs.walk_texts.TextLaws.{length-texts, put-fit
 use Rattle.cache.specs.order.Entries.{Referral, Domain}
 use mathlib.Core.Option.{Option, none, some}
 use Rattle.cache.specs.order.Order.{goodReferral, goodPrefix, goodTarget}
-use Rattle.cache.specs.order.Memory.{referrals, domains, decode, inOrder}
+use Rattle.cache.specs.order.Memory.{referrals, domains, decode}
 use Rattle.cache_lookup.specs.Code.{entryAt}
 use Rattle.cache_lookup.specs.Lookup.{targetPath}
-use Rattle.cache_lookup.specs.declared.Found.{Found}
-use Rattle.cache_lookup.specs.declared.Found.the-variants.{At, Nothing}
-use Rattle.walk_steps.specs.steps.Steps.{Caches, Core, Question, stops, asks, replaces, Rest, Resting, waits, ended, rests, asking, goes, hitAt, withHit, withPath, step2, step3, step4, step5, step5With, step5Domain, step6, step6Host, step10, dcRequest, domainNamed, step7, step8, step11, linkRequest}
+use Rattle.cache_store.specs.entry_after_reply.Stored.{prefixed}
+use Rattle.walk_steps.specs.steps.Steps.{Caches, Core, Question, stops, asks, replaces, Rest, Resting, waits, ended, rests, asking, goes, hitAt, withHit, withPath, step2, step3, step4, step5, step5With, step5Domain, step6, step6Host, step10, dcRequest, domainNamed, step7, step8, step9, step9With, step11, linkRequest}
 use Rattle.walk_steps.specs.steps.Held.{cachesOf, coreOf, askingOf, nextOf, triedOf}
-use Rattle.walk_steps.specs.steps.Code.{restedOf, endedAt, turning, step2In}
+use Rattle.walk_steps.specs.steps.Code.{restedOf, endedAt}
 use Rattle.walk_steps.specs.declared.steps.Kind.the-variants.{Io}
 use Rattle.walk_steps.specs.declared.steps.End.{End}
 use Rattle.walk_steps.specs.declared.steps.End.the-variants.{LimitReached}
 use Rattle.walk_steps.specs.declared.steps.End.the-variants as ends
 use Rattle.walk_steps.specs.declared.steps.Next.the-variants.{Asks, Ends}
 use Rattle.walk_steps.specs.declared.steps.Rested.{Rested}
-use Rattle.walk_steps.specs.declared.steps.Matched.{Matched}
-use Rattle.walk_steps.specs.declared.steps.Matched.the-variants.{Fresh, Refresh, Stale, Missed}
-use Rattle.walk_steps.proofs.steps.StepLaws.{domain-untried}
-use Rattle.walk_steps.specs.cycle.Code.{Packed, joined, packed, stepsFrom, calledAt, movedTo, Usable}
-use Rattle.walk_steps.proofs.cycle.MatchedLaws.{requestAt, calledBy, hitBy, step2-called, step2-hit}
+use Rattle.walk_steps.specs.cycle.Code.{Packed, joined, packed, movedTo, Usable}
 
 -- a question put: no move is left, its path tried is too long, or it waits
 module _ (w : Core) (q : Question) where
@@ -144,85 +138,93 @@ module _ (refs texts : List ℕ) (len i : ℕ) (s : Standing len texts) (u : Usa
   pub hint-inside : {h : ℕ} → h ≡ entryAt referrals i refs .hint → h < length (entryAt referrals i refs .targets)
   hint-inside h = let z : entryAt referrals i refs .hint < length (entryAt referrals i refs .targets) = referral-told (entryAt referrals i refs) (u .good) .hinted in omega arith
 
+  -- put_target
   module _ (j : ℕ) {t p : List ℕ} (a : t ≡ targetPath j (entryAt referrals i refs)) (b : p ≡ entryAt referrals i refs .prefix) where
     pub new-path : replaced t (length p) (take len texts) ≡ replaced (targetPath j (entryAt referrals i refs)) (length (entryAt referrals i refs .prefix)) (take len texts)
     new-path = λ k. replaced (a k) (length (b k)) (take len texts)
 
-    -- step 8
-    module _ (left began : ℕ) (hit : Bool) (some : left ≡ 0 → ⊥) {g : Written} (f : g ≡ writtenWithin 256 (replaced t (length p) (take len texts))) {o : List ℕ}
-        (m : o ≡ withTried (replaced t (length p) (take len texts)) texts) where
-      pub step8-long : {r : Rested} → g ≡ TooLong → r ≡ endedAt ends.TooLong 0 len left hit → joined r o ≡ packed (asking left (coreOf (take len texts) 0 hit) (step8 (coreOf (take len texts) 0 hit) (entryAt referrals i refs) j began))
-      unfolding step8
-      step8-long h r =
-          let x : 256 < length (replaced t (length p) (take len texts)) = written-long 256 (replaced t (length p) (take len texts)) (sym f ∙ h) in
-          (λ k. joined (r k) (put-long (replaced t (length p) (take len texts)) x m k))
-          ∙ (packed-end len texts s ends.TooLong 0 left 0 hit refl
-          ∙ ap packed (sym (asking-long (coreOf (take len texts) 0 hit) (step8 (coreOf (take len texts) 0 hit) (entryAt referrals i refs) j began) left some (subst (λ (l : List ℕ). 256 < length l) new-path x))))
+    pub put-answer : {g : Written} → g ≡ writtenWithin 256 (replaced t (length p) (take len texts))
+        → g ≡ writtenWithin 256 (replaced (targetPath j (entryAt referrals i refs)) (length (entryAt referrals i refs .prefix)) (take len texts))
+    put-answer f = f ∙ ap (writtenWithin 256) new-path
 
-      pub step8-put : (n : ℕ) → g ≡ Units n
-          → joined (record { next = Asks (record { kind = Io; entry = length p; party = j; began = began; size = 0; covered = false }); path = len; tried = n; left = left - 1; hit = hit }) o
-          ≡ packed (asking left (coreOf (take len texts) 0 hit) (step8 (coreOf (take len texts) 0 hit) (entryAt referrals i refs) j began))
-      unfolding step8 packed rests restedOf nextOf triedOf askingOf
-      step8-put n h =
-          let x = written-units 256 (replaced t (length p) (take len texts)) n (sym f ∙ h) in
-          let y : length (replaced t (length p) (take len texts)) ≤ 256 = x .1 in
-          let v : o ≡ textsOf (take len texts) (replaced t (length p) (take len texts)) = put-fits (take len texts) (replaced t (length p) (take len texts)) (s .stands) (short len texts s) y m in
-          (λ k.
-          record {
-            rested = record {
-              next = Asks (record { kind = Io; entry = length (b k); party = j; began = began; size = 0; covered = false });
-              path = sym (standing-path len texts s) k;
-              tried = (x .0 ∙ ap length new-path) k;
-              left = left - 1;
-              hit = hit;
-            };
-            texts = (v ∙ ap (textsOf (take len texts)) new-path) k;
-          })
-          ∙ ap packed (sym (asking-put (coreOf (take len texts) 0 hit) (step8 (coreOf (take len texts) 0 hit) (entryAt referrals i refs) j began) left some (subst (λ (l : List ℕ). length l ≤ 256) new-path y)))
+    pub put-rooms : {o : List ℕ} → o ≡ withTried (replaced t (length p) (take len texts)) texts
+        → o ≡ withTried (replaced (targetPath j (entryAt referrals i refs)) (length (entryAt referrals i refs .prefix)) (take len texts)) texts
+    put-rooms m = m ∙ ap (λ (l : List ℕ). withTried l texts) new-path
 
-    -- step 11
-    module _ {g : Written} (f : g ≡ writtenWithin 256 (replaced t (length p) (take len texts))) {o : List ℕ}
-        (m : o ≡ withTried (replaced t (length p) (take len texts)) texts) (h : j ≡ entryAt referrals i refs .hint) where
-      stepped : replaced t (length p) (take len texts) ≡ step11 (coreOf (take len texts) 0 true) (entryAt referrals i refs)
-      unfolding step11
-      stepped =
-          new-path
-          ∙ ap (λ (k : ℕ). replaced (targetPath k (entryAt referrals i refs)) (length (entryAt referrals i refs .prefix)) (take len texts)) h
+  -- step 8
+  module _ (j left began : ℕ) (hit : Bool) (some : left ≡ 0 → ⊥) {g : Written}
+      (f : g ≡ writtenWithin 256 (replaced (targetPath j (entryAt referrals i refs)) (length (entryAt referrals i refs .prefix)) (take len texts))) {o : List ℕ}
+      (m : o ≡ withTried (replaced (targetPath j (entryAt referrals i refs)) (length (entryAt referrals i refs .prefix)) (take len texts)) texts) where
+    new8 : List ℕ
+    new8 = replaced (targetPath j (entryAt referrals i refs)) (length (entryAt referrals i refs .prefix)) (take len texts)
 
-      pub step11-answer : (r : Written) → g ≡ r → r ≡ writtenWithin 256 (step11 (coreOf (take len texts) 0 true) (entryAt referrals i refs))
-      step11-answer r q = sym q ∙ (f ∙ ap (writtenWithin 256) stepped)
+    pub step8-long : {r : Rested} → g ≡ TooLong → r ≡ endedAt ends.TooLong 0 len left hit
+        → (size : ℕ) → joined r o ≡ packed (asking left (coreOf (take len texts) size hit) (step8 (coreOf (take len texts) size hit) (entryAt referrals i refs) j began))
+    unfolding step8 new8
+    step8-long h r size =
+        let x : 256 < length new8 = written-long 256 new8 (sym f ∙ h) in
+        (λ k. joined (r k) (put-long new8 x m k))
+        ∙ (packed-end len texts s ends.TooLong 0 left size hit refl
+        ∙ ap packed (sym (asking-long (coreOf (take len texts) size hit) (step8 (coreOf (take len texts) size hit) (entryAt referrals i refs) j began) left some x)))
 
-      pub step11-long : g ≡ TooLong → o ≡ movedTo (step11 (coreOf (take len texts) 0 true) (entryAt referrals i refs)) texts
-      unfolding movedTo
-      step11-long q =
-          let x : 256 < length (replaced t (length p) (take len texts)) = written-long 256 (replaced t (length p) (take len texts)) (sym f ∙ q) in
-          put-long (replaced t (length p) (take len texts)) x m
-          ∙ sym (choose-no _ _ (lt-leb _ _ (subst (λ (l : List ℕ). 256 < length l) stepped x)))
+    pub step8-put : (n : ℕ) → g ≡ Units n → {p : List ℕ} → p ≡ entryAt referrals i refs .prefix → (size : ℕ)
+        → joined (record { next = Asks (record { kind = Io; entry = length p; party = j; began = began; size = 0; covered = false }); path = len; tried = n; left = left - 1; hit = hit }) o
+        ≡ packed (asking left (coreOf (take len texts) size hit) (step8 (coreOf (take len texts) size hit) (entryAt referrals i refs) j began))
+    unfolding step8 packed rests restedOf nextOf triedOf askingOf new8
+    step8-put n h b size =
+        let x = written-units 256 new8 n (sym f ∙ h) in
+        let y : length new8 ≤ 256 = x .1 in
+        let v : o ≡ textsOf (take len texts) new8 = put-fits (take len texts) new8 (s .stands) (short len texts s) y m in
+        (λ k.
+        record {
+          rested = record {
+            next = Asks (record { kind = Io; entry = length (b k); party = j; began = began; size = 0; covered = false });
+            path = sym (standing-path len texts s) k;
+            tried = x .0 k;
+            left = left - 1;
+            hit = hit;
+          };
+          texts = v k;
+        })
+        ∙ ap packed (sym (asking-put (coreOf (take len texts) size hit) (step8 (coreOf (take len texts) size hit) (entryAt referrals i refs) j began) left some y))
 
-      pub step11-room : (n : ℕ) → g ≡ Units n → 512 ≤ length o
-      step11-room n q =
-          let x = written-units 256 (replaced t (length p) (take len texts)) n (sym f ∙ q) in
-          let y : length (replaced t (length p) (take len texts)) ≤ 256 = x .1 in
-          let z : o ≡ textsOf (take len texts) (replaced t (length p) (take len texts)) = put-fits (take len texts) (replaced t (length p) (take len texts)) (s .stands) (short len texts s) y m in
-          omega (arith, ap length z, length-texts (take len texts) (replaced t (length p) (take len texts)) (short len texts s) y)
+-- step 11
+module _ (texts : List ℕ) (len : ℕ) (s : Standing len texts) {new path : List ℕ} (at : new ≡ path) {g : Written} (f : g ≡ writtenWithin 256 new) {o : List ℕ}
+    (m : o ≡ withTried new texts) where
+  pub step11-answer : (r : Written) → g ≡ r → r ≡ writtenWithin 256 path
+  step11-answer r q = sym q ∙ (f ∙ ap (writtenWithin 256) at)
 
-      pub step11-moved : (n : ℕ) → g ≡ Units n → {v : List ℕ} → v ≡ pasted o 0 (part 256 256 o ++ replicate 256 0)
-          → v ≡ movedTo (step11 (coreOf (take len texts) 0 true) (entryAt referrals i refs)) texts
-      unfolding movedTo
-      step11-moved n q d =
-          let x = written-units 256 (replaced t (length p) (take len texts)) n (sym f ∙ q) in
-          let y : length (replaced t (length p) (take len texts)) ≤ 256 = x .1 in
-          d
-          ∙ ((λ k. let z : List ℕ = put-fits (take len texts) (replaced t (length p) (take len texts)) (s .stands) (short len texts s) y m k in pasted z 0 (part 256 256 z ++ replicate 256 0))
-          ∙ (tried-taken (take len texts) (replaced t (length p) (take len texts)) (short len texts s) y
-          ∙ (ap (λ (l : List ℕ). textsOf l []) stepped
-          ∙ sym (choose-yes _ _ (le-leb _ _ (subst (λ (l : List ℕ). length l ≤ 256) stepped y))))))
+  pub step11-long : g ≡ TooLong → o ≡ movedTo path texts
+  unfolding movedTo
+  step11-long q =
+      let x : 256 < length new = written-long 256 new (sym f ∙ q) in
+      put-long new x m ∙ sym (choose-no _ _ (lt-leb _ _ (subst (λ (l : List ℕ). 256 < length l) at x)))
+
+  module _ (n : ℕ) (q : g ≡ Units n) where
+    fits11 : length new ≤ 256
+    fits11 = written-units 256 new n (sym f ∙ q) .1
+
+    rooms11 : o ≡ textsOf (take len texts) new
+    rooms11 = put-fits (take len texts) new (s .stands) (short len texts s) fits11 m
+
+    pub step11-room : 512 ≤ length o
+    step11-room = omega (arith, ap length rooms11, length-texts (take len texts) new (short len texts s) fits11)
+
+    pub step11-moved : {v : List ℕ} → v ≡ pasted o 0 (part 256 256 o ++ replicate 256 0) → v ≡ movedTo path texts
+    unfolding movedTo
+    step11-moved d =
+        d
+        ∙ ((λ k. let z : List ℕ = rooms11 k in pasted z 0 (part 256 256 z ++ replicate 256 0))
+        ∙ (tried-taken (take len texts) new (short len texts s) fits11
+        ∙ (ap (λ (l : List ℕ). textsOf l []) at
+        ∙ sym (choose-yes _ _ (le-leb _ _ (subst (λ (l : List ℕ). length l ≤ 256) at fits11))))))
 
 -- the try at the target hinted at
-pub hinted-try : (left : ℕ) (w : Core) (i : ℕ) (refs : List ℕ) {h : ℕ} {x : Packed} → x ≡ packed (asking left w (step8 w (entryAt referrals i refs) h h))
-    → h ≡ entryAt referrals i refs .hint
-    → x ≡ packed (asking left w (step8 w (entryAt referrals i refs) (entryAt referrals i refs .hint) (entryAt referrals i refs .hint)))
-hinted-try left w i refs e g = e ∙ ap (λ (k : ℕ). packed (asking left w (step8 w (entryAt referrals i refs) k k))) g
+pub hinted-try : (left : ℕ) (p : List ℕ) (hit : Bool) (i : ℕ) (refs : List ℕ) {h : ℕ} {x : Packed}
+    → ((size : ℕ) → x ≡ packed (asking left (coreOf p size hit) (step8 (coreOf p size hit) (entryAt referrals i refs) h h))) → h ≡ entryAt referrals i refs .hint
+    → (size : ℕ) → x ≡ packed (asking left (coreOf p size hit) (step3 (coreOf p size hit) (entryAt referrals i refs)))
+unfolding step3
+hinted-try left p hit i refs e g size = e size ∙ ap (λ (k : ℕ). packed (asking left (coreOf p size hit) (step8 (coreOf p size hit) (entryAt referrals i refs) k k))) g
 
 -- the size given plays no part in an I/O try
 pub tried-size : (left : ℕ) (p : List ℕ) (a z : ℕ) (hit : Bool) (e : Referral) (j b : ℕ)
@@ -253,23 +255,6 @@ unfolding goes
 goes-stops zero c clock w e status tried = refl
 goes-stops (suc n) c clock w e status tried = refl
 
-host-untried : (w : Core) → step5With w none .tried ≡ []
-unfolding step5With step6Host
-host-untried w = refl
-
-with-untried : (w : Core) (d : Domain) → step5With w (some d) .tried ≡ []
-unfolding step5With
-with-untried w d = domain-untried w d
-
--- step 5 puts a question without a path tried, whatever the hit
-step5-untried : (raw : List ℕ) (w : Core) → step5 (decode domains raw) w .tried ≡ []
-unfolding step5
-step5-untried raw w = go (domainNamed (getD (components (w .path)) 0 []) (decode domains raw))
-  where
-    go : (o : Option Domain) → step5With w o .tried ≡ []
-    go none = host-untried w
-    go (some d) = with-untried w d
-
 host-hit : (p : List ℕ) (s : ℕ) (h g : Bool) → step5With (coreOf p s h) none ≡ step5With (coreOf p s g) none
 unfolding step5With step6Host
 host-hit p s h g = refl
@@ -282,7 +267,7 @@ target-good : (e : Referral) → every goodTarget (e .targets) ≡ true → e .h
 unfolding targetPath goodTarget
 target-good e h u = every-at goodTarget (e .targets) h (e .hint) _ u
 
-step5-hit : (raw p : List ℕ) (s : ℕ) (h g : Bool) → step5 (decode domains raw) (coreOf p s h) ≡ step5 (decode domains raw) (coreOf p s g)
+pub step5-hit : (raw p : List ℕ) (s : ℕ) (h g : Bool) → step5 (decode domains raw) (coreOf p s h) ≡ step5 (decode domains raw) (coreOf p s g)
 unfolding step5
 step5-hit raw p s h g = go (domainNamed (getD (components p) 0 []) (decode domains raw))
   where
@@ -290,30 +275,22 @@ step5-hit raw p s h g = go (domainNamed (getD (components p) 0 []) (decode domai
     go none = host-hit p s h g
     go (some d) = with-hit p s h g d
 
--- steps 7 and 4: where they lead, whatever the hit
-module _ (w : Core) (e : Referral) where
-  pub turns-to : turning (w .path) e ≡ true → step7 w e ≡ replaces (step11 w e)
-  unfolding step7 step4 turning
-  turns-to h =
-      choose-no _ _ (not-true _ (and-left (not (e .settings .root)) _ h)) ∙ choose-yes _ _ (and-right (not (e .settings .root)) _ h)
+-- steps 9 and 7, whatever the hit
+pub step9-hit : (refs doms p : List ℕ) (s : ℕ) (h g : Bool) → step9 (cachesOf refs doms) (coreOf p s h) ≡ step9 (cachesOf refs doms) (coreOf p s g)
+unfolding step9 cachesOf step9With linkRequest
+step9-hit refs doms p s h g = go (prefixed (firstOf 2 p) (decode referrals refs))
+  where
+    go : (o : Option Referral) → step9With (cachesOf refs doms) (coreOf p s h) o ≡ step9With (cachesOf refs doms) (coreOf p s g) o
+    go none = step5-hit doms p s h g
+    go (some e) = ap (choose (e .settings .root) (linkRequest (coreOf p s h) (length (e .prefix)) (e .hint) (e .hint) false)) (step5-hit doms p s h g)
 
-  pub tries-at : turning (w .path) e ≡ false → step7 w e ≡ asks (step3 w e)
-  unfolding step7 step4 turning choose
-  tries-at h = go (told (e .settings .root)) (told (not (isSysvol (w .path)) && e .settings .interlink))
-    where
-      go : (e .settings .root ≡ true) ⊎ (e .settings .root ≡ false) → ((not (isSysvol (w .path)) && e .settings .interlink) ≡ true) ⊎ ((not (isSysvol (w .path)) && e .settings .interlink) ≡ false)
-          → choose (e .settings .root) (asks (step3 w e)) (choose (not (isSysvol (w .path)) && e .settings .interlink) (replaces (step11 w e)) (asks (step3 w e))) ≡ asks (step3 w e)
-      go (inl t) u = choose-yes _ _ t
-      go (inr t) (inl u) = absurd (not-both (and-both (ap not t) u) h)
-      go (inr t) (inr u) = choose-no _ _ t ∙ choose-no _ _ u
-
-step7-hit : (p : List ℕ) (s : ℕ) (h g : Bool) (e : Referral) → step7 (coreOf p s h) e ≡ step7 (coreOf p s g) e
+pub step7-hit : (p : List ℕ) (s : ℕ) (h g : Bool) (e : Referral) → step7 (coreOf p s h) e ≡ step7 (coreOf p s g) e
 unfolding step7 step4 step3 step8 step11
 step7-hit p s h g e = refl
 
 -- a replacement
 module _ (c : Caches) (clock : ℕ) (w : Core) (p : List ℕ) where
-  replaces-limit : (left : ℕ) → left ≡ 0 → goes left c clock w (replaces p) ≡ rests w left (ended LimitReached 0 [])
+  pub replaces-limit : (left : ℕ) → left ≡ 0 → goes left c clock w (replaces p) ≡ rests w left (ended LimitReached 0 [])
   unfolding goes
   replaces-limit zero h = refl
   replaces-limit (suc n) h = absurd (omega arith)
@@ -355,8 +332,7 @@ unfolding goodPrefix normalisedCount
 good-made s g = ap (leb 2) (choose-yes _ _ (and-both (le-leb _ _ (g .short-path)) (g .normal))) ∙ le-leb 2 _ (g .two)
 
 pub new-good : (path : List ℕ) (e : Referral) → goodPrefix path ≡ true → goodReferral e ≡ true → matches (e .prefix) path ≡ true
-    → length (step11 (coreOf path 0 true) e) ≤ 256 → goodPrefix (step11 (coreOf path 0 true) e) ≡ true
-unfolding step11
+    → length (replaced (targetPath (e .hint) e) (length (e .prefix)) path) ≤ 256 → goodPrefix (replaced (targetPath (e .hint) e) (length (e .prefix)) path) ≡ true
 new-good path e h g m u =
     let t = referral-told e g in
     let a : GoodPath (targetPath (e .hint) e) = good-told _ (target-good e (t .each) (t .hinted)) in
@@ -365,101 +341,3 @@ new-good path e h g m u =
       normal = replaced-normalised (targetPath (e .hint) e) (e .prefix) path (a .normal) (good-told path h .normal) m (let z : 1 ≤ length (e .prefix) = prefix-some (e .prefix) (t .prefixed) in omega arith);
       two = let z : componentCount (targetPath (e .hint) e) ≤ componentCount (replaced (targetPath (e .hint) e) (length (e .prefix)) path) = replaced-count (targetPath (e .hint) e) (length (e .prefix)) path in omega (arith, a .two);
     })
-
--- the members of the cycle
-module _ (refs doms texts : List ℕ) (len left size clock : ℕ) where
-  pub domain-asked : (hit : Bool) (stored : Found) {r : Rested} → Standing len texts → stored ≡ Nothing
-      → r ≡ restedOf (asking left (coreOf (take len texts) size hit) (step5 (decode domains doms) (coreOf (take len texts) size hit)))
-      → joined r texts ≡ stepsFrom left refs doms clock (coreOf (take len texts) size hit) (calledAt refs doms (coreOf (take len texts) size hit) stored)
-  unfolding stepsFrom calledAt
-  domain-asked hit stored s n h =
-      packed-asked len texts s left size hit (step5 (decode domains doms) (coreOf (take len texts) size hit)) (step5-untried doms (coreOf (take len texts) size hit)) h
-      ∙ (ap packed (sym (goes-asks left (cachesOf refs doms) clock (coreOf (take len texts) size hit) (step5 (decode domains doms) (coreOf (take len texts) size hit))))
-      ∙ ap (λ (f : Found). packed (goes left (cachesOf refs doms) clock (coreOf (take len texts) size hit) (calledAt refs doms (coreOf (take len texts) size hit) f))) (sym n))
-
-  pub domain-linked : (hit : Bool) (stored : Found) (i : ℕ) {x : Packed} → hit ≡ true → stored ≡ At i
-      → x ≡ stepsFrom left refs doms clock (coreOf (take len texts) size true) (step7 (coreOf (take len texts) size true) (entryAt referrals i refs))
-      → x ≡ stepsFrom left refs doms clock (coreOf (take len texts) size hit) (calledAt refs doms (coreOf (take len texts) size hit) stored)
-  unfolding calledAt
-  domain-linked hit stored i t n h =
-      h ∙ (λ k. stepsFrom left refs doms clock (coreOf (take len texts) size (sym t k)) (calledAt refs doms (coreOf (take len texts) size (sym t k)) (sym n k)))
-
-  -- step 3
-  pub tried-steps : (i : ℕ) {x : Packed}
-      → x ≡ packed (asking left (coreOf (take len texts) 0 true) (step8 (coreOf (take len texts) 0 true) (entryAt referrals i refs) (entryAt referrals i refs .hint) (entryAt referrals i refs .hint)))
-      → x ≡ stepsFrom left refs doms clock (coreOf (take len texts) size true) (asks (step3 (coreOf (take len texts) size true) (entryAt referrals i refs)))
-  unfolding stepsFrom step3
-  tried-steps i h =
-      h
-      ∙ (tried-size left (take len texts) 0 size true (entryAt referrals i refs) (entryAt referrals i refs .hint) (entryAt referrals i refs .hint)
-      ∙ ap packed (sym (goes-asks left (cachesOf refs doms) clock (coreOf (take len texts) size true) (step3 (coreOf (take len texts) size true) (entryAt referrals i refs)))))
-
-  -- step 9
-  pub link-steps : (i : ℕ) {r : Rested} → Standing len texts
-      → r ≡ restedOf (asking left (coreOf (take len texts) size true) (linkRequest (coreOf (take len texts) size true) (length (entryAt referrals i refs .prefix)) (entryAt referrals i refs .hint) (entryAt referrals i refs .hint) false))
-      → joined r texts ≡ stepsFrom left refs doms clock (coreOf (take len texts) size true) (requestAt (coreOf (take len texts) size true) refs i)
-  unfolding linkRequest stepsFrom
-  link-steps i s f =
-      packed-asked len texts s left size true (linkRequest (coreOf (take len texts) size true) (length (entryAt referrals i refs .prefix)) (entryAt referrals i refs .hint) (entryAt referrals i refs .hint) false) refl f
-      ∙ ap packed (sym (goes-asks left (cachesOf refs doms) clock (coreOf (take len texts) size true) (linkRequest (coreOf (take len texts) size true) (length (entryAt referrals i refs .prefix)) (entryAt referrals i refs .hint) (entryAt referrals i refs .hint) false)))
-
-  -- an end
-  pub end-steps : (e : End) {r : Rested} → Standing len texts → r ≡ endedAt e 0 len left true
-      → joined r texts ≡ stepsFrom left refs doms clock (coreOf (take len texts) size true) (stops e 0 [])
-  unfolding stepsFrom
-  end-steps e s f =
-      packed-end len texts s e 0 left size true f ∙ ap packed (sym (goes-stops left (cachesOf refs doms) clock (coreOf (take len texts) size true) e 0 []))
-
-  -- lookup, by what step 2 finds
-  module _ (hit : Bool) (order : inOrder referrals refs ≡ true) {m : Matched} (e : m ≡ step2In clock (take len texts) refs) where
-    found : stepsFrom left refs doms clock (withHit (hitBy refs doms (coreOf (take len texts) size hit) m) (coreOf (take len texts) size hit)) (calledBy refs doms (coreOf (take len texts) size hit) m)
-        ≡ stepsFrom left refs doms clock (withHit (hitAt (cachesOf refs doms) (coreOf (take len texts) size hit)) (coreOf (take len texts) size hit)) (step2 (cachesOf refs doms) (coreOf (take len texts) size hit) clock)
-    found =
-        λ k.
-        stepsFrom left refs doms clock
-        (withHit ((ap (hitBy refs doms (coreOf (take len texts) size hit)) e ∙ sym (step2-hit refs doms (coreOf (take len texts) size hit) clock order)) k) (coreOf (take len texts) size hit))
-        ((ap (calledBy refs doms (coreOf (take len texts) size hit)) e ∙ sym (step2-called refs doms (coreOf (take len texts) size hit) clock)) k)
-
-    by : (n : Matched) → m ≡ n
-        → stepsFrom left refs doms clock (withHit (hitBy refs doms (coreOf (take len texts) size hit) n) (coreOf (take len texts) size hit)) (calledBy refs doms (coreOf (take len texts) size hit) n)
-        ≡ stepsFrom left refs doms clock (withHit (hitAt (cachesOf refs doms) (coreOf (take len texts) size hit)) (coreOf (take len texts) size hit)) (step2 (cachesOf refs doms) (coreOf (take len texts) size hit) clock)
-    by n h =
-        ap (λ (x : Matched). stepsFrom left refs doms clock (withHit (hitBy refs doms (coreOf (take len texts) size hit) x) (coreOf (take len texts) size hit)) (calledBy refs doms (coreOf (take len texts) size hit) x)) (sym h)
-        ∙ found
-
-    pub lookup-fresh : (i : ℕ) {x : Packed} → m ≡ Fresh i
-        → x ≡ stepsFrom left refs doms clock (coreOf (take len texts) size true) (step7 (coreOf (take len texts) size true) (entryAt referrals i refs))
-        → x ≡ stepsFrom left refs doms clock (withHit (hitAt (cachesOf refs doms) (coreOf (take len texts) size hit)) (coreOf (take len texts) size hit)) (step2 (cachesOf refs doms) (coreOf (take len texts) size hit) clock)
-    unfolding withHit calledBy hitBy
-    lookup-fresh i h f =
-        f
-        ∙ (ap (stepsFrom left refs doms clock (coreOf (take len texts) size true)) (step7-hit (take len texts) size true hit (entryAt referrals i refs))
-        ∙ by (Fresh i) h)
-
-    pub lookup-refresh : (i : ℕ) {x : Packed} → m ≡ Refresh i
-        → x ≡ stepsFrom left refs doms clock (coreOf (take len texts) size true) (requestAt (coreOf (take len texts) size true) refs i)
-        → x ≡ stepsFrom left refs doms clock (withHit (hitAt (cachesOf refs doms) (coreOf (take len texts) size hit)) (coreOf (take len texts) size hit)) (step2 (cachesOf refs doms) (coreOf (take len texts) size hit) clock)
-    unfolding withHit calledBy hitBy linkRequest
-    lookup-refresh i h f = f ∙ by (Refresh i) h
-
-    pub lookup-stale : {x : Packed} → m ≡ Stale
-        → x ≡ stepsFrom left refs doms clock (coreOf (take len texts) size true) (calledAt refs doms (coreOf (take len texts) size true) Nothing)
-        → x ≡ stepsFrom left refs doms clock (withHit (hitAt (cachesOf refs doms) (coreOf (take len texts) size hit)) (coreOf (take len texts) size hit)) (step2 (cachesOf refs doms) (coreOf (take len texts) size hit) clock)
-    unfolding withHit calledBy hitBy calledAt
-    lookup-stale h f =
-        f
-        ∙ (ap (λ (q : Question). stepsFrom left refs doms clock (coreOf (take len texts) size true) (asks q)) (step5-hit doms (take len texts) size true hit)
-        ∙ by Stale h)
-
-    pub lookup-missed : {x : Packed} → m ≡ Missed
-        → x ≡ stepsFrom left refs doms clock (coreOf (take len texts) size hit) (calledAt refs doms (coreOf (take len texts) size hit) Nothing)
-        → x ≡ stepsFrom left refs doms clock (withHit (hitAt (cachesOf refs doms) (coreOf (take len texts) size hit)) (coreOf (take len texts) size hit)) (step2 (cachesOf refs doms) (coreOf (take len texts) size hit) clock)
-    unfolding withHit calledBy hitBy calledAt
-    lookup-missed h f = f ∙ by Missed h
-
-  -- interlink
-  module _ (i : ℕ) (s : Standing len texts) where
-    pub inter-limit : {r : Rested} → left ≡ 0 → r ≡ endedAt LimitReached 0 len left true
-        → joined r texts ≡ stepsFrom left refs doms clock (coreOf (take len texts) size true) (replaces (step11 (coreOf (take len texts) size true) (entryAt referrals i refs)))
-    unfolding stepsFrom
-    inter-limit h f = packed-end len texts s LimitReached 0 left size true f ∙ ap packed (sym (replaces-limit _ clock _ _ left h))

@@ -1,558 +1,590 @@
 -- Laws of the points of the steps.
 use mathlib.Core.Path.{_≡_, refl, sym, ap, _∙_, subst}
-use mathlib.Core.Bool.{Bool, true, false}
+use mathlib.Core.Bool.{Bool, true, false, _&&_}
 use mathlib.Core.List.{List, []}
 use mathlib.Core.Logic.{_⊎_, inl, inr}
-use Prim.Native.Nat.{ℕ, zero, suc, _+_, _*_, _-_, _/_, _%_, _≤_, _<_}
+use Prim.Native.Nat.{ℕ, _+_, _*_, _-_, _/_, _%_, _≤_, _<_}
 use native.Mathlib.Omega.{arith}
-use native.Mathlib.Numerals.{add-one}
 use lib.ListN.{length, take}
-use borrow.Author.Tests.{le-leb, lt-leb}
+use lib.Dec.{eqb}
+use borrow.Author.Tests.{le-leb, lt-leb, eq-eqb, ne-eqb, eqb-true}
 use Rattle.laws.specs.Choice.{choose}
-use Rattle.laws.proofs.Choices.{choose-yes, choose-no}
-use Rattle.laws.proofs.Orders.{told, lt-or-le}
+use Rattle.laws.proofs.Choices.{choose-yes, choose-no, and-left, and-right}
+use Rattle.laws.proofs.Tests.{not-both}
+use Rattle.laws.proofs.Orders.{told}
 use Rattle.unc.specs.names.Code.{writtenWithin}
+use Rattle.unc.specs.names.Paths.{isSysvol, replaced}
 use Rattle.unc.specs.declared.names.Written.{Written}
 use Rattle.unc.specs.declared.names.Written.the-variants.{Units, TooLong}
 use Rattle.walk_steps.specs.walk_texts.Texts.{textsOf}
 use Rattle.walk_steps.specs.walk_texts.Code.{Standing}
-use Rattle.walk_steps.proofs.walk_texts.TextLaws.{path-in, taken-stands, told-fits, written-units, written-long}
+use Rattle.walk_steps.proofs.walk_texts.TextLaws.{path-in, taken-stands, written-units, written-long}
 use Rattle.cache.specs.places.Layout.{placeCount}
 use Rattle.cache.specs.order.Order.{goodPrefix}
 use Rattle.cache.specs.order.Memory.{referrals, domains, decode, inOrder}
 use Rattle.cache.proofs.order.MemoryLaws.{cache-told, order-good, length-decode}
+use Rattle.cache_lookup.specs.Lookup.{longestMatch, targetPath}
 use Rattle.cache_lookup.specs.Code.{entryAt}
-use Rattle.cache_lookup.specs.declared.Found.the-variants.{Nothing}
-use Rattle.walk_steps.specs.steps.Steps.{Core, asks, asking, hitAt, withHit, withPath, step2, step5, step7, step8, step11, linkRequest}
-use Rattle.walk_steps.specs.steps.Held.{cachesOf, coreOf}
-use Rattle.walk_steps.specs.steps.Code.{restedOf, endedAt, turning, step2In}
+use Rattle.cache_lookup.specs.declared.Found.{Found}
+use Rattle.cache_lookup.specs.declared.Found.the-variants.{At, Nothing}
+use Rattle.cache.specs.order.Entries.{Referral}
+use Rattle.walk_steps.specs.declared.steps.Kind.{Kind}
+use Rattle.walk_steps.specs.declared.steps.Kind.the-variants.{Dc, Root, Link, Sysvol}
+use Rattle.walk_steps.specs.steps.Steps.{Core, Question, asks, asking, goes, turned, fromStep2, step3, step5, step6Host, step11, linkRequest}
+use Rattle.walk_steps.specs.steps.Held.{cachesOf, coreOf, askingOf}
+use Rattle.walk_steps.specs.steps.Code.{endedAt, askedAt, domainAsking, rootIn}
 use Rattle.walk_steps.specs.declared.steps.End.the-variants.{LimitReached}
 use Rattle.walk_steps.specs.declared.steps.End.the-variants as ends
+use Rattle.walk_steps.specs.declared.steps.Asking.{Asking}
 use Rattle.walk_steps.specs.declared.steps.Rested.{Rested}
-use Rattle.walk_steps.specs.declared.steps.Matched.{Matched}
-use Rattle.walk_steps.specs.declared.steps.Matched.the-variants.{Fresh, Refresh, Stale, Missed}
-use Rattle.walk_steps.specs.cycle.Code.{Packed, joined, packed, stepsFrom, calledAt, movedTo, Ready, Usable, whatOf, placeIn, unitsOf, leftOf, calledFor, stepsAt, Point, Halted, SameRest, pointFresh, pointFound, goneTo, pointReached}
-use Rattle.walk_steps.proofs.cycle.MatchedLaws.{fresh-usable, refresh-fits}
-use Rattle.walk_steps.proofs.cycle.MoveLaws.{standing-path, new-good, turns-to, tries-at, lookup-fresh, lookup-refresh, lookup-stale, lookup-missed, replaces-long, replaces-made, goes-stops, domain-asked, tried-steps, link-steps, end-steps, inter-limit}
+use Rattle.walk_steps.specs.cycle.Code.{Packed, joined, packed, stepsFrom, calledAfter, movedTo, Ready, Usable, due2, due5, due9, due7, due11, toTry, askLink, askDc, askDomain, askHost, tooLong, nowhere, noDc, whatOf, placeIn, hitIn, unitsOf, leftOf, Parts, domainRequest, kindAt, linkAt, questionAt, calledAt, turnAt, stepsBy, stepsAt, Point, Halted, Follows, SameRest, FoundAt, DcAt, Sought, afterMatch, Matched, replacedAt}
+use Rattle.walk_steps.proofs.steps.HeldLaws.{longest-fits, longest-good, longest-matches}
+use Rattle.walk_steps.proofs.steps.StepLaws.{asked-as}
+use Rattle.walk_steps.proofs.cycle.MoveLaws.{new-good, goes-asks, packed-asked, packed-end, goes-stops, replaces-limit}
+use Rattle.walk_steps.proofs.cycle.CaseLaws.{by2, by5, by7, by11, by-try, by-long, two-none, two-at, after-range, five-host, five-without, five-dc, nine-none, nine-at, root-fits, seven-root, four-sysvol, four-other, four-interlink, eleven-long, eleven-made}
 
 -- a cache in order has 32 places at most
 pub place-few : (refs : List ℕ) (i : ℕ) → inOrder referrals refs ≡ true → i < placeCount refs → i < 32
 place-few refs i h u = omega (arith, cache-told referrals (decode referrals refs) (order-good referrals refs h) .most, length-decode referrals refs)
 
--- the parts of a point
-module _ (what i n left : ℕ) (a : what < 8) (b : i < 32) (c : n ≤ 256) where
-  what-in : (what + 8 * i + 256 * n + 131072 * left) % 8 ≡ what
-  what-in = omega arith
-
-  place-in : (what + 8 * i + 256 * n + 131072 * left) / 8 % 32 ≡ i
-  place-in = omega arith
-
-  units-in : (what + 8 * i + 256 * n + 131072 * left) / 256 % 512 ≡ n
-  units-in = omega arith
-
-  left-in : (what + 8 * i + 256 * n + 131072 * left) / 131072 ≡ left
-  left-in = omega arith
-
-  steps-made : (refs doms texts : List ℕ) (size clock : ℕ) → stepsAt refs doms size clock (what + 8 * i + 256 * n + 131072 * left) texts
-      ≡ stepsFrom left refs doms clock (coreOf (take n texts) size true) (calledFor doms (coreOf (take n texts) size true) (entryAt referrals i refs) what)
-  unfolding stepsAt
-  steps-made refs doms texts size clock =
-      λ k.
-      stepsFrom (left-in k) refs doms clock (coreOf (take (units-in k) texts) size true)
-      (calledFor doms (coreOf (take (units-in k) texts) size true) (entryAt referrals (place-in k) refs) (what-in k))
-
-  point-made : (refs texts : List ℕ) → left < 65536 → Ready refs texts n → (what < 2 → Usable refs (take n texts) i) → (what ≡ 2 → i < placeCount refs)
-      → Point refs texts (what + 8 * i + 256 * n + 131072 * left)
-  point-made refs texts l r u f = record {
-    ready = subst (λ (m : ℕ). Ready refs texts m) (sym units-in) r;
-    usable = λ h. subst (λ (m : ℕ). Usable refs (take m texts) ((what + 8 * i + 256 * n + 131072 * left) / 8 % 32)) (sym units-in) (subst (λ (j : ℕ). Usable refs (take n texts) j) (sym place-in) (u (omega (arith, what-in))));
-    fits = λ h. let z : i < placeCount refs = f (sym what-in ∙ h) in omega (arith, place-in);
-    counted = omega (arith, left-in);
+-- the parts of a number
+module _ (what i len left : ℕ) (a : what < 16) (b : i < 65536) (c : len ≤ 256) where
+  pub parts-hit : {hit : Bool} {n : ℕ} → hit ≡ true → n ≡ what + 16 * i + 2097152 * len + 1073741824 * left + 1048576 → Parts what i hit len left n
+  parts-hit {hit} {n} t e = record {
+    its-case = omega arith;
+    its-place = omega arith;
+    its-hit = eq-eqb (n / 1048576 % 2) 1 (omega arith) ∙ sym t;
+    its-units = omega arith;
+    its-left = omega arith;
   }
 
--- a fresh entry
-module _ (refs texts : List ℕ) (len i : ℕ) (s : Standing len texts) {b : Bool} (t : b ≡ turning (take len texts) (entryAt referrals i refs)) where
-  pub fresh-turns : {r : ℕ} → b ≡ true → r ≡ 1 + 8 * i + 256 * len → r ≡ pointFresh refs (take len texts) i
-  unfolding pointFresh
-  fresh-turns u h = h ∙ (λ k. sym (choose-yes 1 0 (sym t ∙ u)) k + 8 * i + 256 * sym (standing-path len texts s) k)
+  pub parts-new : {hit : Bool} {n : ℕ} → hit ≡ false → n ≡ what + 16 * i + 2097152 * len + 1073741824 * left → Parts what i hit len left n
+  parts-new {hit} {n} t e = record {
+    its-case = omega arith;
+    its-place = omega arith;
+    its-hit = ne-eqb (n / 1048576 % 2) 1 (λ z. omega arith) ∙ sym t;
+    its-units = omega arith;
+    its-left = omega arith;
+  }
 
-  pub fresh-tries : {r : ℕ} → b ≡ false → r ≡ 0 + 8 * i + 256 * len → r ≡ pointFresh refs (take len texts) i
-  unfolding pointFresh
-  fresh-tries u h = h ∙ (λ k. sym (choose-no 1 0 (sym t ∙ u)) k + 8 * i + 256 * sym (standing-path len texts s) k)
+module _ (what i n : ℕ) (a : what < 16) (b : i < 65536) where
+  pub parts-kept : {r : ℕ} → r ≡ n / 1048576 * 1048576 + 16 * i + what → Parts what i (hitIn n) (unitsOf n) (leftOf n) r
+  parts-kept {r} e = record {
+    its-case = omega arith;
+    its-place = omega arith;
+    its-hit = let z : r / 1048576 % 2 ≡ n / 1048576 % 2 = omega arith in ap (λ (k : ℕ). eqb k 1) z;
+    its-units = omega arith;
+    its-left = omega arith;
+  }
 
--- what step 2 finds
-module _ (refs texts : List ℕ) (len clock : ℕ) {m : Matched} (e : m ≡ step2In clock (take len texts) refs) where
-  pub found-fresh : (i : ℕ) {r : ℕ} → m ≡ Fresh i → r ≡ pointFresh refs (take len texts) i → r ≡ pointFound refs (take len texts) (step2In clock (take len texts) refs)
-  unfolding pointFound
-  found-fresh i h f = f ∙ ap (pointFound refs (take len texts)) (sym h ∙ e)
+  pub parts-found : {r : ℕ} → r ≡ n / 2097152 * 2097152 + 1048576 + 16 * i + what → Parts what i true (unitsOf n) (leftOf n) r
+  parts-found {r} e = record {
+    its-case = omega arith;
+    its-place = omega arith;
+    its-hit = eq-eqb (r / 1048576 % 2) 1 (omega arith);
+    its-units = omega arith;
+    its-left = omega arith;
+  }
 
-  module _ (s : Standing len texts) where
-    pub found-refresh : (i : ℕ) {r : ℕ} → m ≡ Refresh i → r ≡ 2 + 8 * i + 256 * len → r ≡ pointFound refs (take len texts) (step2In clock (take len texts) refs)
-    unfolding pointFound
-    found-refresh i h f =
-        f ∙ (ap (λ (k : ℕ). 2 + 8 * i + 256 * k) (sym (standing-path len texts s)) ∙ ap (pointFound refs (take len texts)) (sym h ∙ e))
+-- what the look-ups find
+pub found-at : {f : Found} (i : ℕ) → i < 65536 → f ≡ At i → FoundAt f i
+found-at i l e = record { none = λ h. absurd (omega arith); there = λ h. e }
 
-    pub found-stale : {r : ℕ} → m ≡ Stale → r ≡ 4 + 8 * 0 + 256 * len → r ≡ pointFound refs (take len texts) (step2In clock (take len texts) refs)
-    unfolding pointFound
-    found-stale h f = f ∙ (ap (λ (k : ℕ). 4 + 256 * k) (sym (standing-path len texts s)) ∙ ap (pointFound refs (take len texts)) (sym h ∙ e))
+pub found-none : {f : Found} → f ≡ Nothing → FoundAt f nowhere
+found-none e = record { none = λ h. e; there = λ h. absurd (h refl) }
 
-    pub found-missed : {r : ℕ} → m ≡ Missed → r ≡ 5 + 8 * 0 + 256 * len → r ≡ pointFound refs (take len texts) (step2In clock (take len texts) refs)
-    unfolding pointFound
-    found-missed h f = f ∙ (ap (λ (k : ℕ). 5 + 256 * k) (sym (standing-path len texts s)) ∙ ap (pointFound refs (take len texts)) (sym h ∙ e))
+module _ (doms path : List ℕ) where
+  pub dc-none : ((size : ℕ) (hit : Bool) → step5 (decode domains doms) (coreOf path size hit) ≡ step6Host (coreOf path size hit)) → DcAt doms path nowhere
+  dc-none e = record { host = λ h. e; without = λ h. absurd (omega arith); dc = λ a b. absurd (a refl); few = λ a b. absurd (a refl) }
 
--- the path as it is, and step 11
-module _ (refs texts : List ℕ) (len : ℕ) where
-  pub path-stays : (by : ℕ) → Standing len texts → by ≡ 0 → (Units len ≡ writtenWithin 256 (goneTo refs (take len texts) by)) × (texts ≡ movedTo (goneTo refs (take len texts) by) texts)
-  unfolding goneTo movedTo
-  path-stays zero s h = (
-    told-fits 256 (take len texts) (sym (standing-path len texts s)) (s .few),
-    s .stands ∙ sym (choose-yes (textsOf (take len texts) []) texts (le-leb (length (take len texts)) 256 (let z : length (take len texts) ≡ len = standing-path len texts s in omega (arith, s .few)))),
-  )
-  path-stays (suc i) s h = absurd (omega arith)
+  pub dc-bare : ((size : ℕ) (hit : Bool) → step5 (decode domains doms) (coreOf path size hit) ≡ domainRequest Dc (coreOf path size hit) 0) → DcAt doms path noDc
+  dc-bare e = record { host = λ h. absurd (omega arith); without = λ h. e; dc = λ a b. absurd (b refl); few = λ a b. absurd (b refl) }
 
-  pub path-goes : (by : ℕ) → (by ≡ 0 → ⊥) → step11 (coreOf (take len texts) 0 true) (entryAt referrals (by - 1) refs) ≡ goneTo refs (take len texts) by
-  unfolding goneTo
-  path-goes zero h = absurd (h refl)
-  path-goes (suc i) h = let z : suc i - 1 ≡ i = omega arith in ap (λ (j : ℕ). step11 (coreOf (take len texts) 0 true) (entryAt referrals j refs)) z
+  pub dc-there : (h : ℕ) {g : ℕ} → h < 65536 → h ≡ g
+      → ((size : ℕ) (hit : Bool) → step5 (decode domains doms) (coreOf path size hit) ≡ domainRequest (choose (isSysvol path) Sysvol Root) (coreOf path size hit) g) → DcAt doms path h
+  dc-there h {g} l e f =
+      subst (λ (k : ℕ). DcAt doms path k) (sym e)
+      (record {
+        host = λ z. absurd (omega arith);
+        without = λ z. absurd (omega arith);
+        dc = λ a b. f;
+        few = λ a b. omega arith;
+      })
 
-  pub good-gone : (by : ℕ) → goodPrefix (take len texts) ≡ true → ((i : ℕ) → by ≡ suc i → Usable refs (take len texts) i)
-      → length (goneTo refs (take len texts) by) ≤ 256 → goodPrefix (goneTo refs (take len texts) by) ≡ true
-  unfolding goneTo
-  good-gone zero g u l = g
-  good-gone (suc i) g u l = new-good (take len texts) (entryAt referrals i refs) g (u i refl .good) (u i refl .matched) l
+pub longest-few : (path raw : List ℕ) (i : ℕ) → inOrder referrals raw ≡ true → longestMatch path (decode referrals raw) ≡ At i → i < 65536
+longest-few path raw i o e = let z : i < 32 = place-few raw i o (longest-fits path raw i e) in omega arith
 
--- step 11 if it is due, and step 2
-module _ (refs : List ℕ) (path texts : List ℕ) (len clock : ℕ) {g : Written} (f : g ≡ writtenWithin 256 path) {o : List ℕ} (v : o ≡ movedTo path texts) where
-  pub reached-long : {r : ℕ} → g ≡ TooLong → r ≡ 3 + 8 * 0 + 256 * len → r ≡ pointReached refs clock len path
-  unfolding pointReached
-  reached-long h e = e ∙ sym (choose-no _ _ (lt-leb _ _ (written-long 256 path (sym f ∙ h))))
+pub root-place : (path raw : List ℕ) (i : ℕ) → inOrder referrals raw ≡ true → rootIn path raw ≡ At i → i < 65536
+root-place path raw i o e = let z : i < 32 = place-few raw i o (root-fits path raw i e) in omega arith
 
-  module _ (n : ℕ) (h : g ≡ Units n) where
-    fit : (n ≡ length path) × (length path ≤ 256)
-    fit = written-units 256 path n (sym f ∙ h)
+-- by the units of a point
+module _ (texts : List ℕ) (n : ℕ) {u : ℕ} (a : u ≡ unitsOf n) where
+  pub units-stand : Standing (unitsOf n) texts → Standing u texts
+  units-stand s = subst (λ (k : ℕ). Standing k texts) (sym a) s
 
-    rooms : o ≡ textsOf path []
-    unfolding movedTo
-    rooms = v ∙ choose-yes _ _ (le-leb _ _ (fit .1))
+  pub units-good : goodPrefix (take (unitsOf n) texts) ≡ true → goodPrefix (take u texts) ≡ true
+  units-good g = ap (λ (k : ℕ). goodPrefix (take k texts)) a ∙ g
 
-    there : take n o ≡ path
-    there = (λ k. take (fit .0 k) (rooms k)) ∙ path-in path []
+  pub units-sysvol : {b : Bool} → b ≡ isSysvol (take u texts) → b ≡ isSysvol (take (unitsOf n) texts)
+  units-sysvol e = e ∙ ap (λ (k : ℕ). isSysvol (take k texts)) a
 
-    pub reached-ready : inOrder referrals refs ≡ true → (length path ≤ 256 → goodPrefix path ≡ true) → Ready refs o n
-    reached-ready order good = record {
-      order = order;
-      standing =
-          subst (λ (l : List ℕ). Standing n l) (sym rooms)
-          (subst (λ (k : ℕ). Standing k (textsOf path [])) (sym (fit .0)) (taken-stands path (fit .1)));
-      good = ap goodPrefix there ∙ good (fit .1);
+  module _ (refs doms : List ℕ) {r : ℕ} where
+    pub sought-two : {f : Found} → whatOf n ≡ due2 → f ≡ longestMatch (take u texts) (decode referrals refs) → FoundAt f r → Sought refs doms (take (unitsOf n) texts) (whatOf n) r
+    sought-two w e g = record {
+      two = λ h. subst (λ (x : Found). FoundAt x r) (e ∙ ap (λ (k : ℕ). longestMatch (take k texts) (decode referrals refs)) a) g;
+      nine = λ h. absurd (omega arith);
+      five = λ h. absurd (omega arith);
     }
 
-    pub reached-found : {r : ℕ} → r ≡ pointFound refs (take n o) (step2In clock (take n o) refs) → r ≡ pointReached refs clock len path
-    unfolding pointReached
-    reached-found e = e ∙ ((λ k. pointFound refs (there k) (step2In clock (there k) refs)) ∙ sym (choose-yes _ _ (le-leb _ _ (fit .1))))
+    pub sought-nine : {f : Found} → whatOf n ≡ due9 → f ≡ rootIn (take u texts) refs → FoundAt f r → Sought refs doms (take (unitsOf n) texts) (whatOf n) r
+    sought-nine w e g = record {
+      two = λ h. absurd (omega arith);
+      nine = λ h. subst (λ (x : Found). FoundAt x r) (e ∙ ap (λ (k : ℕ). rootIn (take k texts) refs) a) g;
+      five = λ h. absurd (omega arith);
+    }
 
--- what a number found calls for
-fresh-called : (doms : List ℕ) (w : Core) (path : List ℕ) (refs : List ℕ) (i : ℕ) → w .path ≡ path
-    → calledFor doms w (entryAt referrals i refs) (choose (turning path (entryAt referrals i refs)) 1 0) ≡ step7 w (entryAt referrals i refs)
-unfolding calledFor
-fresh-called doms w path refs i p = go (told (turning path (entryAt referrals i refs)))
-  where
-    go : (turning path (entryAt referrals i refs) ≡ true) ⊎ (turning path (entryAt referrals i refs) ≡ false)
-        → calledFor doms w (entryAt referrals i refs) (choose (turning path (entryAt referrals i refs)) 1 0) ≡ step7 w (entryAt referrals i refs)
-    go (inl t) =
-        ap (calledFor doms w (entryAt referrals i refs)) (choose-yes 1 0 t)
-        ∙ sym (turns-to w (entryAt referrals i refs) (ap (λ (q : List ℕ). turning q (entryAt referrals i refs)) p ∙ t))
-    go (inr t) =
-        ap (calledFor doms w (entryAt referrals i refs)) (choose-no 1 0 t)
-        ∙ sym (tries-at w (entryAt referrals i refs) (ap (λ (q : List ℕ). turning q (entryAt referrals i refs)) p ∙ t))
+    pub sought-five : (whatOf n ≡ due2 → ⊥) → (whatOf n ≡ due9 → ⊥) → DcAt doms (take u texts) r → Sought refs doms (take (unitsOf n) texts) (whatOf n) r
+    sought-five x y d = record {
+      two = λ h. absurd (x h);
+      nine = λ h. absurd (y h);
+      five = λ h. subst (λ (k : ℕ). DcAt doms (take k texts) r) a d;
+    }
 
-fresh-what : (b : Bool) → choose b 1 0 < 2
-fresh-what true = let z : _≡_ {A = ℕ} (choose true 1 0) 1 = choose-yes 1 0 refl in omega arith
-fresh-what false = let z : _≡_ {A = ℕ} (choose false 1 0) 0 = choose-no 1 0 refl in omega arith
+-- step 2 by what it found
+pub after-small : (clock : ℕ) (e : Referral) {w : ℕ} → w ≡ afterMatch clock e → w < 16
+after-small clock e h = let z : afterMatch clock e ≤ 3 = after-range clock e .1 in omega arith
 
--- a fresh entry's point
-module _ (refs texts : List ℕ) (n i left : ℕ) (r : Ready refs texts n) (u : Usable refs (take n texts) i) where
-  few-units : n ≤ 256
-  few-units = r .standing .few
+pub matched-none : (refs : List ℕ) (clock n found : ℕ) {r : ℕ} → found ≡ nowhere → Parts due5 0 (hitIn n) (unitsOf n) (leftOf n) r → Matched refs clock n found r
+matched-none refs clock n found h q = record { missed = λ z. q; matching = λ z. absurd (z h) }
 
-  units-are : length (take n texts) ≡ n
-  units-are = standing-path n texts (r .standing)
+pub matched-there : (refs : List ℕ) (clock n found : ℕ) {w r : ℕ} → (found ≡ nowhere → ⊥) → w ≡ afterMatch clock (entryAt referrals found refs)
+    → Parts w found true (unitsOf n) (leftOf n) r → Matched refs clock n found r
+matched-there refs clock n found {w} {r} h e q = record { missed = λ z. absurd (h z); matching = λ z. subst (λ (k : ℕ). Parts k found true (unitsOf n) (leftOf n) r) e q }
 
-  what : ℕ
-  what = choose (turning (take n texts) (entryAt referrals i refs)) 1 0
+-- step 7 at a root
+pub root-not : (refs : List ℕ) (n : ℕ) → (whatOf n ≡ due7 → ⊥) → false ≡ (eqb (whatOf n) due7 && entryAt referrals (placeIn n) refs .settings .root)
+root-not refs n w = sym (ap (λ (x : Bool). x && entryAt referrals (placeIn n) refs .settings .root) (ne-eqb (whatOf n) due7 w))
 
-  what-few : what < 8
-  unfolding what
-  what-few = let z : choose (turning (take n texts) (entryAt referrals i refs)) 1 0 < 2 = fresh-what (turning (take n texts) (entryAt referrals i refs)) in omega arith
+module _ (refs : List ℕ) (n : ℕ) {b : Bool} where
+  pub root-is : {i : ℕ} → whatOf n ≡ due7 → i ≡ placeIn n → b ≡ entryAt referrals i refs .settings .root → b ≡ (eqb (whatOf n) due7 && entryAt referrals (placeIn n) refs .settings .root)
+  root-is w a e = e ∙ (ap (λ (k : ℕ). entryAt referrals k refs .settings .root) a ∙ sym (ap (λ (x : Bool). x && entryAt referrals (placeIn n) refs .settings .root) (eq-eqb (whatOf n) due7 w)))
 
-  fresh-is : pointFresh refs (take n texts) i ≡ what + 8 * i + 256 * n
-  unfolding pointFresh what
-  fresh-is = ap (λ (k : ℕ). choose (turning (take n texts) (entryAt referrals i refs)) 1 0 + 8 * i + 256 * k) units-are
+  module _ (e : b ≡ (eqb (whatOf n) due7 && entryAt referrals (placeIn n) refs .settings .root)) where
+    pub root-case : b ≡ true → whatOf n ≡ due7
+    root-case h = eqb-true (whatOf n) due7 (and-left _ _ (sym e ∙ h))
 
-  place-is : i < 32
-  place-is = place-few refs i (r .order) (u .fits)
+    pub root-entry : b ≡ true → entryAt referrals (placeIn n) refs .settings .root ≡ true
+    root-entry h = and-right (eqb (whatOf n) due7) _ (sym e ∙ h)
 
-  pub fresh-small : pointFresh refs (take n texts) i < 131072
-  fresh-small = omega (arith, fresh-is, what-few, place-is, few-units)
+    pub no-root : b ≡ false → whatOf n ≡ due7 → entryAt referrals (placeIn n) refs .settings .root ≡ false
+    no-root h w = sym (ap (λ (x : Bool). x && entryAt referrals (placeIn n) refs .settings .root) (eq-eqb (whatOf n) due7 w)) ∙ (sym e ∙ h)
 
-  fresh-point : left < 65536 → Point refs texts (pointFresh refs (take n texts) i + 131072 * left)
-  fresh-point l =
-      subst (λ (k : ℕ). Point refs texts (k + 131072 * left)) (sym fresh-is)
-      (point-made what i n left what-few place-is few-units refs texts l r (λ h. u) (λ h. u .fits))
+pub interlink-is : (refs : List ℕ) (n : ℕ) {i : ℕ} {b v : Bool} → i ≡ placeIn n → b ≡ entryAt referrals i refs .settings .interlink → b ≡ v → entryAt referrals (placeIn n) refs .settings .interlink ≡ v
+interlink-is refs n a e h = ap (λ (k : ℕ). entryAt referrals k refs .settings .interlink) (sym a) ∙ (sym e ∙ h)
 
-  fresh-steps : (doms : List ℕ) (size clock : ℕ) → stepsAt refs doms size clock (pointFresh refs (take n texts) i + 131072 * left) texts
-      ≡ stepsFrom left refs doms clock (coreOf (take n texts) size true) (step7 (coreOf (take n texts) size true) (entryAt referrals i refs))
-  unfolding what
-  fresh-steps doms size clock =
-      ap (λ (k : ℕ). stepsAt refs doms size clock (k + 131072 * left) texts) fresh-is
-      ∙ (steps-made what i n left what-few place-is few-units refs doms texts size clock
-      ∙ ap (stepsFrom left refs doms clock (coreOf (take n texts) size true)) (fresh-called doms (coreOf (take n texts) size true) (take n texts) refs i refl))
+-- a point by its parts
+module _ {what i : ℕ} {hit : Bool} {len left n : ℕ} (p : Parts what i hit len left n) where
+  pub at-parts : (refs doms texts : List ℕ) (size clock : ℕ) → stepsAt refs doms size clock n texts ≡ stepsBy refs doms size clock what i hit (take len texts) left
+  unfolding stepsAt
+  at-parts refs doms texts size clock =
+      λ k. stepsBy refs doms size clock (p .its-case k) (p .its-place k) (p .its-hit k) (take (p .its-units k) texts) (p .its-left k)
 
-  -- by numbers that equal it
-  module _ {f s : ℕ} (e : f ≡ pointFresh refs (take n texts) i) (d : s ≡ f + 131072 * left) where
-    made : s ≡ pointFresh refs (take n texts) i + 131072 * left
-    made = d ∙ ap (λ (k : ℕ). k + 131072 * left) e
+  pub parts-point : (refs texts : List ℕ) → left < 65536 → Ready refs texts len → (due7 ≤ what → what ≤ toTry → Usable refs (take len texts) i)
+      → (what ≡ askLink → i < placeCount refs) → Point refs texts n
+  parts-point refs texts l r u f = record {
+    ready = subst (λ (m : ℕ). Ready refs texts m) (sym (p .its-units)) r;
+    usable = λ a b. subst (λ (m : ℕ). Usable refs (take m texts) (placeIn n)) (sym (p .its-units)) (subst (λ (j : ℕ). Usable refs (take len texts) j) (sym (p .its-place)) (u (omega (arith, p .its-case)) (omega (arith, p .its-case))));
+    fits = λ h. let z : i < placeCount refs = f (sym (p .its-case) ∙ h) in omega (arith, p .its-place);
+    counted = omega (arith, p .its-left);
+  }
 
-    pub stored-point : left < 65536 → Point refs texts s
-    stored-point l = subst (λ (k : ℕ). Point refs texts k) (sym made) (fresh-point l)
+-- its own
+pub own-parts : (n k : ℕ) → whatOf n ≡ k → Parts k (placeIn n) (hitIn n) (unitsOf n) (leftOf n) n
+own-parts n k h = record { its-case = h; its-place = refl; its-hit = refl; its-units = refl; its-left = refl }
 
-    pub stored-steps : (doms : List ℕ) (size clock : ℕ) → stepsAt refs doms size clock s texts
-        ≡ stepsFrom left refs doms clock (coreOf (take n texts) size true) (step7 (coreOf (take n texts) size true) (entryAt referrals i refs))
-    stored-steps doms size clock = ap (λ (k : ℕ). stepsAt refs doms size clock k texts) made ∙ fresh-steps doms size clock
+-- a step without a move
+pub rests-on : (refs doms texts : List ℕ) (clock n : ℕ) {m r : ℕ} {after : List ℕ} → Follows refs doms clock texts n m → SameRest refs doms clock m texts r after → SameRest refs doms clock n texts r after
+rests-on refs doms texts clock n f t = record { same = λ size. t .same size ∙ f .same size; halted = t .halted }
 
--- what step 2 finds: a small number, a point, and what it calls for
-module _ (refs texts : List ℕ) (n : ℕ) (r : Ready refs texts n) (clock : ℕ) where
-  few-there : n ≤ 256
-  few-there = r .standing .few
+pub follows-on : (refs doms texts : List ℕ) (clock n : ℕ) {m r : ℕ} → Follows refs doms clock texts n m → Follows refs doms clock texts m r → Follows refs doms clock texts n r
+follows-on refs doms texts clock n f t = record { same = λ size. t .same size ∙ f .same size; point = t .point; left = t .left ∙ f .left }
 
-  are-there : length (take n texts) ≡ n
-  are-there = standing-path n texts (r .standing)
+pub halts-after : (refs doms texts : List ℕ) (clock n : ℕ) {r : ℕ} → Follows refs doms clock texts n r → due11 < whatOf r → SameRest refs doms clock n texts r texts
+halts-after refs doms texts clock n f h = record {
+  same = f .same;
+  halted = record { point = f .point; rests = omega arith; last = λ z. absurd (omega arith) };
+}
 
-  usable-there : (i : ℕ) → step2In clock (take n texts) refs ≡ Fresh i → Usable refs (take n texts) i
-  usable-there i h = fresh-usable refs (take n texts) clock i (r .order) refl h
+pub halts-here : (refs doms texts : List ℕ) (clock n : ℕ) → Point refs texts n → whatOf n ≡ due11 → leftOf n ≡ 0 → SameRest refs doms clock n texts n texts
+halts-here refs doms texts clock n p h l = record { same = λ size. refl; halted = record { point = p; rests = omega arith; last = λ z. l } }
 
-  fits-there : (i : ℕ) → step2In clock (take n texts) refs ≡ Refresh i → i < placeCount refs
-  fits-there i h = refresh-fits refs (take n texts) clock i (r .order) refl h
+module _ (refs doms texts : List ℕ) (clock n : ℕ) (p : Point refs texts n) (k : ℕ) (w : whatOf n ≡ k) {what i : ℕ} {hit : Bool} {r : ℕ} (q : Parts what i hit (unitsOf n) (leftOf n) r) where
+  follows : ((size : ℕ) → stepsBy refs doms size clock what i hit (take (unitsOf n) texts) (leftOf n) ≡ stepsBy refs doms size clock k (placeIn n) (hitIn n) (take (unitsOf n) texts) (leftOf n))
+      → (due7 ≤ what → what ≤ toTry → Usable refs (take (unitsOf n) texts) i) → (what ≡ askLink → i < placeCount refs) → Follows refs doms clock texts n r
+  follows e u f = record {
+    same = λ size. at-parts q refs doms texts size clock ∙ (e size ∙ sym (at-parts (own-parts n k w) refs doms texts size clock));
+    point = parts-point q refs texts (p .counted) (p .ready) u f;
+    left = q .its-left;
+  }
 
-  request-is : (k i : ℕ) → k + 8 * i + 256 * length (take n texts) ≡ k + 8 * i + 256 * n
-  request-is k i = ap (λ (j : ℕ). k + 8 * i + 256 * j) are-there
+-- step 2
+module _ (refs doms texts : List ℕ) (clock n : ℕ) (p : Point refs texts n) (w : whatOf n ≡ due2) {found : ℕ} (s : Sought refs doms (take (unitsOf n) texts) (whatOf n) found) where
+  here2 : FoundAt (longestMatch (take (unitsOf n) texts) (decode referrals refs)) found
+  here2 = s .two w
 
-  small-as : (m : Matched) → step2In clock (take n texts) refs ≡ m → pointFound refs (take n texts) m < 131072
-  unfolding pointFound
-  small-as (Fresh i) h = fresh-small refs texts n i 0 r (usable-there i h)
-  small-as (Refresh i) h = omega (arith, place-few refs i (r .order) (fits-there i h), few-there, are-there)
-  small-as Stale h = omega (arith, few-there, are-there)
-  small-as Missed h = omega (arith, few-there, are-there)
+  usable2 : (found ≡ nowhere → ⊥) → Usable refs (take (unitsOf n) texts) found
+  usable2 h =
+      let z = here2 .there h in
+      record {
+        fits = longest-fits (take (unitsOf n) texts) refs found z;
+        good = longest-good (take (unitsOf n) texts) refs found z (p .ready .order);
+        matched = longest-matches (take (unitsOf n) texts) refs found z;
+      }
 
-  found-small : pointFound refs (take n texts) (step2In clock (take n texts) refs) < 131072
-  found-small = small-as (step2In clock (take n texts) refs) refl
+  pub match-fits : (found ≡ nowhere → ⊥) → (found < placeCount refs) × (found < 65536)
+  match-fits h =
+      let z : found < placeCount refs = usable2 h .fits in
+      let y : found < 32 = place-few refs found (p .ready .order) z in
+      (z, omega arith)
 
-  point-as : (left : ℕ) → left < 65536 → (m : Matched) → step2In clock (take n texts) refs ≡ m → Point refs texts (pointFound refs (take n texts) m + 131072 * left)
-  unfolding pointFound
-  point-as left l (Fresh i) h = fresh-point refs texts n i left r (usable-there i h) l
-  point-as left l (Refresh i) h =
-      subst (λ (k : ℕ). Point refs texts (k + 131072 * left)) (sym (request-is 2 i))
-      (point-made 2 i n left (omega arith) (place-few refs i (r .order) (fits-there i h)) few-there refs texts l r (λ z. absurd (omega arith)) (λ z. fits-there i h))
-  point-as left l Stale h =
-      subst (λ (k : ℕ). Point refs texts (k + 131072 * left)) (sym (request-is 4 0))
-      (point-made 4 0 n left (omega arith) (omega arith) few-there refs texts l r (λ z. absurd (omega arith)) (λ z. absurd (omega arith)))
-  point-as left l Missed h =
-      subst (λ (k : ℕ). Point refs texts (k + 131072 * left)) (sym (request-is 5 0))
-      (point-made 5 0 n left (omega arith) (omega arith) few-there refs texts l r (λ z. absurd (omega arith)) (λ z. absurd (omega arith)))
+  pub looked-next : {r : ℕ} → Matched refs clock n found r → Follows refs doms clock texts n r × ((due2 < whatOf r) × (whatOf r ≤ due7))
+  looked-next {r} m = go (told (eqb found nowhere))
+    where
+      go : (eqb found nowhere ≡ true) ⊎ (eqb found nowhere ≡ false) → Follows refs doms clock texts n r × ((due2 < whatOf r) × (whatOf r ≤ due7))
+      go (inl t) =
+          let h : found ≡ nowhere = eqb-true found nowhere t in
+          let q = m .missed h in (
+            follows refs doms texts clock n p due2 w q
+                (λ size. two-none refs doms size clock (placeIn n) (hitIn n) (take (unitsOf n) texts) (leftOf n) (here2 .none h))
+                (λ a b. absurd (omega arith)) (λ a. absurd (omega arith)),
+            (omega (arith, q .its-case), omega (arith, q .its-case)),
+          )
+      go (inr t) =
+          let h : found ≡ nowhere → ⊥ = λ z. not-both (eq-eqb found nowhere z) t in
+          let q = m .matching h in
+          let l : 0 < afterMatch clock (entryAt referrals found refs) = after-range clock (entryAt referrals found refs) .0 in
+          let g : afterMatch clock (entryAt referrals found refs) ≤ 3 = after-range clock (entryAt referrals found refs) .1 in (
+            follows refs doms texts clock n p due2 w q
+                (λ size. two-at refs doms size clock (placeIn n) (hitIn n) (take (unitsOf n) texts) (leftOf n) found (here2 .there h))
+                (λ a b. usable2 h) (λ a. usable2 h .fits),
+            (omega (arith, q .its-case), omega (arith, q .its-case)),
+          )
 
-  found-point : (left : ℕ) → left < 65536 → Point refs texts (pointFound refs (take n texts) (step2In clock (take n texts) refs) + 131072 * left)
-  found-point left l = point-as left l (step2In clock (take n texts) refs) refl
+-- step 5
+module _ (refs doms texts : List ℕ) (n : ℕ) (p : Point refs texts n) (w : whatOf n ≡ due5) {found : ℕ} (s : Sought refs doms (take (unitsOf n) texts) (whatOf n) found) where
+  here5 : DcAt doms (take (unitsOf n) texts) found
+  here5 = s .five w
 
-  module _ (doms : List ℕ) (size left : ℕ) (hit : Bool) where
-    abbrev looked : Packed
-    looked = stepsFrom left refs doms clock (withHit (hitAt (cachesOf refs doms) (coreOf (take n texts) size hit)) (coreOf (take n texts) size hit)) (step2 (cachesOf refs doms) (coreOf (take n texts) size hit) clock)
+  pub dc-few : (found ≡ nowhere → ⊥) → (found ≡ noDc → ⊥) → found < 65536
+  dc-few a b = here5 .few a b
 
-    steps-as : (m : Matched) → step2In clock (take n texts) refs ≡ m → (m ≡ Missed → hit ≡ true)
-        → stepsAt refs doms size clock (pointFound refs (take n texts) m + 131072 * left) texts ≡ looked
-    unfolding pointFound calledFor calledAt
-    steps-as (Fresh i) h t =
-        lookup-fresh refs doms texts n left size clock hit (r .order) refl i h (fresh-steps refs texts n i left r (usable-there i h) doms size clock)
-    steps-as (Refresh i) h t =
-        lookup-refresh refs doms texts n left size clock hit (r .order) refl i h
-        (ap (λ (k : ℕ). stepsAt refs doms size clock (k + 131072 * left) texts) (request-is 2 i)
-        ∙ steps-made 2 i n left (omega arith) (place-few refs i (r .order) (fits-there i h)) few-there refs doms texts size clock)
-    steps-as Stale h t =
-        lookup-stale refs doms texts n left size clock hit (r .order) refl h
-        (ap (λ (k : ℕ). stepsAt refs doms size clock (k + 131072 * left) texts) (request-is 4 0)
-        ∙ steps-made 4 0 n left (omega arith) (omega arith) few-there refs doms texts size clock)
-    steps-as Missed h t =
-        lookup-missed refs doms texts n left size clock hit (r .order) refl h
-        (ap (λ (k : ℕ). stepsAt refs doms size clock (k + 131072 * left) texts) (request-is 5 0)
-        ∙ (steps-made 5 0 n left (omega arith) (omega arith) few-there refs doms texts size clock
-        ∙ ap (λ (b : Bool). stepsFrom left refs doms clock (coreOf (take n texts) size b) (asks (step5 (decode domains doms) (coreOf (take n texts) size b)))) (sym (t refl))))
+  module _ {r : ℕ} where
+    pub asks-host : found ≡ nowhere → Parts askHost 0 (hitIn n) (unitsOf n) (leftOf n) r → ((clock : ℕ) → Follows refs doms clock texts n r) × (due11 < whatOf r)
+    asks-host h q = (
+      λ clock. follows refs doms texts clock n p due5 w q
+          (λ size. five-host refs doms size clock (placeIn n) (hitIn n) (take (unitsOf n) texts) (leftOf n) (here5 .host h size (hitIn n)))
+          (λ a b. absurd (omega arith)) (λ a. absurd (omega arith)),
+      omega (arith, q .its-case),
+    )
 
-    found-steps : (step2In clock (take n texts) refs ≡ Missed → hit ≡ true)
-        → stepsAt refs doms size clock (pointFound refs (take n texts) (step2In clock (take n texts) refs) + 131072 * left) texts ≡ looked
-    found-steps t = steps-as (step2In clock (take n texts) refs) refl t
+    pub asks-dcs : found ≡ noDc → Parts askDc 0 (hitIn n) (unitsOf n) (leftOf n) r → ((clock : ℕ) → Follows refs doms clock texts n r) × (due11 < whatOf r)
+    asks-dcs h q = (
+      λ clock. follows refs doms texts clock n p due5 w q
+          (λ size. five-without refs doms size clock (placeIn n) (hitIn n) (take (unitsOf n) texts) (leftOf n) (here5 .without h size (hitIn n)))
+          (λ a b. absurd (omega arith)) (λ a. absurd (omega arith)),
+      omega (arith, q .its-case),
+    )
 
--- the parts of what is found
-fresh-mod : (b : Bool) (i l : ℕ) → (choose b 1 0 + 8 * i + 256 * l) % 8 < 2
-fresh-mod b i l = let z : choose b 1 0 < 2 = fresh-what b in omega arith
+    pub asks-domain : (found ≡ nowhere → ⊥) → (found ≡ noDc → ⊥) → Parts askDomain found (hitIn n) (unitsOf n) (leftOf n) r → ((clock : ℕ) → Follows refs doms clock texts n r) × (due11 < whatOf r)
+    asks-domain a b q = (
+      λ clock. follows refs doms texts clock n p due5 w q
+          (λ size. five-dc refs doms size clock (placeIn n) (hitIn n) (take (unitsOf n) texts) (leftOf n) found (here5 .dc a b size (hitIn n)))
+          (λ a b. absurd (omega arith)) (λ a. absurd (omega arith)),
+      omega (arith, q .its-case),
+    )
 
-found-not-long : (refs path : List ℕ) (m : Matched) → pointFound refs path m % 8 ≡ 3 → ⊥
-unfolding pointFound pointFresh
-found-not-long refs path (Fresh i) h = let z : (choose (turning path (entryAt referrals i refs)) 1 0 + 8 * i + 256 * length path) % 8 < 2 = fresh-mod (turning path (entryAt referrals i refs)) i (length path) in omega arith
-found-not-long refs path (Refresh i) h = omega arith
-found-not-long refs path Stale h = omega arith
-found-not-long refs path Missed h = omega arith
+-- step 9
+module _ (refs doms texts : List ℕ) (n : ℕ) (p : Point refs texts n) (w : whatOf n ≡ due9) {found : ℕ} (s : Sought refs doms (take (unitsOf n) texts) (whatOf n) found) where
+  here9 : FoundAt (rootIn (take (unitsOf n) texts) refs) found
+  here9 = s .nine w
 
-found-was-missed : (refs path : List ℕ) (m : Matched) → pointFound refs path m % 8 ≡ 5 → m ≡ Missed
-unfolding pointFound pointFresh
-found-was-missed refs path (Fresh i) h = absurd (let z : (choose (turning path (entryAt referrals i refs)) 1 0 + 8 * i + 256 * length path) % 8 < 2 = fresh-mod (turning path (entryAt referrals i refs)) i (length path) in omega arith)
-found-was-missed refs path (Refresh i) h = absurd (omega arith)
-found-was-missed refs path Stale h = absurd (omega arith)
-found-was-missed refs path Missed h = refl
+  fits9 : (found ≡ nowhere → ⊥) → found < placeCount refs
+  fits9 h = root-fits (take (unitsOf n) texts) refs found (here9 .there h)
 
-found-missed-is : (refs path : List ℕ) → pointFound refs path Missed % 8 ≡ 5
-unfolding pointFound
-found-missed-is refs path = omega arith
+  pub root-few : (found ≡ nowhere → ⊥) → found < 65536
+  root-few h = let z : found < 32 = place-few refs found (p .ready .order) (fits9 h) in omega arith
 
--- a point from which no move is made
-pub halts-here : (refs texts : List ℕ) (clock n : ℕ) → Point refs texts n → (whatOf n ≡ 1 → leftOf n ≡ 0) → SameRest refs clock n texts n texts
-halts-here refs texts clock n p l = record { same = λ doms size. refl; halted = record { point = p; last = l } }
+  pub asks-link : {r : ℕ} → (found ≡ nowhere → ⊥) → Parts askLink found (hitIn n) (unitsOf n) (leftOf n) r → ((clock : ℕ) → Follows refs doms clock texts n r) × (due11 < whatOf r)
+  asks-link h q = (
+    λ clock. follows refs doms texts clock n p due9 w q
+        (λ size. nine-at refs doms size clock (placeIn n) (hitIn n) (take (unitsOf n) texts) (leftOf n) found (here9 .there h))
+        (λ a b. absurd (omega arith)) (λ a. fits9 h),
+    omega (arith, q .its-case),
+  )
 
--- what a point calls for, by parts that equal its own
-at-point : (refs doms texts : List ℕ) (size clock n u q l k : ℕ) → u ≡ unitsOf n → q ≡ placeIn n → l ≡ leftOf n → whatOf n ≡ k
-    → stepsFrom l refs doms clock (coreOf (take u texts) size true) (calledFor doms (coreOf (take u texts) size true) (entryAt referrals q refs) k) ≡ stepsAt refs doms size clock n texts
-unfolding stepsAt
-at-point refs doms texts size clock n u q l k a b d e =
-    λ j. stepsFrom (d j) refs doms clock (coreOf (take (a j) texts) size true) (calledFor doms (coreOf (take (a j) texts) size true) (entryAt referrals (b j) refs) (sym e j))
+  module _ {m : ℕ} (h : found ≡ nowhere) (q : Parts due5 0 (hitIn n) (unitsOf n) (leftOf n) m) where
+    without-root : (clock : ℕ) → Follows refs doms clock texts n m
+    without-root clock =
+        follows refs doms texts clock n p due9 w q
+        (λ size. nine-none refs doms size clock (placeIn n) (hitIn n) (take (unitsOf n) texts) (leftOf n) (here9 .none h))
+        (λ a b. absurd (omega arith)) (λ a. absurd (omega arith))
 
--- step 11 at a point, and step 2
-module _ (refs texts : List ℕ) (clock n : ℕ) (p : Point refs texts n) (w : whatOf n ≡ 1) where
-  due : Usable refs (take (unitsOf n) texts) (placeIn n)
-  due = p .usable (omega arith)
+    pub without-point : Point refs texts m × (whatOf m ≡ due5)
+    without-point = (without-root 0 .point, q .its-case)
 
-  path : List ℕ
-  path = step11 (coreOf (take (unitsOf n) texts) 0 true) (entryAt referrals (placeIn n) refs)
+    pub without-next : {r : ℕ} → ((clock : ℕ) → Follows refs doms clock texts m r) × (due11 < whatOf r) → ((clock : ℕ) → Follows refs doms clock texts n r) × (due11 < whatOf r)
+    without-next t = (λ clock. follows-on refs doms texts clock n (without-root clock) (t .0 clock), t .1)
 
-  good-path : length path ≤ 256 → goodPrefix path ≡ true
-  unfolding path
-  good-path l = new-good (take (unitsOf n) texts) (entryAt referrals (placeIn n) refs) (p .ready .good) (due .good) (due .matched) l
+-- steps 7 and 4
+module _ (refs doms texts : List ℕ) (clock n : ℕ) (p : Point refs texts n) (w : whatOf n ≡ due7) where
+  pub usable7 : Usable refs (take (unitsOf n) texts) (placeIn n)
+  usable7 = p .usable (omega arith) (omega arith)
 
-  module _ {u q : ℕ} (a : u ≡ unitsOf n) (b : q ≡ placeIn n) where
-    pub due-ready : Ready refs texts u
-    due-ready = subst (λ (k : ℕ). Ready refs texts k) (sym a) (p .ready)
+  module _ {i r : ℕ} (b : i ≡ placeIn n) where
+    module _ (q : Parts toTry i (hitIn n) (unitsOf n) (leftOf n) r) where
+      own7 : Parts toTry (placeIn n) (hitIn n) (unitsOf n) (leftOf n) r
+      own7 = subst (λ (j : ℕ). Parts toTry j (hitIn n) (unitsOf n) (leftOf n) r) b q
 
-    pub due-usable : (i : ℕ) → q + 1 ≡ suc i → Usable refs (take u texts) i
-    due-usable i h =
-        let z : i ≡ placeIn n = omega arith in
-        subst (λ (k : ℕ). Usable refs (take k texts) i) (sym a) (subst (λ (k : ℕ). Usable refs (take (unitsOf n) texts) k) (sym z) due)
+      tries7 : ((size : ℕ) → stepsBy refs doms size clock toTry (placeIn n) (hitIn n) (take (unitsOf n) texts) (leftOf n) ≡ stepsBy refs doms size clock due7 (placeIn n) (hitIn n) (take (unitsOf n) texts) (leftOf n))
+          → SameRest refs doms clock n texts r texts
+      tries7 e =
+          halts-after refs doms texts clock n
+          (follows refs doms texts clock n p due7 w own7 e (λ x y. usable7) (λ x. absurd (omega arith)))
+          (omega (arith, q .its-case))
 
-    gone-is : goneTo refs (take u texts) (q + 1) ≡ path
-    unfolding goneTo path
-    gone-is =
-        ap (goneTo refs (take u texts)) (add-one q)
-        ∙ (λ k. step11 (coreOf (take (a k) texts) 0 true) (entryAt referrals (b k) refs))
+      pub tries-root : entryAt referrals (placeIn n) refs .settings .root ≡ true → SameRest refs doms clock n texts r texts
+      tries-root t = tries7 (λ size. seven-root refs doms size clock (placeIn n) (hitIn n) (take (unitsOf n) texts) (leftOf n) t)
 
-    module _ {m : ℕ} {o : List ℕ} (e : m ≡ pointReached refs clock u (goneTo refs (take u texts) (q + 1))) (v : o ≡ movedTo (goneTo refs (take u texts) (q + 1)) texts) where
-      number : m ≡ pointReached refs clock (unitsOf n) path
-      number = e ∙ (λ k. pointReached refs clock (a k) (gone-is k))
+      pub tries-sysvol : entryAt referrals (placeIn n) refs .settings .root ≡ false → isSysvol (take (unitsOf n) texts) ≡ true → SameRest refs doms clock n texts r texts
+      tries-sysvol t s = tries7 (λ size. four-sysvol refs doms size clock (placeIn n) (hitIn n) (take (unitsOf n) texts) (leftOf n) t s)
 
-      moved : o ≡ movedTo path texts
-      moved = v ∙ ap (λ (l : List ℕ). movedTo l texts) gone-is
+      pub tries-other : entryAt referrals (placeIn n) refs .settings .root ≡ false → isSysvol (take (unitsOf n) texts) ≡ false → entryAt referrals (placeIn n) refs .settings .interlink ≡ false
+          → SameRest refs doms clock n texts r texts
+      tries-other t s u = tries7 (λ size. four-other refs doms size clock (placeIn n) (hitIn n) (take (unitsOf n) texts) (leftOf n) t s u)
 
-      -- it fits
-      module _ (l : length path ≤ 256) where
-        ready-there : Ready refs o (length path)
-        ready-there = reached-ready refs path texts (unitsOf n) clock (told-fits 256 path refl l) moved (length path) refl (p .ready .order) good-path
+    pub turns : Parts due11 i (hitIn n) (unitsOf n) (leftOf n) r → entryAt referrals (placeIn n) refs .settings .root ≡ false → isSysvol (take (unitsOf n) texts) ≡ false
+        → entryAt referrals (placeIn n) refs .settings .interlink ≡ true → Follows refs doms clock texts n r
+    turns q t s u =
+        follows refs doms texts clock n p due7 w (subst (λ (j : ℕ). Parts due11 j (hitIn n) (unitsOf n) (leftOf n) r) b q)
+        (λ size. four-interlink refs doms size clock (placeIn n) (hitIn n) (take (unitsOf n) texts) (leftOf n) t s u)
+        (λ x y. usable7) (λ x. absurd (omega arith))
 
-        path-there : take (length path) o ≡ path
-        path-there = there refs path texts (unitsOf n) clock (told-fits 256 path refl l) moved (length path) refl
+-- step 11
+pub replaced-at : (refs texts : List ℕ) (n : ℕ) {i u h : ℕ} → i ≡ placeIn n → u ≡ unitsOf n → h ≡ entryAt referrals i refs .hint
+    → replaced (targetPath h (entryAt referrals i refs)) (length (entryAt referrals i refs .prefix)) (take u texts) ≡ replacedAt refs texts n
+unfolding replacedAt
+replaced-at refs texts n {i} {u} a b c =
+    ap (λ (h : ℕ). replaced (targetPath h (entryAt referrals i refs)) (length (entryAt referrals i refs .prefix)) (take u texts)) c
+    ∙ (λ k. replaced (targetPath (entryAt referrals (a k) refs .hint) (entryAt referrals (a k) refs)) (length (entryAt referrals (a k) refs .prefix)) (take (b k) texts))
 
-        found-there : m ≡ pointFound refs (take (length path) o) (step2In clock (take (length path) o) refs)
-        unfolding pointReached
-        found-there =
-            number
-            ∙ (choose-yes _ _ (le-leb _ _ l) ∙ (λ k. pointFound refs (sym path-there k) (step2In clock (sym path-there k) refs)))
+module _ (refs texts : List ℕ) (n : ℕ) (p : Point refs texts n) (w : whatOf n ≡ due11) where
+  due-there : Usable refs (take (unitsOf n) texts) (placeIn n)
+  due-there = p .usable (omega arith) (omega arith)
 
-      -- it is too long
-      module _ (l : 256 < length path) where
-        number-long : m ≡ 3 + 256 * unitsOf n
-        unfolding pointReached
-        number-long = number ∙ choose-no _ _ (lt-leb _ _ l)
+  pub due-fits : {i : ℕ} → i ≡ placeIn n → i < placeCount refs
+  due-fits a = let z : placeIn n < placeCount refs = due-there .fits in omega arith
 
-        rooms-kept : o ≡ texts
-        unfolding movedTo
-        rooms-kept = moved ∙ choose-no _ _ (lt-leb _ _ l)
+  pub due-stands : {u : ℕ} → u ≡ unitsOf n → Standing u texts
+  due-stands a = subst (λ (k : ℕ). Standing k texts) (sym a) (p .ready .standing)
 
-      fits-or-long : (length path ≤ 256) ⊎ (256 < length path)
-      fits-or-long = go (lt-or-le 256 (length path))
-        where
-          go : (256 < length path) ⊎ (length path ≤ 256) → (length path ≤ 256) ⊎ (256 < length path)
-          go (inl l) = inr l
-          go (inr l) = inl l
+  pub due-usable : {u i : ℕ} → u ≡ unitsOf n → i ≡ placeIn n → Usable refs (take u texts) i
+  due-usable {u} {i} a b =
+      subst (λ (k : ℕ). Usable refs (take k texts) i) (sym a) (subst (λ (k : ℕ). Usable refs (take (unitsOf n) texts) k) (sym b) due-there)
 
-      pub due-small : m < 131072
-      due-small = go fits-or-long
-        where
-          go : (length path ≤ 256) ⊎ (256 < length path) → m < 131072
-          go (inl l) = omega (arith, found-there l, found-small refs o (length path) (ready-there l) clock)
-          go (inr l) = omega (arith, number-long l)
+  stepped : (size : ℕ) (hit : Bool) → replacedAt refs texts n ≡ step11 (coreOf (take (unitsOf n) texts) size hit) (entryAt referrals (placeIn n) refs)
+  unfolding replacedAt step11
+  stepped size hit = refl
 
-      is-long : m % 8 ≡ 3 → 256 < length path
-      is-long h = go fits-or-long
-        where
-          go : (length path ≤ 256) ⊎ (256 < length path) → 256 < length path
-          go (inl l) = absurd (found-not-long refs (take (length path) o) (step2In clock (take (length path) o) refs) (ap (λ (k : ℕ). k % 8) (sym (found-there l)) ∙ h))
-          go (inr l) = l
+  good-new : length (replacedAt refs texts n) ≤ 256 → goodPrefix (replacedAt refs texts n) ≡ true
+  unfolding replacedAt
+  good-new l = new-good (take (unitsOf n) texts) (entryAt referrals (placeIn n) refs) (p .ready .good) (due-there .good) (due-there .matched) l
 
-      is-short : (m % 8 ≡ 3 → ⊥) → length path ≤ 256
-      is-short h = go fits-or-long
-        where
-          go : (length path ≤ 256) ⊎ (256 < length path) → length path ≤ 256
-          go (inl l) = l
-          go (inr l) = absurd (h (let z : m ≡ 3 + 256 * unitsOf n = number-long l in omega arith))
+  module _ (doms : List ℕ) (clock : ℕ) (some : leftOf n ≡ 0 → ⊥) {g : Written} (f : g ≡ writtenWithin 256 (replacedAt refs texts n)) {o : List ℕ} (v : o ≡ movedTo (replacedAt refs texts n) texts) where
+    -- too long
+    pub long-halts : {r : ℕ} → g ≡ TooLong → Parts tooLong 0 (hitIn n) (unitsOf n) (leftOf n) r → SameRest refs doms clock n texts r o
+    unfolding movedTo
+    long-halts {r} h q =
+        let l : 256 < length (replacedAt refs texts n) = written-long 256 (replacedAt refs texts n) (sym f ∙ h) in
+        subst (λ (x : List ℕ). SameRest refs doms clock n texts r x) (sym (v ∙ choose-no _ _ (lt-leb _ _ l)))
+        (halts-after refs doms texts clock n
+        (follows refs doms texts clock n p due11 w q
+        (λ size. eleven-long refs doms size clock (placeIn n) (hitIn n) (take (unitsOf n) texts) (leftOf n) some (stepped size (hitIn n)) l)
+        (λ a b. absurd (omega arith)) (λ a. absurd (omega arith)))
+        (omega (arith, q .its-case)))
 
-      -- the steps rest at once
-      module _ {left r : ℕ} (some : left ≡ 0 → ⊥) (c : left ≡ leftOf n) (d : r ≡ m + 131072 * left) (h : m % 8 ≡ 3) where
-        point-long : r ≡ 3 + 8 * 0 + 256 * unitsOf n + 131072 * left
-        point-long = d ∙ ap (λ (k : ℕ). k + 131072 * left) (number-long (is-long h))
+    -- a move
+    module _ (len : ℕ) (h : g ≡ Units len) where
+      fit : (len ≡ length (replacedAt refs texts n)) × (length (replacedAt refs texts n) ≤ 256)
+      fit = written-units 256 (replacedAt refs texts n) len (sym f ∙ h)
 
-        few-units-in : unitsOf n ≤ 256
-        few-units-in = p .ready .standing .few
+      pub len-few : len ≤ 256
+      len-few = let z : len ≡ length (replacedAt refs texts n) = fit .0 in omega (arith, fit .1)
 
-        long-steps : (doms : List ℕ) (size : ℕ) → stepsAt refs doms size clock r o ≡ stepsAt refs doms size clock n texts
-        unfolding calledFor stepsFrom path step11
-        long-steps doms size =
-            (λ k. stepsAt refs doms size clock (point-long k) (rooms-kept (is-long h) k))
-            ∙ (steps-made 3 0 (unitsOf n) left (omega arith) (omega arith) few-units-in refs doms texts size clock
-            ∙ (ap packed (goes-stops left (cachesOf refs doms) clock (coreOf (take (unitsOf n) texts) size true) ends.TooLong 0 [])
-            ∙ (ap packed (sym (replaces-long (cachesOf refs doms) clock (coreOf (take (unitsOf n) texts) size true) (step11 (coreOf (take (unitsOf n) texts) size true) (entryAt referrals (placeIn n) refs)) left some (is-long h)))
-            ∙ at-point refs doms texts size clock n (unitsOf n) (placeIn n) left 1 refl refl c w)))
+      rooms : o ≡ textsOf (replacedAt refs texts n) []
+      unfolding movedTo
+      rooms = v ∙ choose-yes _ _ (le-leb _ _ (fit .1))
 
-        pub long-halts : SameRest refs clock n texts r o
-        long-halts = record {
-          same = long-steps;
-          halted = record {
-            point =
-                subst (λ (l : List ℕ). Point refs l r) (sym (rooms-kept (is-long h)))
-                (subst (λ (k : ℕ). Point refs texts k) (sym point-long)
-                (point-made 3 0 (unitsOf n) left (omega arith) (omega arith) few-units-in refs texts (omega (arith, p .counted)) (p .ready) (λ z. absurd (omega arith)) (λ z. absurd (omega arith))));
-            last = λ z. absurd (let y : r % 8 ≡ 3 = omega (arith, point-long) in omega arith);
-          };
-        }
+      there : take len o ≡ replacedAt refs texts n
+      there = (λ k. take (fit .0 k) (rooms k)) ∙ path-in (replacedAt refs texts n) []
 
-      -- they go on
-      module _ {left : ℕ} (some : left ≡ 0 → ⊥) (c : left ≡ leftOf n) (h : m % 8 ≡ 3 → ⊥) where
-        pub next-point : {s : ℕ} → s ≡ m + 131072 * (left - 1) → Point refs o s
-        next-point d =
-            subst (λ (k : ℕ). Point refs o k) (sym (d ∙ ap (λ (k : ℕ). k + 131072 * (left - 1)) (found-there (is-short h))))
-            (found-point refs o (length path) (ready-there (is-short h)) clock (left - 1) (omega (arith, p .counted)))
+      ready-there : Ready refs o len
+      ready-there = record {
+        order = p .ready .order;
+        standing =
+            subst (λ (l : List ℕ). Standing len l) (sym rooms)
+            (subst (λ (k : ℕ). Standing k (textsOf (replacedAt refs texts n) [])) (sym (fit .0)) (taken-stands (replacedAt refs texts n) (fit .1)));
+        good = ap goodPrefix there ∙ good-new (fit .1);
+      }
 
-        next-steps : (doms : List ℕ) (size : ℕ) → stepsAt refs doms size clock (m + 131072 * (left - 1)) o ≡ stepsAt refs doms size clock n texts
-        unfolding calledFor stepsFrom path step11 withPath
-        next-steps doms size =
-            ap (λ (k : ℕ). stepsAt refs doms size clock (k + 131072 * (left - 1)) o) (found-there (is-short h))
-            ∙ (found-steps refs o (length path) (ready-there (is-short h)) clock doms size (left - 1) true (λ z. refl)
-            ∙ ((λ k. stepsFrom (left - 1) refs doms clock (withHit (hitAt (cachesOf refs doms) (coreOf (path-there (is-short h) k) size true)) (coreOf (path-there (is-short h) k) size true)) (step2 (cachesOf refs doms) (coreOf (path-there (is-short h) k) size true) clock))
-            ∙ (ap packed (sym (replaces-made (cachesOf refs doms) clock (coreOf (take (unitsOf n) texts) size true) (step11 (coreOf (take (unitsOf n) texts) size true) (entryAt referrals (placeIn n) refs)) left some (is-short h)))
-            ∙ at-point refs doms texts size clock n (unitsOf n) (placeIn n) left 1 refl refl c w)))
+      module _ {b : Bool} {m : ℕ} (c : b ≡ hitIn n) (q : Parts due2 0 b len (leftOf n - 1) m) where
+        pub next-point : Point refs o m
+        next-point = parts-point q refs o (omega (arith, p .counted)) ready-there (λ x y. absurd (omega arith)) (λ x. absurd (omega arith))
 
-        pub next-halts : {r s : ℕ} {after : List ℕ} → s ≡ m + 131072 * (left - 1) → SameRest refs clock s o r after → SameRest refs clock n texts r after
-        next-halts d t = record {
-          same = λ doms size. t .same doms size ∙ (ap (λ (k : ℕ). stepsAt refs doms size clock k o) d ∙ next-steps doms size);
-          halted = t .halted;
-        }
+        next-steps : (size : ℕ) → stepsAt refs doms size clock m o ≡ stepsAt refs doms size clock n texts
+        next-steps size =
+            at-parts q refs doms o size clock
+            ∙ ((λ k. stepsBy refs doms size clock due2 0 (c k) (there k) (leftOf n - 1))
+            ∙ (eleven-made refs doms size clock (placeIn n) (hitIn n) (take (unitsOf n) texts) (leftOf n) some (stepped size (hitIn n)) (fit .1)
+            ∙ sym (at-parts (own-parts n due11 w) refs doms texts size clock)))
+
+        pub next-halts : {r : ℕ} {after : List ℕ} → SameRest refs doms clock m o r after → SameRest refs doms clock n texts r after
+        next-halts t = record { same = λ size. t .same size ∙ next-steps size; halted = t .halted }
 
 -- the rest at a point
-module _ (refs doms texts : List ℕ) (size n : ℕ) (t : Halted refs texts n) {u l : ℕ} (a : u ≡ unitsOf n) (d : l ≡ leftOf n) where
+module _ (refs texts : List ℕ) (size n : ℕ) (t : Halted refs texts n) {u : ℕ} {h : Bool} (a : u ≡ unitsOf n) (c : h ≡ hitIn n) where
   pub stands-there : Standing u texts
   stands-there = subst (λ (k : ℕ). Standing k texts) (sym a) (t .point .ready .standing)
 
-  pub good-there : goodPrefix (take u texts) ≡ true
-  good-there = ap (λ (k : ℕ). goodPrefix (take k texts)) a ∙ t .point .ready .good
+  parts-there : {q k : ℕ} → q ≡ placeIn n → whatOf n ≡ k → Parts k q h u (leftOf n) n
+  parts-there b w = record { its-case = w; its-place = sym b; its-hit = sym c; its-units = sym a; its-left = refl }
 
-  pub usable-at : {q : ℕ} → q ≡ placeIn n → whatOf n ≡ 0 → Usable refs (take u texts) q
-  usable-at {q} b h = subst (λ (k : ℕ). Usable refs (take k texts) q) (sym a) (subst (λ (k : ℕ). Usable refs (take (unitsOf n) texts) k) (sym b) (t .point .usable (omega arith)))
+  pub usable-at : {q : ℕ} → q ≡ placeIn n → whatOf n ≡ toTry → Usable refs (take u texts) q
+  usable-at {q} b w =
+      subst (λ (k : ℕ). Usable refs (take k texts) q) (sym a)
+      (subst (λ (k : ℕ). Usable refs (take (unitsOf n) texts) k) (sym b) (t .point .usable (omega arith) (omega arith)))
 
-  pub fits-at : {q : ℕ} → q ≡ placeIn n → whatOf n ≡ 2 → q < placeCount refs
-  fits-at b h = let z : placeIn n < placeCount refs = t .point .fits h in omega arith
+  pub fits-at : {q : ℕ} → q ≡ placeIn n → whatOf n ≡ askLink → q < placeCount refs
+  fits-at b w = let z : placeIn n < placeCount refs = t .point .fits w in omega arith
 
-  pub rest-try : {q : ℕ} {x : Packed} → q ≡ placeIn n → whatOf n ≡ 0
-      → x ≡ packed (asking l (coreOf (take u texts) 0 true) (step8 (coreOf (take u texts) 0 true) (entryAt referrals q refs) (entryAt referrals q refs .hint) (entryAt referrals q refs .hint)))
-      → (clock : ℕ) → x ≡ stepsAt refs doms size clock n texts
-  unfolding calledFor
-  rest-try b h x clock = tried-steps refs doms texts u l size clock _ x ∙ at-point refs doms texts size clock n u _ l 0 a b d h
+  pub rest-try : {q : ℕ} {x : Packed} → q ≡ placeIn n → whatOf n ≡ toTry
+      → ((s : ℕ) → x ≡ packed (asking (leftOf n) (coreOf (take u texts) s h) (step3 (coreOf (take u texts) s h) (entryAt referrals q refs))))
+      → (doms : List ℕ) (clock : ℕ) → x ≡ stepsAt refs doms size clock n texts
+  unfolding stepsFrom
+  rest-try {q} b w x doms clock =
+      x size
+      ∙ (ap packed (sym (goes-asks (leftOf n) (cachesOf refs doms) clock (coreOf (take u texts) size h) (step3 (coreOf (take u texts) size h) (entryAt referrals q refs))))
+      ∙ (sym (by-try refs doms size clock q h (take u texts) (leftOf n)) ∙ sym (at-parts (parts-there b w) refs doms texts size clock)))
 
-  pub rest-limit : {r : Rested} → whatOf n ≡ 1 → r ≡ endedAt LimitReached 0 u l true → (clock : ℕ) → joined r texts ≡ stepsAt refs doms size clock n texts
-  unfolding calledFor
-  rest-limit h x clock =
-      inter-limit refs doms texts u l size clock (placeIn n) stands-there (d ∙ t .last h) x ∙ at-point refs doms texts size clock n u (placeIn n) l 1 a refl d h
+  pub rest-limit : {r : Rested} → whatOf n ≡ due11 → r ≡ endedAt LimitReached 0 u (leftOf n) h → (doms : List ℕ) (clock : ℕ) → joined r texts ≡ stepsAt refs doms size clock n texts
+  unfolding stepsFrom
+  rest-limit w e doms clock =
+      packed-end u texts stands-there LimitReached 0 (leftOf n) size h e
+      ∙ (ap packed (sym (replaces-limit (cachesOf refs doms) clock (coreOf (take u texts) size h) (step11 (coreOf (take u texts) size h) (entryAt referrals (placeIn n) refs)) (leftOf n) (t .last w)))
+      ∙ (sym (by11 refs doms size clock (placeIn n) h (take u texts) (leftOf n)) ∙ sym (at-parts (parts-there refl w) refs doms texts size clock)))
 
-  pub rest-link : {q : ℕ} {r : Rested} → q ≡ placeIn n → whatOf n ≡ 2
-      → r ≡ restedOf (asking l (coreOf (take u texts) size true) (linkRequest (coreOf (take u texts) size true) (length (entryAt referrals q refs .prefix)) (entryAt referrals q refs .hint) (entryAt referrals q refs .hint) false))
-      → (clock : ℕ) → joined r texts ≡ stepsAt refs doms size clock n texts
-  unfolding calledFor
-  rest-link b h x clock = link-steps refs doms texts u l size clock _ stands-there x ∙ at-point refs doms texts size clock n u _ l 2 a b d h
+  pub rest-long : {r : Rested} → whatOf n ≡ tooLong → r ≡ endedAt ends.TooLong 0 u (leftOf n) h → (doms : List ℕ) (clock : ℕ) → joined r texts ≡ stepsAt refs doms size clock n texts
+  unfolding stepsFrom
+  rest-long w e doms clock =
+      packed-end u texts stands-there ends.TooLong 0 (leftOf n) size h e
+      ∙ (ap packed (sym (goes-stops (leftOf n) (cachesOf refs doms) clock (coreOf (take u texts) size h) ends.TooLong 0 []))
+      ∙ (sym (by-long refs doms size clock (placeIn n) h (take u texts) (leftOf n)) ∙ sym (at-parts (parts-there refl w) refs doms texts size clock)))
 
-  pub rest-long : {r : Rested} → whatOf n ≡ 3 → r ≡ endedAt ends.TooLong 0 u l true → (clock : ℕ) → joined r texts ≡ stepsAt refs doms size clock n texts
-  unfolding calledFor
-  rest-long h x clock = end-steps refs doms texts u l size clock ends.TooLong stands-there x ∙ at-point refs doms texts size clock n u (placeIn n) l 3 a refl d h
+  untried : (w : Core) (i what : ℕ) → questionAt refs w i what .tried ≡ []
+  unfolding questionAt linkRequest step6Host domainRequest
+  untried w i what = go (told (eqb what askLink)) (told (eqb what askHost))
+    where
+      go : (eqb what askLink ≡ true) ⊎ (eqb what askLink ≡ false) → (eqb what askHost ≡ true) ⊎ (eqb what askHost ≡ false) → questionAt refs w i what .tried ≡ []
+      go (inl x) y = ap (λ (q : Question). q .tried) (choose-yes (linkAt w refs i) _ x)
+      go (inr x) (inl y) = ap (λ (q : Question). q .tried) (choose-no (linkAt w refs i) _ x ∙ choose-yes (step6Host w) _ y)
+      go (inr x) (inr y) = ap (λ (q : Question). q .tried) (choose-no (linkAt w refs i) _ x ∙ choose-no (step6Host w) _ y)
 
-  asked-from : (k : ℕ) (w : Core) → 4 ≤ k → calledFor doms w (entryAt referrals (placeIn n) refs) k ≡ asks (step5 (decode domains doms) w)
-  unfolding calledFor
-  asked-from zero w h = absurd (omega arith)
-  asked-from (suc zero) w h = absurd (omega arith)
-  asked-from (suc (suc zero)) w h = absurd (omega arith)
-  asked-from (suc (suc (suc zero))) w h = absurd (omega arith)
-  asked-from (suc (suc (suc (suc k)))) w h = refl
+  by-asked : (doms : List ℕ) (clock q what left : ℕ) (path : List ℕ) → due11 < what → (what ≡ toTry → ⊥) → (what ≡ tooLong → ⊥)
+      → stepsBy refs doms size clock what q h path left ≡ stepsFrom left refs doms clock (coreOf path size h) (asks (questionAt refs (coreOf path size h) q what))
+  unfolding stepsBy stepsFrom turnAt turned calledAt
+  by-asked doms clock q what left path l x y =
+      ap (λ s. packed (turned left clock s)) (choose-no _ _ (ne-eqb what due2 (λ z. omega arith)))
+      ∙ ap (λ s. packed (goes left (cachesOf refs doms) clock (coreOf path size h) s))
+      (choose-no _ _ (ne-eqb what due5 (λ z. omega arith))
+      ∙ (choose-no _ _ (ne-eqb what due9 (λ z. omega arith))
+      ∙ (choose-no _ _ (ne-eqb what due7 (λ z. omega arith))
+      ∙ (choose-no _ _ (ne-eqb what due11 (λ z. omega arith)) ∙ (choose-no _ _ (ne-eqb what toTry x) ∙ choose-no _ _ (ne-eqb what tooLong y))))))
 
-  pub rest-asked : {r : Rested} → 4 ≤ whatOf n
-      → r ≡ restedOf (asking l (coreOf (take u texts) size true) (step5 (decode domains doms) (coreOf (take u texts) size true)))
-      → (clock : ℕ) → joined r texts ≡ stepsAt refs doms size clock n texts
-  unfolding calledAt
-  rest-asked h x clock =
-      domain-asked refs doms texts u l size clock true Nothing stands-there refl x
-      ∙ (ap (stepsFrom l refs doms clock (coreOf (take u texts) size true)) (sym (asked-from (whatOf n) (coreOf (take u texts) size true) h))
-      ∙ at-point refs doms texts size clock n u (placeIn n) l (whatOf n) a refl d refl)
+  pub rest-asked : {q : ℕ} {g : Asking} {r : Rested} → q ≡ placeIn n → (whatOf n ≡ toTry → ⊥) → (whatOf n ≡ due11 → ⊥) → (whatOf n ≡ tooLong → ⊥)
+      → ((b : Bool) → g ≡ askingOf (questionAt refs (coreOf (take u texts) size b) q (whatOf n))) → length (take u texts) ≡ u → r ≡ askedAt g u (leftOf n) h
+      → (doms : List ℕ) (clock : ℕ) → joined r texts ≡ stepsAt refs doms size clock n texts
+  unfolding stepsFrom
+  rest-asked {q} {g} b x y z e l f doms clock =
+      packed-asked u texts stands-there (leftOf n) size h (questionAt refs (coreOf (take u texts) size h) q (whatOf n)) (untried (coreOf (take u texts) size h) q (whatOf n))
+      (asked-as (leftOf n) (coreOf (take u texts) size h) (questionAt refs (coreOf (take u texts) size h) q (whatOf n)) g f (e h) (sym l) (untried (coreOf (take u texts) size h) q (whatOf n)))
+      ∙ (ap packed (sym (goes-asks (leftOf n) (cachesOf refs doms) clock (coreOf (take u texts) size h) (questionAt refs (coreOf (take u texts) size h) q (whatOf n))))
+      ∙ (sym (by-asked doms clock q (whatOf n) (leftOf n) (take u texts) (let k : due7 < whatOf n = t .rests in omega arith) x z)
+      ∙ sym (at-parts (parts-there b refl) refs doms texts size clock)))
 
--- from step 2
-module _ (refs doms texts : List ℕ) (len left size clock : ℕ) (hit : Bool) (r : Ready refs texts len) {m : ℕ} {o : List ℕ}
-    (e : m ≡ pointReached refs clock len (goneTo refs (take len texts) 0)) (v : o ≡ movedTo (goneTo refs (take len texts) 0) texts) where
-  short-enough : length (take len texts) ≤ 256
-  short-enough = omega (arith, standing-path len texts (r .standing), r .standing .few)
+-- the question at a point
+module _ (refs path : List ℕ) (size i what : ℕ) where
+  pub question-link : {p : List ℕ} {h : ℕ} → what ≡ askLink → p ≡ entryAt referrals i refs .prefix → h ≡ entryAt referrals i refs .hint
+      → (hit : Bool) → record { kind = Link; entry = length p; party = h; began = h; size = size; covered = false } ≡ askingOf (questionAt refs (coreOf path size hit) i what)
+  unfolding questionAt askingOf linkRequest
+  question-link w a b hit =
+      (λ j. record { kind = Link; entry = length (a j); party = b j; began = b j; size = size; covered = false })
+      ∙ ap askingOf (sym (choose-yes (linkAt (coreOf path size hit) refs i) _ (eq-eqb what askLink w)))
 
-  start-rooms : o ≡ texts
-  unfolding goneTo
-  start-rooms = v ∙ sym (path-stays refs texts len 0 (r .standing) refl .1)
+  module _ (x : what ≡ askLink → ⊥) where
+    pub question-host : what ≡ askHost → (hit : Bool) → record { kind = Root; entry = 0; party = 0; began = 0; size = size; covered = false } ≡ askingOf (questionAt refs (coreOf path size hit) i what)
+    unfolding questionAt askingOf step6Host
+    question-host w hit =
+        ap askingOf (sym (choose-no (linkAt (coreOf path size hit) refs i) _ (ne-eqb what askLink x) ∙ choose-yes (step6Host (coreOf path size hit)) _ (eq-eqb what askHost w)))
 
-  start-found : m ≡ pointFound refs (take len texts) (step2In clock (take len texts) refs)
-  unfolding goneTo pointReached
-  start-found = e ∙ choose-yes _ _ (le-leb _ _ short-enough)
+    pub question-domain : {k : Kind} {g : Asking} → (what ≡ askHost → ⊥) → k ≡ kindAt what path → g ≡ domainAsking k path i size → (hit : Bool) → g ≡ askingOf (questionAt refs (coreOf path size hit) i what)
+    unfolding questionAt askingOf domainAsking domainRequest
+    question-domain y e f hit =
+        f
+        ∙ (ap (λ (k : Kind). domainAsking k path i size) e
+        ∙ ap askingOf (sym (choose-no (linkAt (coreOf path size hit) refs i) _ (ne-eqb what askLink x) ∙ choose-no (step6Host (coreOf path size hit)) _ (ne-eqb what askHost y))))
 
-  pub start-small : m < 131072
-  start-small = omega (arith, start-found, found-small refs texts len r clock)
+-- the kind of a request to a domain
+module _ (what : ℕ) (path : List ℕ) where
+  pub kind-dc : what ≡ askDc → Dc ≡ kindAt what path
+  unfolding kindAt
+  kind-dc w = sym (choose-yes Dc _ (eq-eqb what askDc w))
 
-  pub start-ready : Ready refs o len
-  start-ready = subst (λ (l : List ℕ). Ready refs l len) (sym start-rooms) r
+  module _ (x : what ≡ askDc → ⊥) {b : Bool} (e : b ≡ isSysvol path) where
+    pub kind-sysvol : b ≡ true → Sysvol ≡ kindAt what path
+    unfolding kindAt
+    kind-sysvol h = sym (choose-no Dc _ (ne-eqb what askDc x) ∙ choose-yes Sysvol Root (sym e ∙ h))
 
-  pub start-point : {s : ℕ} → left < 65536 → s ≡ m + 131072 * left → Point refs o s
-  start-point l d =
-      subst (λ (k : ℕ). Point refs o k) (sym (d ∙ ap (λ (k : ℕ). k + 131072 * left) start-found))
-      (subst (λ (q : List ℕ). Point refs q (pointFound refs (take len texts) (step2In clock (take len texts) refs) + 131072 * left)) (sym start-rooms) (found-point refs texts len r clock left l))
+    pub kind-root : b ≡ false → Root ≡ kindAt what path
+    unfolding kindAt
+    kind-root h = sym (choose-no Dc _ (ne-eqb what askDc x) ∙ choose-no Sysvol Root (sym e ∙ h))
 
-  start-missed : m % 8 ≡ 5 → step2In clock (take len texts) refs ≡ Missed
-  start-missed h = found-was-missed refs (take len texts) (step2In clock (take len texts) refs) (ap (λ (k : ℕ). k % 8) (sym start-found) ∙ h)
+-- the functions that crates above call
+module _ (refs doms texts : List ℕ) (size clock len left : ℕ) (hit : Bool) {n r : ℕ} {after : List ℕ} {x : Packed}
+    (e : (d : List ℕ) (c : ℕ) → x ≡ stepsAt refs d size c r after) where
+  pub gone-lookup : Parts due2 0 hit len left n → SameRest refs doms clock n texts r after
+      → x ≡ packed (turned left clock (fromStep2 (cachesOf refs doms) (coreOf (take len texts) size hit) clock))
+  unfolding stepsFrom turned fromStep2
+  gone-lookup q t = e doms clock ∙ (t .same size ∙ (at-parts q refs doms texts size clock ∙ by2 refs doms size clock 0 hit (take len texts) left))
 
-  pub start-steps : {s : ℕ} {x : Packed} → (m % 8 ≡ 5 → ⊥) → s ≡ m + 131072 * left → x ≡ stepsAt refs doms size clock s o
-      → x ≡ stepsFrom left refs doms clock (withHit (hitAt (cachesOf refs doms) (coreOf (take len texts) size hit)) (coreOf (take len texts) size hit)) (step2 (cachesOf refs doms) (coreOf (take len texts) size hit) clock)
-  start-steps h d x =
-      x
-      ∙ ((λ k. stepsAt refs doms size clock ((d ∙ ap (λ (j : ℕ). j + 131072 * left) start-found) k) (start-rooms k))
-      ∙ found-steps refs texts len r clock doms size left hit
-      (λ z. absurd (h (ap (λ (k : ℕ). k % 8) start-found ∙ (ap (λ (f : Matched). pointFound refs (take len texts) f % 8) z ∙ found-missed-is refs (take len texts))))))
+  pub gone-domain : Parts due5 0 hit len left n → SameRest refs doms clock n texts r after
+      → x ≡ packed (goes left (cachesOf refs doms) clock (coreOf (take len texts) size hit) (asks (step5 (decode domains doms) (coreOf (take len texts) size hit))))
+  unfolding stepsFrom
+  gone-domain q t = e doms clock ∙ (t .same size ∙ (at-parts q refs doms texts size clock ∙ by5 refs doms size clock 0 hit (take len texts) left))
 
-  pub start-asked : {q : Rested} → m % 8 ≡ 5
-      → q ≡ restedOf (asking left (coreOf (take len o) size hit) (step5 (decode domains doms) (coreOf (take len o) size hit)))
-      → joined q o ≡ stepsFrom left refs doms clock (withHit (hitAt (cachesOf refs doms) (coreOf (take len texts) size hit)) (coreOf (take len texts) size hit)) (step2 (cachesOf refs doms) (coreOf (take len texts) size hit) clock)
-  start-asked {q} h x =
-      ap (λ (l : List ℕ). joined q l) start-rooms
-      ∙ lookup-missed refs doms texts len left size clock hit (r .order) refl (start-missed h)
-      (domain-asked refs doms texts len left size clock hit Nothing (r .standing) refl
-      (x ∙ ap (λ (l : List ℕ). restedOf (asking left (coreOf (take len l) size hit) (step5 (decode domains doms) (coreOf (take len l) size hit)))) start-rooms))
+  pub gone-stored : (i : ℕ) (b : Bool) → b ≡ false → Parts due7 i hit len left n → SameRest refs doms clock n texts r after
+      → x ≡ packed (goes left (cachesOf refs doms) clock (coreOf (take len texts) size hit) (calledAfter b (coreOf (take len texts) size hit) (entryAt referrals i refs)))
+  unfolding stepsFrom calledAfter
+  gone-stored i b z q t =
+      e doms clock
+      ∙ (t .same size
+      ∙ (at-parts q refs doms texts size clock
+      ∙ (by7 refs doms size clock i hit (take len texts) left
+      ∙ ap (λ (v : Bool). packed (goes left (cachesOf refs doms) clock (coreOf (take len texts) size hit) (calledAfter v (coreOf (take len texts) size hit) (entryAt referrals i refs)))) (sym z))))
+
+module _ (refs doms p : List ℕ) (size clock left i : ℕ) (hit : Bool) {x : Packed} where
+  pub gone-sysvol : (b : Bool) → b ≡ true → ((s : ℕ) → x ≡ packed (asking left (coreOf p s hit) (step3 (coreOf p s hit) (entryAt referrals i refs))))
+      → x ≡ packed (goes left (cachesOf refs doms) clock (coreOf p size hit) (calledAfter b (coreOf p size hit) (entryAt referrals i refs)))
+  unfolding calledAfter
+  gone-sysvol b z e =
+      e size
+      ∙ (ap packed (sym (goes-asks left (cachesOf refs doms) clock (coreOf p size hit) (step3 (coreOf p size hit) (entryAt referrals i refs))))
+      ∙ ap (λ (v : Bool). packed (goes left (cachesOf refs doms) clock (coreOf p size hit) (calledAfter v (coreOf p size hit) (entryAt referrals i refs)))) (sym z))

@@ -7,38 +7,35 @@ use Prim.Native.Nat.{ℕ, zero, suc, _+_, _-_, _≤_, _<_}
 use native.Mathlib.Omega.{arith}
 use lib.ListN.{length, getD, take, drop, length-take}
 use lib.Seq.{length-take-le}
-use lib.Dec.{eqb, leb}
+use lib.Dec.{leb}
 use borrow.Author.Tests.{eq-eqb, ne-eqb, le-leb, leb-true, eqb-true}
 use Rattle.laws.specs.Choice.{choose}
 use Rattle.laws.proofs.Choices.{choose-yes, choose-no, and-left, and-right}
 use Rattle.laws.proofs.Orders.{told}
-use Rattle.unc.specs.names.Paths.{components, firstOf, isSysvol, pathUnits, normalisedCount, isNormalised}
-use Rattle.cache.specs.order.Entries.{Referral, Domain, Place}
+use Rattle.unc.specs.names.Paths.{components, firstOf, pathUnits, normalisedCount, isNormalised}
+use Rattle.cache.specs.order.Entries.{Referral, Place}
 use Rattle.cache.specs.order.Order.{goodPrefix}
 use Rattle.cache.proofs.order.KindLaws.{prefix-some}
 use Rattle.unc.proofs.names.PieceLaws.{spans, first-over}
 use Rattle.unc.proofs.names.SpanLaws.{span-start, span-some}
 use Rattle.laws.specs.Lists.{part}
 use Rattle.cache.specs.places.Layout.{placeCount, textAt, roomAt}
-use Rattle.cache.specs.order.Memory.{referrals, domains, decode, referralOf}
-use Rattle.cache_lookup.specs.Lookup.{longestMatch, withKey, expired}
+use Rattle.cache.specs.order.Memory.{referrals, decode, referralOf}
+use Rattle.cache_lookup.specs.Lookup.{withKey}
 use Rattle.cache_lookup.specs.Code.{entryAt}
 use Rattle.cache_lookup.specs.declared.Found.{Found}
 use Rattle.cache_lookup.specs.declared.Found.the-variants.{At, Nothing}
-use Rattle.walk_steps.specs.steps.Steps.{Core, Question, waits, ended, rests, asking, domainNamed, dcRequest, step5, step5With, step5Domain, step6, step6Host, step10, linkRequest}
+use Rattle.walk_steps.specs.steps.Steps.{Core, Question, waits, ended, rests, asking}
 use Rattle.walk_steps.specs.steps.Held.{askingOf, nextOf, triedOf}
-use Rattle.walk_steps.specs.steps.Code.{restedOf, endedAt, askedAt, restAt, domainAsking, turning, step9At, step9In, step2At, step2In}
+use Rattle.walk_steps.specs.steps.Code.{restedOf, endedAt, askedAt, restAt, domainAsking, rootAt, rootIn}
 use Rattle.walk_steps.specs.declared.steps.Kind.{Kind}
-use Rattle.walk_steps.specs.declared.steps.Kind.the-variants.{Dc, Root, Link, Sysvol}
 use Rattle.walk_steps.specs.declared.steps.End.{End}
 use Rattle.walk_steps.specs.declared.steps.End.the-variants.{LimitReached, TooLong}
 use Rattle.walk_steps.specs.declared.steps.Asking.{Asking}
 use Rattle.walk_steps.specs.declared.steps.Next.{Next}
 use Rattle.walk_steps.specs.declared.steps.Next.the-variants.{Asks, Ends}
 use Rattle.walk_steps.specs.declared.steps.Rested.{Rested}
-use Rattle.walk_steps.specs.declared.steps.Matched.{Matched}
-use Rattle.walk_steps.specs.declared.steps.Matched.the-variants.{Fresh, Refresh, Stale, Missed}
-use Rattle.walk_steps.proofs.steps.HeldLaws.{none-held, key-held, key-fits, longest-fits}
+use Rattle.walk_steps.proofs.steps.HeldLaws.{key-fits}
 
 -- a question put, or the limit
 module _ (q : Asking) (path left : ℕ) (hit : Bool) where
@@ -78,91 +75,21 @@ asked-as left w q a e h g t = e ∙ ((λ j. askedAt (h j) (g j) left (w .hit)) �
 
 -- step 9's root entry
 module _ (path raw : List ℕ) {f : Found} (e : f ≡ withKey referrals (firstOf 2 path) (decode referrals raw)) where
-  pub step9-none : f ≡ Nothing → Stale ≡ step9In path raw
-  unfolding step9In step9At
-  step9-none h = sym (ap (step9At raw) (sym e ∙ h))
+  pub root-none : f ≡ Nothing → Nothing ≡ rootIn path raw
+  unfolding rootIn rootAt
+  root-none h = sym (ap (rootAt raw) (sym e ∙ h))
 
   module _ (i : ℕ) (h : f ≡ At i) where
-    pub step9-fits : i < placeCount raw
-    step9-fits = key-fits referrals (firstOf 2 path) raw i (sym e ∙ h)
+    pub root-fits : i < placeCount raw
+    root-fits = key-fits referrals (firstOf 2 path) raw i (sym e ∙ h)
 
-    pub step9-root : {r : Bool} → r ≡ entryAt referrals i raw .settings .root → r ≡ true → Refresh i ≡ step9In path raw
-    unfolding step9In step9At
-    step9-root p t = sym (ap (step9At raw) (sym e ∙ h) ∙ choose-yes _ _ (sym p ∙ t))
+    pub root-there : {r : Bool} → r ≡ entryAt referrals i raw .settings .root → r ≡ true → At i ≡ rootIn path raw
+    unfolding rootIn rootAt
+    root-there p t = sym (ap (rootAt raw) (sym e ∙ h) ∙ choose-yes _ _ (sym p ∙ t))
 
-    pub step9-link : {r : Bool} → r ≡ entryAt referrals i raw .settings .root → r ≡ false → Stale ≡ step9In path raw
-    unfolding step9In step9At
-    step9-link p t = sym (ap (step9At raw) (sym e ∙ h) ∙ choose-no _ _ (sym p ∙ t))
-
--- step 2
-module _ (clock : ℕ) (path raw : List ℕ) {f : Found} (e : f ≡ longestMatch path (decode referrals raw)) where
-  pub step2-none : f ≡ Nothing → Missed ≡ step2In clock path raw
-  unfolding step2In step2At
-  step2-none h = sym (ap (step2At clock path raw) (sym e ∙ h))
-
-  module _ (i : ℕ) (h : f ≡ At i) where
-    pub step2-fits : i < placeCount raw
-    step2-fits = longest-fits path raw i (sym e ∙ h)
-
-    pub step2-fresh : {r : Bool} → r ≡ expired clock (entryAt referrals i raw) → r ≡ false → Fresh i ≡ step2In clock path raw
-    unfolding step2In step2At
-    step2-fresh p t = sym (ap (step2At clock path raw) (sym e ∙ h) ∙ choose-no _ _ (sym p ∙ t))
-
-    module _ {r : Bool} (p : r ≡ expired clock (entryAt referrals i raw)) (t : r ≡ true) where
-      pub step2-root : {s : Bool} → s ≡ entryAt referrals i raw .settings .root → s ≡ true → Stale ≡ step2In clock path raw
-      unfolding step2In step2At
-      step2-root q u = sym (ap (step2At clock path raw) (sym e ∙ h) ∙ (choose-yes _ _ (sym p ∙ t) ∙ choose-yes _ _ (sym q ∙ u)))
-
-      pub step2-link : {s : Bool} {m : Matched} → s ≡ entryAt referrals i raw .settings .root → s ≡ false → m ≡ step9In path raw → m ≡ step2In clock path raw
-      unfolding step2In step2At
-      step2-link q u g = g ∙ sym (ap (step2At clock path raw) (sym e ∙ h) ∙ (choose-yes _ _ (sym p ∙ t) ∙ choose-no _ _ (sym q ∙ u)))
-
--- the domain's request
-module _ (w : Core) (d : Domain) where
-  pub domain-none : length (d .dcs) ≡ 0 → domainAsking Dc (w .path) 0 (w .size) ≡ askingOf (step5Domain w d)
-  unfolding step5Domain askingOf domainAsking dcRequest
-  domain-none h = ap askingOf (sym (choose-yes _ _ (eq-eqb _ 0 h)))
-
-  pub domain-sysvol : (length (d .dcs) ≡ 0 → ⊥) → isSysvol (w .path) ≡ true → domainAsking Sysvol (w .path) (d .hint) (w .size) ≡ askingOf (step5Domain w d)
-  unfolding step5Domain askingOf domainAsking step10
-  domain-sysvol h t = ap askingOf (sym (choose-no _ _ (ne-eqb _ 0 h) ∙ choose-yes _ _ t))
-
-  pub domain-root : (length (d .dcs) ≡ 0 → ⊥) → isSysvol (w .path) ≡ false → domainAsking Root (w .path) (d .hint) (w .size) ≡ askingOf (step5Domain w d)
-  unfolding step5Domain askingOf domainAsking step6
-  domain-root h t = ap askingOf (sym (choose-no _ _ (ne-eqb _ 0 h) ∙ choose-no _ _ t))
-
-  pub domain-untried : step5Domain w d .tried ≡ []
-  unfolding step5Domain dcRequest step10 step6 choose
-  domain-untried = go (told (eqb (length (d .dcs)) 0)) (told (isSysvol (w .path)))
-    where
-      go : (eqb (length (d .dcs)) 0 ≡ true) ⊎ (eqb (length (d .dcs)) 0 ≡ false) → (isSysvol (w .path) ≡ true) ⊎ (isSysvol (w .path) ≡ false) → step5Domain w d .tried ≡ []
-      go (inl h) s = rw h
-      go (inr h) (inl s) = rw (h, s)
-      go (inr h) (inr s) = rw (h, s)
-
--- step 5
-module _ (raw : List ℕ) (w : Core) {name : List ℕ} {f : Found} (n : name ≡ getD (components (w .path)) 0 []) (e : f ≡ withKey domains name (decode domains raw)) where
-  found : withKey domains (getD (components (w .path)) 0 []) (decode domains raw) ≡ f
-  found = ap (λ (x : List ℕ). withKey domains x (decode domains raw)) (sym n) ∙ sym e
-
-  pub step5-host : f ≡ Nothing → step6Host w ≡ step5 (decode domains raw) w
-  unfolding step5 domainNamed step5With
-  step5-host h = sym (ap (step5With w) (none-held (decode domains raw) (found ∙ h)))
-
-  pub step5-domain : (i : ℕ) → f ≡ At i → step5Domain w (entryAt domains i raw) ≡ step5 (decode domains raw) w
-  unfolding step5 domainNamed step5With
-  step5-domain i h = sym (ap (step5With w) (key-held domains (getD (components (w .path)) 0 []) raw i (found ∙ h)))
-
--- step 9's question
-pub asked-link : {r : Rested} (left : ℕ) (w : Core) (i : ℕ) (raw : List ℕ) {p : List ℕ} {h n : ℕ} {b : Bool}
-    → r ≡ askedAt (record { kind = Link; entry = length p; party = h; began = h; size = w .size; covered = false }) n left b
-    → p ≡ entryAt referrals i raw .prefix → h ≡ entryAt referrals i raw .hint → n ≡ length (w .path) → b ≡ w .hit
-    → r ≡ restedOf (asking left w (linkRequest w (length (entryAt referrals i raw .prefix)) (entryAt referrals i raw .hint) (entryAt referrals i raw .hint) false))
-unfolding linkRequest askingOf
-asked-link left w i raw {p} {h} {n} {b} e f g k l =
-    e
-    ∙ ((λ j. askedAt (record { kind = Link; entry = length (f j); party = g j; began = g j; size = w .size; covered = false }) (k j) left (l j))
-    ∙ asked-rests left w (linkRequest w (length (entryAt referrals i raw .prefix)) (entryAt referrals i raw .hint) (entryAt referrals i raw .hint) false) refl)
+    pub root-link : {r : Bool} → r ≡ entryAt referrals i raw .settings .root → r ≡ false → Nothing ≡ rootIn path raw
+    unfolding rootIn rootAt
+    root-link p t = sym (ap (rootAt raw) (sym e ∙ h) ∙ choose-no _ _ (sym p ∙ t))
 
 -- a good path begins with a backslash
 prefix-led : (s : List ℕ) → goodPrefix s ≡ true → getD s 0 0 ≡ 92
@@ -200,21 +127,6 @@ pub domain-asking : (kind : Kind) (path : List ℕ) (party size : ℕ) {n : ℕ}
 unfolding domainAsking
 domain-asking kind path party size e = λ j. record { kind = kind; entry = e j; party = party; began = party; size = size; covered = false }
 
--- whether step 4 goes to step 11
-module _ (path : List ℕ) (a : Referral) {r : Bool} (e : r ≡ a .settings .root) where
-  pub turns-root : r ≡ true → false ≡ turning path a
-  unfolding turning
-  turns-root h = rw (← e, h)
-
-  module _ (h : r ≡ false) {s : Bool} (f : s ≡ isSysvol path) where
-    pub turns-sysvol : s ≡ true → false ≡ turning path a
-    unfolding turning
-    turns-sysvol g = rw (← e, h, ← f, g)
-
-    pub turns-link : s ≡ false → {t : Bool} → t ≡ a .settings .interlink → t ≡ turning path a
-    unfolding turning
-    turns-link g k = rw (← e, h, ← f, g) k
-
 -- numbers that fit a unit
 pub prefix-within : (i : ℕ) (raw : List ℕ) → length (entryAt referrals i raw .prefix) ≤ 256
 unfolding entryAt referralOf textAt roomAt part
@@ -222,15 +134,3 @@ prefix-within i raw = simp (length-take, length-take) (omega arith)
 
 pub length-first : (k : ℕ) (path : List ℕ) {n : ℕ} → n ≡ length (firstOf k path) → length (take n path) ≡ n
 length-first k path e = length-take-le _ path (first-within k path e)
-
--- a request with the DC hinted at
-pub domain-hint : (kind : Kind) (path : List ℕ) (size : ℕ) {h g : ℕ} → h ≡ g → domainAsking kind path h size ≡ domainAsking kind path g size
-domain-hint kind path size e = ap (λ (x : ℕ). domainAsking kind path x size) e
-
--- step 5's questions
-module _ (left : ℕ) (raw : List ℕ) (w : Core) {name : List ℕ} {f : Found} (n : name ≡ getD (components (w .path)) 0 []) (e : f ≡ withKey domains name (decode domains raw)) where
-  pub host-asked : f ≡ Nothing → restedOf (asking left w (step6Host w)) ≡ restedOf (asking left w (step5 (decode domains raw) w))
-  host-asked h = ap (λ (q : Question). restedOf (asking left w q)) (step5-host raw w n e h)
-
-  pub domain-asked : (i : ℕ) → f ≡ At i → restedOf (asking left w (step5Domain w (entryAt domains i raw))) ≡ restedOf (asking left w (step5 (decode domains raw) w))
-  domain-asked i h = ap (λ (q : Question). restedOf (asking left w q)) (step5-domain raw w n e i h)

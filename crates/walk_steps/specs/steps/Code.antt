@@ -1,14 +1,13 @@
 -- Shapes of the code, proved equal to the rules; nothing here is to be believed.
 use Prim.Native.Nat.{ℕ, _-_}
-use mathlib.Core.Bool.{Bool, false, _&&_, not}
+use mathlib.Core.Bool.{Bool, false}
 use mathlib.Core.List.{List, []}
 use lib.ListN.{length, take}
 use lib.Dec.{eqb}
 use Rattle.laws.specs.Choice.{choose}
-use Rattle.unc.specs.names.Paths.{firstOf, isSysvol}
-use Rattle.cache.specs.order.Entries.{Referral}
+use Rattle.unc.specs.names.Paths.{firstOf}
 use Rattle.cache.specs.order.Memory.{referrals, decode}
-use Rattle.cache_lookup.specs.Lookup.{longestMatch, withKey, expired}
+use Rattle.cache_lookup.specs.Lookup.{withKey}
 use Rattle.cache_lookup.specs.Code.{entryAt}
 use Rattle.cache_lookup.specs.declared.Found.{Found}
 use Rattle.cache_lookup.specs.declared.Found.the-variants.{At, Nothing}
@@ -21,8 +20,6 @@ use Rattle.walk_steps.specs.declared.steps.Next.{Next}
 use Rattle.walk_steps.specs.declared.steps.Next.the-variants.{Asks, Ends}
 use Rattle.walk_steps.specs.declared.steps.Progress.{Progress}
 use Rattle.walk_steps.specs.declared.steps.Rested.{Rested}
-use Rattle.walk_steps.specs.declared.steps.Matched.{Matched}
-use Rattle.walk_steps.specs.declared.steps.Matched.the-variants.{Fresh, Refresh, Stale, Missed}
 use Rattle.walk_steps.specs.steps.Held.{coreOf, nextOf, triedOf, questionOf}
 
 -- a rest as numbers, the texts by their lengths
@@ -62,22 +59,10 @@ unfoldable pub domainAsking : Kind → List ℕ → ℕ → ℕ → Asking
 domainAsking kind path party size =
     record { kind = kind; entry = length (firstOf 1 path); party = party; began = party; size = size; covered = false }
 
--- step 4 goes to step 11 at a link with Interlink, SYSVOL and NETLOGON apart
-unfoldable pub turning : List ℕ → Referral → Bool
-turning path e = not (e .settings .root) && (not (isSysvol path) && e .settings .interlink)
+-- the root entry that step 9 asks
+unfoldable pub rootAt : List ℕ → Found → Found
+rootAt raw Nothing = Nothing
+rootAt raw (At i) = choose (entryAt referrals i raw .settings .root) (At i) Nothing
 
--- step 9, and step 2 at an entry that was found, and step 2
-unfoldable pub step9At : List ℕ → Found → Matched
-step9At raw Nothing = Stale
-step9At raw (At i) = choose (entryAt referrals i raw .settings .root) (Refresh i) Stale
-
-unfoldable pub step9In : List ℕ → List ℕ → Matched
-step9In path raw = step9At raw (withKey referrals (firstOf 2 path) (decode referrals raw))
-
-unfoldable pub step2At : ℕ → List ℕ → List ℕ → Found → Matched
-step2At clock path raw Nothing = Missed
-step2At clock path raw (At i) =
-    choose (expired clock (entryAt referrals i raw)) (choose (entryAt referrals i raw .settings .root) Stale (step9In path raw)) (Fresh i)
-
-unfoldable pub step2In : ℕ → List ℕ → List ℕ → Matched
-step2In clock path raw = step2At clock path raw (longestMatch path (decode referrals raw))
+unfoldable pub rootIn : List ℕ → List ℕ → Found
+rootIn path raw = rootAt raw (withKey referrals (firstOf 2 path) (decode referrals raw))

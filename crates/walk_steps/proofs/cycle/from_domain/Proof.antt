@@ -1,17 +1,23 @@
-use Rattle.walk_steps.proofs.cycle.GoneLaws.{gone-domain}
-use Rattle.cache_lookup.specs.declared.Found.the-variants.{At, Nothing}
-use mathlib.Core.Path.{_≡_}
-use Prim.Native.Nat.{ℕ}
-use native.Mathlib.Omega.{arith}
+use Rattle.walk_steps.proofs.cycle.PointLaws.{parts-point, gone-domain}
 use borrow.Author.Needs.{needs}
+use native.Mathlib.Omega.{arith}
+use denote.Ref.{now}
 use Rattle.walk_steps.proofs.cycle.from_domain.Statement.{statement}
 use Rattle.walk_steps.proofs.cycle.from_domain.Tie as tie
 
-domain-rest-requires : tie.Need-domain-rest-requires
-domain-rest-requires c κs = (search needs, λ i h. absurd (let z : _≡_ {A = ℕ} 0 1 = cc h in omega arith))
+point-requires : tie.Need-point-requires
+point-requires c κs = (omega arith, (omega arith, (c .before .before .before .before .pre .standing .few, search needs)))
+
+domain-requires : tie.Need-domain-requires
+domain-requires c κs = (parts-point (c .before .point .ensures) (now (c .before .before .before .before .before .before .args .refs)) (now (c .before .before .before .before .before .before .args .texts)) (search needs) (c .before .before .before .before .before .before .pre) (λ a b. absurd (omega arith)) (λ a. absurd (omega arith)), (omega (arith, c .before .point .ensures .its-case), omega (arith, c .before .point .ensures .its-case)))
+
+rest-at-requires : tie.Need-rest-at-requires
+rest-at-requires c κs = c .before .before .before .domain .ensures .halted
 
 returns : tie.Need-returns
-returns c = gone-domain _ _ _ _ _ (c .before .before .domain-rest .ensures)
+returns c = let p13 = c .before .before .before .before .before .before .before .before .before .before .before .before .before in gone-domain (now (p13 .args .refs)) (now (p13 .args .doms)) (now (p13 .args .texts)) (p13 .args .g .size) (p13 .args .g .clock) (p13 .args .g .len) (p13 .args .g .left) (p13 .args .g .hit) (c .before .before .rest-at .ensures) (c .before .before .before .before .before .before .before .before .point .ensures) (c .before .before .before .before .before .before .domain .ensures)
 
 pub from-domain-spec : {M : Type 1} → statement M
-from-domain-spec = tie.close (tie.spec domain-rest-requires (λ c. search needs) returns)
+from-domain-spec =
+    tie.close
+    (tie.spec (λ c. search needs) point-requires domain-requires rest-at-requires (λ c. search needs) returns)

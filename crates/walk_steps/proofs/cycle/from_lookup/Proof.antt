@@ -1,10 +1,23 @@
-use Rattle.walk_steps.proofs.cycle.GoneLaws.{gone-lookup}
+use Rattle.walk_steps.proofs.cycle.PointLaws.{parts-point, gone-lookup}
 use borrow.Author.Needs.{needs}
+use native.Mathlib.Omega.{arith}
+use denote.Ref.{now}
 use Rattle.walk_steps.proofs.cycle.from_lookup.Statement.{statement}
 use Rattle.walk_steps.proofs.cycle.from_lookup.Tie as tie
 
+point-requires : tie.Need-point-requires
+point-requires c κs = (omega arith, (omega arith, (c .before .before .before .before .pre .standing .few, search needs)))
+
+lookup-requires : tie.Need-lookup-requires
+lookup-requires c κs = (parts-point (c .before .point .ensures) (now (c .before .before .before .before .before .before .args .refs)) (now (c .before .before .before .before .before .before .args .texts)) (search needs) (c .before .before .before .before .before .before .pre) (λ a b. absurd (omega arith)) (λ a. absurd (omega arith)), c .before .point .ensures .its-case)
+
+rest-at-requires : tie.Need-rest-at-requires
+rest-at-requires c κs = c .before .before .before .lookup .ensures .halted
+
 returns : tie.Need-returns
-returns c = gone-lookup _ _ _ _ _ (c .before .before .lookup-rest .ensures)
+returns c = let p13 = c .before .before .before .before .before .before .before .before .before .before .before .before .before in gone-lookup (now (p13 .args .refs)) (now (p13 .args .doms)) (now (p13 .args .texts)) (p13 .args .g .size) (p13 .args .g .clock) (p13 .args .g .len) (p13 .args .g .left) (p13 .args .g .hit) (c .before .before .rest-at .ensures) (c .before .before .before .before .before .before .before .before .point .ensures) (c .before .before .before .before .before .before .lookup .ensures)
 
 pub from-lookup-spec : {M : Type 1} → statement M
-from-lookup-spec = tie.close (tie.spec (λ c κs. search needs) (λ c. search needs) returns)
+from-lookup-spec =
+    tie.close
+    (tie.spec (λ c. search needs) point-requires lookup-requires rest-at-requires (λ c. search needs) returns)

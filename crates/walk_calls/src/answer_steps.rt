@@ -1,20 +1,13 @@
 // The answers to the questions of a walk that is held: the steps that they bring, and the end of the call.
 ghost use mathlib.Core.Path.{_≡_};
 ghost use mathlib.Core.Bool.{true, false};
-ghost use Prim.Native.Nat.{_-_};
+ghost use Prim.Native.Nat.{_≤_};
 ghost use lib.ListN.{length, take};
-ghost use Rattle.cache.specs.order.Memory.{referrals, domains, encode, inOrder};
-ghost use Rattle.walk_steps.specs.steps.Steps.{turned};
-ghost use Rattle.walk_store.specs.dc_reply.Code.{domainsLeft};
-ghost use Rattle.walk_store.specs.hint_then_reply.Code.{referralsLeft};
-ghost use Rattle.walk_answers.specs.io_answer.Code.{restOf};
-ghost use Rattle.walk_form.specs.held.Walks.{bootIn};
-ghost use Rattle.walk_calls.specs.call_end.Code.{left};
-ghost use Rattle.walk_calls.specs.call_end.Closing.{closes};
-ghost use Rattle.walk_calls.specs.answer_steps.Code.{AnswerDue, ioTurn, referralTurn};
+ghost use Rattle.walk_calls.specs.answer_steps.Code.{AnswerDue, progressOf, ioTurn, referralTurn, closed, closing};
 use crate::call_end::Outcome;
 use walk_form::held::Walk;
 use walk_steps::steps::Asking;
+use walk_steps::steps::Progress;
 
 const ROOMS: usize = 512;
 
@@ -26,28 +19,43 @@ fn copy_rooms(texts: &[u16], rooms: &mut [u16])
     memory::copy_units(rooms, 0, &texts[..ROOMS]);
 }
 
+// What a walk in form hands on to the steps.
+fn progress(walk: Walk, clock: u32, room: usize) -> Progress
+    requires { ⌜ (walk .limit ≤ 64) × (walk .moves ≤ walk .limit) ⌝ }
+    ensures { λ g. ⌜ g ≡ progressOf walk clock room ⌝ }
+{
+    Progress {
+        len: walk.path as usize,
+        left: walk.limit as u16 - walk.moves,
+        hit: walk.hit,
+        size: walk.size,
+        clock,
+        room,
+    }
+}
+
 // The answer to the I/O try q.
 pub fn io_turn(
     refs: &mut [u16],
+    doms: &[u16],
     walk: Walk,
     texts: &mut [u16],
     q: Asking,
     status: u32,
+    clock: u32,
     out: &mut [u8],
 ) -> Outcome
-    requires { ⌜ AnswerDue (now refs) walk (now texts) q true ⌝ }
-    ensures left { λ o. ⌜ left o (now (texts .exit)) (now (out .exit)) ≡ closes (walk .limit) (bootIn walk (now (texts .entry))) (restOf (walk .limit - walk .moves) (ioTurn (now (refs .entry)) (now (texts .entry)) walk q status)) walk (now (texts .entry)) (now (out .entry)) ⌝ }
-    ensures cache { λ o. ⌜ now (refs .exit) ≡ encode referrals (ioTurn (now (refs .entry)) (now (texts .entry)) walk q status .caches .referrals) ⌝ }
+    requires { ⌜ AnswerDue (now refs) (now doms) walk (now texts) q true ⌝ }
+    ensures { λ o. ⌜ closed o (now (texts .exit)) (now (out .exit)) (now (refs .exit)) (now (doms .entry)) ≡ closing clock walk (now (texts .entry)) (now (out .entry)) (now (refs .entry)) (now (doms .entry)) (ioTurn (now (refs .entry)) (now (doms .entry)) (now (texts .entry)) walk q status) ⌝ }
 {
+    let g = progress(walk, clock, out.len());
     let mut rooms = [0; 512];
     copy_rooms(texts, &mut rooms);
     let r = walk_answers::io_answer::io_answer(
         refs,
+        doms,
         &mut rooms,
-        walk.path as usize,
-        walk.limit as u16 - walk.moves,
-        walk.hit,
-        walk.size,
+        g,
         q,
         walk.tried as usize,
         status,
@@ -67,27 +75,20 @@ pub fn referral_turn(
     clock: u32,
     out: &mut [u8],
 ) -> Outcome
-    requires { ⌜ AnswerDue (now refs) walk (now texts) q false × (inOrder domains (now doms) ≡ true) ⌝ }
-    ensures left { λ o. ⌜ left o (now (texts .exit)) (now (out .exit)) ≡ closes (walk .limit) (bootIn walk (now (texts .entry))) (turned (walk .limit - walk .moves) clock (referralTurn (now (refs .entry)) (now (doms .entry)) (now (texts .entry)) walk q status (now (reply .entry)) clock)) walk (now (texts .entry)) (now (out .entry)) ⌝ }
-    ensures refs { λ o. ⌜ now (refs .exit) ≡ referralsLeft (length (now (out .entry))) (walk .limit - walk .moves) clock (referralTurn (now (refs .entry)) (now (doms .entry)) (now (texts .entry)) walk q status (now (reply .entry)) clock) (now (refs .entry)) ⌝ }
-    ensures doms { λ o. ⌜ now (doms .exit) ≡ domainsLeft (length (now (out .entry))) (walk .limit - walk .moves) clock (referralTurn (now (refs .entry)) (now (doms .entry)) (now (texts .entry)) walk q status (now (reply .entry)) clock) (now (doms .entry)) ⌝ }
+    requires { ⌜ AnswerDue (now refs) (now doms) walk (now texts) q false ⌝ }
+    ensures { λ o. ⌜ closed o (now (texts .exit)) (now (out .exit)) (now (refs .exit)) (now (doms .exit)) ≡ closing clock walk (now (texts .entry)) (now (out .entry)) (now (refs .entry)) (now (doms .entry)) (referralTurn (now (refs .entry)) (now (doms .entry)) (now (texts .entry)) walk q status (now (reply .entry)) clock) ⌝ }
 {
-    let left = walk.limit as u16 - walk.moves;
+    let g = progress(walk, clock, out.len());
     let mut rooms = [0; 512];
     copy_rooms(texts, &mut rooms);
     let r = walk_answers::referral_answer::referral_answer(
         refs,
         doms,
         &mut rooms,
-        walk.path as usize,
-        left,
-        walk.hit,
-        walk.size,
+        g,
         q,
         status,
         reply,
-        clock,
-        out.len(),
     );
     crate::call_end::close_answer(r, &rooms, walk, texts, out)
 }

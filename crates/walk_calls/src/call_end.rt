@@ -84,7 +84,7 @@ pub fn close_start(
     requires { ⌜ (limit ≤ 64) × ((r .left ≤ limit) × ((length (now boot) ≤ 255) × ((length (now rooms) ≡ 512) × ((r .path ≤ 256) × (length (now texts) ≡ 768))))) ⌝ }
     ensures { λ o. ⌜ left o (now (texts .exit)) (now (out .exit)) ≡ closedRest limit size (now (boot .entry)) r (now (rooms .entry)) walk (now (texts .entry)) (now (out .entry)) ⌝ }
 {
-    if !walk_store::dc_reply::rest_fits(r, rooms, out.len()) {
+    if !walk_store::after_reply::rest_fits(r, rooms, out.len()) {
         return Outcome {
             verdict: Verdict::ShortBuffer,
             walk,
@@ -110,7 +110,7 @@ pub fn close_answer(
     ensures { λ o. ⌜ left o (now (texts .exit)) (now (out .exit)) ≡ closedRest (walk .limit) (walk .size) (bootIn walk (now (texts .entry))) r (now (rooms .entry)) walk (now (texts .entry)) (now (out .entry)) ⌝ }
 {
     let room = out.len();
-    if !walk_store::dc_reply::rest_fits(r, rooms, room) {
+    if !walk_store::after_reply::rest_fits(r, rooms, room) {
         return Outcome {
             verdict: Verdict::ShortBuffer,
             walk,

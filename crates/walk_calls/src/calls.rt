@@ -107,7 +107,7 @@ pub fn answer_io(
             walk,
         };
     }
-    crate::answer_steps::io_turn(refs, walk, texts, q, status, out)
+    crate::answer_steps::io_turn(refs, doms, walk, texts, q, status, clock, out)
 }
 
 // The answer to a referral request.

@@ -1,11 +1,11 @@
 // A start whose path has been tested for its form: the first rest of the walk.
 ghost use mathlib.Core.Path.{_≡_};
-ghost use mathlib.Core.Bool.{false};
 ghost use lib.ListN.{length, take};
 ghost use Rattle.unc.specs.names.Code.{formWithin};
 ghost use Rattle.unc.specs.names.Paths.{pathUnits};
 ghost use Rattle.walk_steps.specs.steps.Steps.{started, turned};
-ghost use Rattle.walk_steps.specs.steps.Held.{cachesOf, coreOf};
+ghost use Rattle.walk_steps.specs.steps.Held.{cachesOf};
+ghost use Rattle.walk_steps.specs.steps.Code.{coreAt};
 ghost use Rattle.walk_steps.specs.cycle.Code.{joined, packed};
 ghost use Rattle.walk_calls.specs.call_end.Code.{left};
 ghost use Rattle.walk_calls.specs.start_steps.Code.{pathRooms, startAt, startRooms, Begun};
@@ -14,6 +14,8 @@ use crate::call_end::Verdict;
 use unc::names::Form;
 use walk_form::held::Walk;
 use walk_steps::steps::End;
+use walk_steps::steps::Next;
+use walk_steps::steps::Progress;
 use walk_steps::steps::Rested;
 
 const ROOM: usize = 256;
@@ -30,24 +32,15 @@ pub fn put_path(path: &[u16], rooms: &mut [u16]) -> Form
     unc::path_form::normalise(path, &mut rooms[..ROOM])
 }
 
-// Where the steps rest after a start with a path of n units and k components.
-fn first_rest(
-    refs: &[u16],
-    doms: &[u16],
-    rooms: &mut [u16],
-    n: usize,
-    k: usize,
-    limit: u16,
-    size: u32,
-    clock: u32,
-) -> Rested
-    requires { ⌜ Begun (now refs) (now rooms) n k ⌝ }
-    ensures { λ r. ⌜ joined r (now (rooms .exit)) ≡ packed (turned limit clock (started (cachesOf (now (refs .entry)) (now (doms .entry))) (coreOf (take n (now (rooms .entry))) size false) clock)) ⌝ }
+// Where the steps rest after a start with a path of k components.
+fn first_rest(refs: &[u16], doms: &[u16], rooms: &mut [u16], g: Progress, k: usize) -> Rested
+    requires { ⌜ Begun (now refs) (now rooms) (g .len) k ⌝ }
+    ensures { λ r. ⌜ joined r (now (rooms .exit)) ≡ packed (turned (g .left) (g .clock) (started (cachesOf (now (refs .entry)) (now (doms .entry))) (coreAt g (now (rooms .entry))) (g .clock))) ⌝ }
 {
     if k == 1 {
-        return walk_steps::steps::end_at(End::NotDfs, 0, n, limit, false);
+        return walk_steps::steps::rest(Next::Ends(End::NotDfs, 0), g);
     }
-    walk_steps::cycle::from_lookup(refs, doms, rooms, n, limit, false, size, clock)
+    walk_steps::cycle::from_lookup(refs, doms, rooms, g)
 }
 
 // A start with a path of n units and k components in its room, both caches being in order.
@@ -81,6 +74,14 @@ pub fn start_at(
             walk,
         };
     }
-    let r = first_rest(refs, doms, rooms, n, k, limit as u16, size, clock);
+    let g = Progress {
+        len: n,
+        left: limit as u16,
+        hit: false,
+        size,
+        clock,
+        room: out.len(),
+    };
+    let r = first_rest(refs, doms, rooms, g, k);
     crate::call_end::close_start(limit, size, boot, r, rooms, walk, texts, out)
 }

@@ -20,7 +20,7 @@ use Rattle.walk_steps.specs.declared.steps.Kind.{Kind}
 use Rattle.walk_steps.specs.declared.steps.Kind.the-variants.{Dc, Root, Link, Sysvol, Io}
 use Rattle.walk_steps.specs.declared.steps.End.the-variants.{NotDfs}
 use Rattle.walk_form.specs.held.Walks.{hasTried, goodTried, endTried, endStatus}
-use Rattle.walk_store.proofs.dc_reply.AnswerLaws.{goes-stops}
+use Rattle.walk_steps.proofs.cycle.MoveLaws.{goes-stops}
 use Rattle.walk_calls.specs.calls.Calls.{referralEvent, ioEvent}
 use Rattle.theorems.specs.keeps.Code.{GoodCaches, Proper}
 use Rattle.theorems.specs.keeps.Named.{referralNames, ioNames, domainNames, Elsewhere}

@@ -20,7 +20,7 @@ use Rattle.walk_steps.specs.steps.Steps.{Caches, Core, Question, Called, stops,
 use Rattle.walk_steps.specs.steps.Held.{askingOf, nextOf, triedOf}
 use Rattle.walk_steps.specs.declared.steps.End.{End}
 use Rattle.walk_steps.specs.declared.steps.End.the-variants.{LimitReached, TooLong}
-use Rattle.walk_store.proofs.dc_reply.RestLaws.{Kept, kept-goes}
+use Rattle.walk_store.proofs.after_reply.RestLaws.{Kept, kept-goes}
 use Rattle.walk_form.specs.held.Walks.{endTried, goodTried, endStatus, nextInForm}
 use Rattle.theorems.specs.keeps.Code.{GoodCaches, Proper}
 use Rattle.theorems.proofs.keeps.CalledLaws.{Asked, Well, well-step2}

@@ -1,5 +1,5 @@
 -- What an answer that is due has, for the functions that take it.
-use mathlib.Core.Path.{_≡_, refl, sym, ap, _∙_}
+use mathlib.Core.Path.{_≡_, refl, sym, ap, _∙_, subst}
 use mathlib.Core.Bool.{Bool, true, false}
 use mathlib.Core.List.{List, []}
 use mathlib.Core.Logic.{inl, inr}
@@ -15,28 +15,28 @@ use Rattle.unc.proofs.names.PieceLaws.{spans}
 use Rattle.walk_steps.specs.walk_texts.Texts.{textsOf}
 use Rattle.walk_steps.proofs.walk_texts.TextLaws.{path-in}
 use Rattle.cache.specs.order.Order.{goodPrefix}
-use Rattle.cache.specs.order.Memory.{referrals, domains, encode, inOrder}
-use Rattle.walk_steps.specs.steps.Steps.{Turn, Resting, turned, referralAnswered, ioAnswered}
+use Rattle.walk_steps.specs.steps.Steps.{Turn, turned, referralAnswered, ioAnswered}
 use Rattle.walk_steps.specs.steps.Held.{cachesOf, coreOf, questionOf}
 use Rattle.walk_steps.specs.declared.steps.Kind.{Kind}
 use Rattle.walk_steps.specs.declared.steps.Kind.the-variants.{Dc, Root, Link, Sysvol, Io}
 use Rattle.walk_steps.specs.declared.steps.Asking.{Asking}
+use Rattle.walk_steps.specs.steps.Code.{coreAt}
+use Rattle.walk_steps.specs.declared.steps.Progress.{Progress}
 use Rattle.walk_steps.specs.declared.steps.Rested.{Rested}
-use Rattle.walk_steps.specs.cycle.Code.{Packed, joined, packed}
-use Rattle.walk_store.specs.dc_reply.Code.{domainsLeft}
-use Rattle.walk_store.proofs.dc_reply.RestLaws.{Kept, rest-left, rest-path}
-use Rattle.walk_store.specs.hint_then_reply.Code.{referralsLeft}
-use Rattle.walk_answers.specs.reply_cases.Code.{Awaiting}
-use Rattle.walk_answers.specs.io_answer.Code.{restOf, Trying}
+use Rattle.walk_steps.specs.cycle.Code.{joined, packed}
+use Rattle.walk_store.specs.after_reply.Code.{Leaving, leftBy, leaves}
+use Rattle.walk_store.proofs.after_reply.RestLaws.{Kept, rest-left, rest-path}
+use Rattle.walk_answers.specs.referral_answer.Code.{Awaiting}
+use Rattle.walk_answers.specs.io_answer.Code.{Trying}
 use Rattle.walk_answers.specs.io_answer.Code as tries
 use Rattle.walk_form.specs.held.Walks.{pathIn, triedIn, bootIn, hasTried, nextInForm}
 use Rattle.walk_form.specs.declared.held.Walk.{Walk}
 use Rattle.walk_form.proofs.held.FormLaws.{Formed, form-told, first-rooms, Waiting, waiting-told, Prefixed, io-named, link-named, dc-named, sysvol-named, Rooted, root-named, request-tried}
-use Rattle.walk_calls.specs.call_end.Closing.{Left, closes}
-use Rattle.walk_calls.specs.call_end.Code.{closedRest}
+use Rattle.walk_calls.specs.call_end.Code.{left, closedRest}
+use Rattle.walk_calls.specs.declared.call_end.Outcome.{Outcome}
 use Rattle.walk_calls.proofs.call_end.RestLaws.{closed-rest}
 use Rattle.walk_form.specs.held.Walks.{coreIn}
-use Rattle.walk_calls.specs.answer_steps.Code.{AnswerDue, ioTurn, referralTurn}
+use Rattle.walk_calls.specs.answer_steps.Code.{AnswerDue, progressOf, ioTurn, referralTurn, closed, closing}
 use Rattle.walk_calls.proofs.answer_steps.TurnLaws.{kept-referral, kept-io}
 
 pub tried-io : (k : Kind) → hasTried k ≡ true → k ≡ Io
@@ -63,12 +63,18 @@ module _ {path tried : List ℕ} {q : Asking} (w : Waiting path tried q) where
   entry-within Sysvol e = first-within (sysvol-named w e)
   entry-within Io e = io-named w e .within
 
+-- what a walk hands on
+pub progress-is : (walk : Walk) (clock room : ℕ)
+    → record { len = walk .path; left = walk .limit - walk .moves; hit = walk .hit; size = walk .size; clock = clock; room = room } ≡ progressOf walk clock room
+unfolding progressOf
+progress-is walk clock room = refl
+
 -- a copy of the first two rooms
 pub rooms-copied : (texts d : List ℕ) {m : List ℕ} → length texts ≡ 768 → length d ≡ 512 → m ≡ pasted d 0 (take 512 texts) → m ≡ take 512 texts
 rooms-copied texts d k l e = e ∙ pasted-whole d (take 512 texts) (length-take-le 512 texts (omega arith) ∙ sym l)
 
 -- what is due, and the texts in the copy
-module _ {refs : List ℕ} {walk : Walk} {texts : List ℕ} {q : Asking} {has : Bool} (d : AnswerDue refs walk texts q has) where
+module _ {refs doms : List ℕ} {walk : Walk} {texts : List ℕ} {q : Asking} {has : Bool} (d : AnswerDue refs doms walk texts q has) where
   formed : Formed walk texts
   formed = form-told walk texts (d .form)
 
@@ -104,12 +110,14 @@ module _ {refs : List ℕ} {walk : Walk} {texts : List ℕ} {q : Asking} {has : 
     copy-long : length m ≡ 512
     copy-long = ap length e ∙ length-take-le 512 texts (omega (arith, formed .long))
 
-    pub trying : has ≡ true → Trying refs m (walk .path) (walk .tried) q
-    trying h =
+    trying : has ≡ true → (clock room : ℕ) → Trying refs doms m (progressOf walk clock room) q (walk .tried)
+    unfolding progressOf
+    trying h clock room =
         let io : q .kind ≡ Io = tried-io (q .kind) (d .kind ∙ h) in
         let p : Prefixed (pathIn walk texts) q = io-named waiting io in
         record {
           order = d .order;
+          doms-order = d .doms-order;
           few = formed .path-most;
           tried-few = formed .tried-most;
           long = copy-long;
@@ -120,75 +128,83 @@ module _ {refs : List ℕ} {walk : Walk} {texts : List ℕ} {q : Asking} {has : 
           matched = (λ j. matches (take (q .entry) (path-there j)) (path-there j)) ∙ p .matching;
         }
 
-    -- the turn of an I/O answer, from the copy
-    io-copied : (status : ℕ)
-        → ioAnswered (cachesOf refs []) (coreOf (take (walk .path) m) (walk .size) (walk .hit)) (questionOf q (tries.triedRoom (walk .tried) m)) status ≡ ioTurn refs texts walk q status
-    unfolding ioTurn coreIn
-    io-copied status = λ j. ioAnswered (cachesOf refs []) (coreOf (path-there j) (walk .size) (walk .hit)) (questionOf q (tried-there j)) status
-
-    pub io-rests : (status : ℕ) {x : Packed}
-        → x ≡ packed (restOf (walk .limit - walk .moves) (ioAnswered (cachesOf refs []) (coreOf (take (walk .path) m) (walk .size) (walk .hit)) (questionOf q (tries.triedRoom (walk .tried) m)) status))
-        → x ≡ packed (restOf (walk .limit - walk .moves) (ioTurn refs texts walk q status))
-    io-rests status h = h ∙ ap (λ (t : Turn). packed (restOf (walk .limit - walk .moves) t)) (io-copied status)
-
-    pub io-cache : (status : ℕ) {x : List ℕ}
-        → x ≡ encode referrals (ioAnswered (cachesOf refs []) (coreOf (take (walk .path) m) (walk .size) (walk .hit)) (questionOf q (tries.triedRoom (walk .tried) m)) status .caches .referrals)
-        → x ≡ encode referrals (ioTurn refs texts walk q status .caches .referrals)
-    io-cache status h = h ∙ ap (λ (t : Turn). encode referrals (t .caches .referrals)) (io-copied status)
-
-    pub awaiting : has ≡ false → (doms : List ℕ) → inOrder domains doms ≡ true → Awaiting refs doms m (walk .path) q
-    awaiting h doms o =
+    awaiting : has ≡ false → (clock room : ℕ) → Awaiting refs doms m (progressOf walk clock room) q
+    unfolding progressOf
+    awaiting h clock room =
         let t : triedIn walk texts ≡ [] = request-tried waiting (d .kind ∙ h) in
         record {
           refs-order = d .order;
-          doms-order = o;
+          doms-order = d .doms-order;
           standing = record { few = formed .path-most; stands = as-rooms ∙ (λ j. textsOf (sym path-there j) (t j)) };
           good = ap goodPrefix path-there ∙ waiting .good;
           inside = omega (arith, entry-within waiting (q .kind) refl, formed .path-length);
         }
 
-    -- the turn of a referral's answer, from the copy
-    module _ (doms : List ℕ) (status : ℕ) (reply : List ℕ) (clock : ℕ) where
-      abbrev copied : Turn
-      copied = referralAnswered (cachesOf refs doms) (coreOf (take (walk .path) m) (walk .size) (walk .hit)) (questionOf q []) status reply clock
+    pub trying-at : has ≡ true → (clock room : ℕ) {g : Progress} → g ≡ progressOf walk clock room → Trying refs doms m g q (walk .tried)
+    trying-at h clock room p = subst (λ (x : Progress). Trying refs doms m x q (walk .tried)) (sym p) (trying h clock room)
 
-      referral-copied : copied ≡ referralTurn refs doms texts walk q status reply clock
-      unfolding referralTurn coreIn
-      referral-copied = λ j. referralAnswered (cachesOf refs doms) (coreOf (path-there j) (walk .size) (walk .hit)) (questionOf q []) status reply clock
+    pub awaiting-at : has ≡ false → (clock room : ℕ) {g : Progress} → g ≡ progressOf walk clock room → Awaiting refs doms m g q
+    awaiting-at h clock room p = subst (λ (x : Progress). Awaiting refs doms m x q) (sym p) (awaiting h clock room)
 
-      pub referral-rests : {x : Packed} → x ≡ packed (turned (walk .limit - walk .moves) clock copied)
-          → x ≡ packed (turned (walk .limit - walk .moves) clock (referralTurn refs doms texts walk q status reply clock))
-      referral-rests h = h ∙ ap (λ (t : Turn). packed (turned (walk .limit - walk .moves) clock t)) referral-copied
+    -- the turns, from the copy
+    io-copied : (status clock room : ℕ)
+        → ioAnswered (cachesOf refs doms) (coreAt (progressOf walk clock room) m) (questionOf q (tries.triedRoom (walk .tried) m)) status ≡ ioTurn refs doms texts walk q status
+    unfolding ioTurn coreIn progressOf
+    io-copied status clock room = λ j. ioAnswered (cachesOf refs doms) (coreOf (path-there j) (walk .size) (walk .hit)) (questionOf q (tried-there j)) status
 
-      pub referral-refs : (room : ℕ) {x : List ℕ} → x ≡ referralsLeft room (walk .limit - walk .moves) clock copied refs
-          → x ≡ referralsLeft room (walk .limit - walk .moves) clock (referralTurn refs doms texts walk q status reply clock) refs
-      referral-refs room h = h ∙ ap (λ (t : Turn). referralsLeft room (walk .limit - walk .moves) clock t refs) referral-copied
+    referral-copied : (status : ℕ) (reply : List ℕ) (clock room : ℕ)
+        → referralAnswered (cachesOf refs doms) (coreAt (progressOf walk clock room) m) (questionOf q []) status reply clock ≡ referralTurn refs doms texts walk q status reply clock
+    unfolding referralTurn coreIn progressOf
+    referral-copied status reply clock room = λ j. referralAnswered (cachesOf refs doms) (coreOf (path-there j) (walk .size) (walk .hit)) (questionOf q []) status reply clock
 
-      pub referral-doms : (room : ℕ) {x : List ℕ} → x ≡ domainsLeft room (walk .limit - walk .moves) clock copied doms
-          → x ≡ domainsLeft room (walk .limit - walk .moves) clock (referralTurn refs doms texts walk q status reply clock) doms
-      referral-doms room h = h ∙ ap (λ (t : Turn). domainsLeft room (walk .limit - walk .moves) clock t doms) referral-copied
+    module _ (status clock room : ℕ) {g : Progress} (p : g ≡ progressOf walk clock room) {x : Leaving} where
+      pub io-leaves : x ≡ leaves g refs doms (ioAnswered (cachesOf refs doms) (coreAt g m) (questionOf q (tries.triedRoom (walk .tried) m)) status)
+          → x ≡ leaves (progressOf walk clock room) refs doms (ioTurn refs doms texts walk q status)
+      io-leaves h =
+          h
+          ∙ ((λ j. leaves (p j) refs doms (ioAnswered (cachesOf refs doms) (coreAt (p j) m) (questionOf q (tries.triedRoom (walk .tried) m)) status))
+          ∙ ap (leaves (progressOf walk clock room) refs doms) (io-copied status clock room))
+
+      pub referral-leaves : (reply : List ℕ) → x ≡ leaves g refs doms (referralAnswered (cachesOf refs doms) (coreAt g m) (questionOf q []) status reply (g .clock))
+          → x ≡ leaves (progressOf walk clock room) refs doms (referralTurn refs doms texts walk q status reply clock)
+      unfolding progressOf
+      referral-leaves reply h =
+          h
+          ∙ ((λ j. leaves (p j) refs doms (referralAnswered (cachesOf refs doms) (coreAt (p j) m) (questionOf q []) status reply (p j .clock)))
+          ∙ ap (leaves (progressOf walk clock room) refs doms) (referral-copied status reply clock room))
 
   -- an answer that rests is closed
-  module _ {x : Resting} {r : Rested} {o : List ℕ} (e : joined r o ≡ packed x) (k : Kept (walk .limit - walk .moves) (coreIn walk texts) x) where
+  module _ (t : Turn) (clock room : ℕ) (k : Kept (walk .limit - walk .moves) (coreIn walk texts) (turned (walk .limit - walk .moves) clock t)) {r : Rested} {o more then : List ℕ}
+      (e : leftBy r o more then ≡ leaves (progressOf walk clock room) refs doms t) where
+    rests-so : joined r o ≡ packed (turned (walk .limit - walk .moves) clock t)
+    unfolding leaves progressOf
+    rests-so = ap (λ (x : Leaving). x .rest) e
+
     pub answer-left : r .left ≤ walk .limit
-    answer-left = omega (arith, rest-left x r o e (walk .limit - walk .moves) (coreIn walk texts) k)
+    answer-left = omega (arith, rest-left _ r o rests-so (walk .limit - walk .moves) (coreIn walk texts) k)
 
     pub answer-path : r .path ≤ 256
-    answer-path = rest-path x r o e (walk .limit - walk .moves) (coreIn walk texts) k
+    answer-path = rest-path _ r o rests-so (walk .limit - walk .moves) (coreIn walk texts) k
 
-    pub answer-closed : (out : List ℕ) {y : Left} → y ≡ closedRest (walk .limit) (walk .size) (bootIn walk texts) r o walk texts out
-        → y ≡ closes (walk .limit) (bootIn walk texts) x walk texts out
-    unfolding coreIn
-    answer-closed out h = h ∙ closed-rest x r o e (walk .limit) (walk .size) (bootIn walk texts) walk texts out (k .size-kept)
+    pub answer-closed : (out : List ℕ) → room ≡ length out → {v : Outcome} {s u : List ℕ}
+        → left v s u ≡ closedRest (walk .limit) (walk .size) (bootIn walk texts) r o walk texts out → closed v s u more then ≡ closing clock walk texts out refs doms t
+    unfolding coreIn closing
+    answer-closed out n h =
+        λ j.
+        record {
+          ending = (h ∙ closed-rest _ r o rests-so (walk .limit) (walk .size) (bootIn walk texts) walk texts out (k .size-kept)) j;
+          refs = (ap (λ (x : Leaving). x .refs) e ∙ ap (λ (m : ℕ). leaves (progressOf walk clock m) refs doms t .refs) n) j;
+          doms = (ap (λ (x : Leaving). x .doms) e ∙ ap (λ (m : ℕ). leaves (progressOf walk clock m) refs doms t .doms) n) j;
+        }
 
-  pub io-kept : (status : ℕ) → Kept (walk .limit - walk .moves) (coreIn walk texts) (restOf (walk .limit - walk .moves) (ioTurn refs texts walk q status))
+  pub io-kept : (status clock : ℕ) → Kept (walk .limit - walk .moves) (coreIn walk texts) (turned (walk .limit - walk .moves) clock (ioTurn refs doms texts walk q status))
   unfolding ioTurn coreIn
-  io-kept status = kept-io (walk .limit - walk .moves) (cachesOf refs []) (coreIn walk texts) (questionOf q (triedIn walk texts)) status short
+  io-kept status clock = kept-io (walk .limit - walk .moves) clock (cachesOf refs doms) (coreIn walk texts) (questionOf q (triedIn walk texts)) status short
 
-  pub referral-kept : (doms : List ℕ) (status : ℕ) (reply : List ℕ) (clock : ℕ)
+  pub referral-kept : (status : ℕ) (reply : List ℕ) (clock : ℕ)
       → Kept (walk .limit - walk .moves) (coreIn walk texts) (turned (walk .limit - walk .moves) clock (referralTurn refs doms texts walk q status reply clock))
   unfolding referralTurn coreIn
-  referral-kept doms status reply clock = kept-referral (walk .limit - walk .moves) clock (cachesOf refs doms) (coreIn walk texts) (questionOf q []) status reply short
+  referral-kept status reply clock = kept-referral (walk .limit - walk .moves) clock (cachesOf refs doms) (coreIn walk texts) (questionOf q []) status reply short
 
   -- a request has no path tried
   pub none-tried : has ≡ false → triedIn walk texts ≡ []

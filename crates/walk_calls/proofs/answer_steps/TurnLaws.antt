@@ -1,12 +1,10 @@
--- What the events of an answer keep: the path and the size of the walk, and the caches where an I/O answer brings a request.
+-- What the events of an answer keep: the path and the size of the walk.
 use mathlib.Core.Path.{_≡_, refl, sym, _∙_, subst}
 use mathlib.Core.Bool.{Bool, true, false}
 use mathlib.Core.List.{List}
-use mathlib.Core.Logic.{_⊎_, inl, inr}
 use mathlib.Core.Option.{Option, none, some}
 use Prim.Native.Nat.{ℕ, _≤_}
 use lib.ListN.{length}
-use lib.Dec.{eqb}
 use Rattle.laws.specs.Choice.{choose}
 use Rattle.cache.specs.order.Entries.{Referral}
 use Rattle.reply_read.specs.referral.Replies as replies
@@ -14,12 +12,7 @@ use Rattle.reply_read.specs.referral.Replies.{malformed, nothing, says}
 use Rattle.walk_steps.specs.steps.Steps.{Caches, Core, Question, Called, Turn, turned, goes, withHit, dcAnswer, referralAnswer, storedTurn, referralSucceeds, referralAnswered, ioWith, ioAnswered}
 use Rattle.walk_steps.specs.declared.steps.Kind.{Kind}
 use Rattle.walk_steps.specs.declared.steps.Kind.the-variants.{Dc, Root, Link, Sysvol, Io}
-use Rattle.walk_steps.specs.rounds.Code.{failureRests}
-use Rattle.walk_steps.specs.steps.Steps.{rests, severity}
-use Rattle.walk_steps.specs.question_request.Questions.{requestName, nameFits, restFits}
-use Rattle.walk_store.proofs.dc_reply.RestLaws.{Kept, kept-goes}
-use Rattle.walk_answers.specs.io_answer.Code.{restOf}
-use Rattle.walk_answers.proofs.io_answer.TryLaws.{io-goes}
+use Rattle.walk_store.proofs.after_reply.RestLaws.{Kept, kept-goes}
 
 chosen : {A : Type 0} (P : A → Type 0) (b : Bool) {x y : A} → P x → P y → P (choose b x y)
 unfolding choose
@@ -87,23 +80,5 @@ pub kept-referral : (n clock : ℕ) (c : Caches) (w : Core) (q : Question) (stat
     → Kept n w (turned n clock (referralAnswered c w q status reply clock))
 kept-referral n clock c w q status reply h = kept-turned n clock w _ (same-referral c w q status reply clock) h
 
--- an I/O answer needs no clock
-pub io-turned : (n clock : ℕ) (c : Caches) (w : Core) (q : Question) (status : ℕ) → turned n clock (ioAnswered c w q status) ≡ restOf n (ioAnswered c w q status)
-unfolding turned
-io-turned n clock c w q status = io-goes n clock c w q status
-
-pub kept-io : (n : ℕ) (c : Caches) (w : Core) (q : Question) (status : ℕ) → length (w .path) ≤ 256 → Kept n w (restOf n (ioAnswered c w q status))
-kept-io n c w q status h = subst (Kept n w) (io-turned n 0 c w q status) (kept-turned n 0 w _ (same-io c w q status) h)
-
--- one that changes a cache ends the walk, and an end has no request
-abbrev Still : Caches → ℕ → ℕ → Turn → Type 0
-Still c n room t = (t .caches ≡ c) ⊎ (restFits room (restOf n t) ≡ true)
-
-still-with : (c : Caches) (w : Core) (q : Question) (status n room : ℕ) (o : Option Referral) → Still c n room (ioWith c w q status o)
-unfolding ioWith restOf failureRests rests restFits requestName nameFits
-still-with c w q status n room none = inl refl
-still-with c w q status n room (some e) = chosen (Still c n room) (eqb (severity status) 3) (inl refl) (inr refl)
-
-pub still-io : (c : Caches) (w : Core) (q : Question) (status n room : ℕ) → Still c n room (ioAnswered c w q status)
-unfolding ioAnswered
-still-io c w q status n room = chosen (Still c n room) _ (still-with c w q status n room _) (inl refl)
+pub kept-io : (n clock : ℕ) (c : Caches) (w : Core) (q : Question) (status : ℕ) → length (w .path) ≤ 256 → Kept n w (turned n clock (ioAnswered c w q status))
+kept-io n clock c w q status h = kept-turned n clock w _ (same-io c w q status) h

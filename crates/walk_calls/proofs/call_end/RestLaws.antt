@@ -16,7 +16,7 @@ use Rattle.walk_steps.specs.cycle.Code.{joined, packed}
 use Rattle.walk_steps.specs.question_request.Questions.{nameFits, withRequest}
 use Rattle.walk_steps.specs.question_request.Code.{nextUnits, named}
 use Rattle.walk_steps.proofs.question_request.NameLaws.{rest-fits, rest-out}
-use Rattle.walk_store.proofs.dc_reply.RestLaws.{rested-is, rooms-are, path-is}
+use Rattle.walk_store.proofs.after_reply.RestLaws.{rested-is, rooms-are, path-is}
 use Rattle.walk_form.specs.held.Walks.{inForm, bootIn, lent, walkOf, textsAfter}
 use Rattle.walk_form.specs.declared.held.Walk.{Walk}
 use Rattle.walk_form.proofs.held.FormLaws.{form-told, last-room}

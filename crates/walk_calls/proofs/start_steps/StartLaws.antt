@@ -3,7 +3,7 @@ use mathlib.Core.Path.{_≡_, refl, sym, ap, _∙_, subst}
 use mathlib.Core.Bool.{Bool, true, false}
 use mathlib.Core.List.{List, [], _++_, append-nil}
 use mathlib.Core.Logic.{_⊎_, inl, inr}
-use Prim.Native.Nat.{ℕ, zero, suc, _+_, _≤_}
+use Prim.Native.Nat.{ℕ, _+_, _≤_}
 use native.Mathlib.Omega.{arith}
 use lib.ListN.{length, take, drop, replicate, length-replicate, drop-of-length-le}
 use lib.Seq.{length-take-le, take-at, drop-at}
@@ -17,15 +17,16 @@ use Rattle.unc.specs.names.Paths.{isNormalised, componentCount, normalisedCount
 use Rattle.unc.specs.names.Code.{formWithin, roomAfter}
 use Rattle.unc.specs.declared.names.Form.{Form}
 use Rattle.cache.specs.order.Order.{goodPrefix}
-use Rattle.walk_steps.specs.steps.Steps.{Caches, Core, stops, ends, Turn, ended, rests, started, fromStep2, goes, hitAt, withHit, step2, turned}
+use Rattle.walk_steps.specs.steps.Steps.{Caches, Core, ends, Turn, started, fromStep2, hitAt, withHit, step2, turned}
 use Rattle.walk_steps.specs.steps.Held.{cachesOf, coreOf}
-use Rattle.walk_steps.specs.steps.Code.{endedAt}
-use Rattle.walk_steps.specs.declared.steps.End.{End}
+use Rattle.walk_steps.specs.steps.Code.{coreAt, restAt}
 use Rattle.walk_steps.specs.declared.steps.End.the-variants.{NotDfs}
+use Rattle.walk_steps.specs.declared.steps.Next.the-variants.{Ends}
+use Rattle.walk_steps.specs.declared.steps.Progress.{Progress}
 use Rattle.walk_steps.specs.declared.steps.Rested.{Rested}
-use Rattle.walk_steps.specs.cycle.Code.{Packed, joined, packed, stepsFrom, Ready}
-use Rattle.walk_steps.proofs.cycle.MoveLaws.{standing-path, packed-end}
-use Rattle.walk_store.proofs.dc_reply.RestLaws.{Kept, kept-goes, rest-left, rest-path}
+use Rattle.walk_steps.specs.cycle.Code.{Packed, joined, packed, Ready}
+use Rattle.walk_steps.proofs.cycle.MoveLaws.{standing-path, packed-end, goes-stops}
+use Rattle.walk_store.proofs.after_reply.RestLaws.{Kept, kept-goes, rest-left, rest-path}
 use Rattle.walk_form.specs.held.Walks.{goodSettings}
 use Rattle.walk_form.specs.declared.held.Walk.{Walk}
 use Rattle.walk_calls.specs.call_end.Closing.{Left, refused, closes}
@@ -73,35 +74,30 @@ pub form-put : (path rooms : List ℕ) {m : List ℕ} {f : Form} → length room
 form-put path rooms l e h = h ∙ ap (λ (n : ℕ). formWithin n path) (sym (cleared-half 256 rooms l e))
 
 -- the first rest
-goes-stops : (n : ℕ) (c : Caches) (clock : ℕ) (w : Core) (e : End) (status : ℕ) (tried : List ℕ) → goes n c clock w (stops e status tried) ≡ rests w n (ended e status tried)
-unfolding goes
-goes-stops zero c clock w e status tried = refl
-goes-stops (suc n) c clock w e status tried = refl
-
-module _ (refs doms rooms : List ℕ) (n k limit size clock : ℕ) (b : Begun refs rooms n k) where
-  pub first-alone : {r : Rested} → k ≡ 1 → r ≡ endedAt NotDfs 0 n limit false
-      → joined r rooms ≡ packed (turned limit clock (started (cachesOf refs doms) (coreOf (take n rooms) size false) clock))
-  unfolding turned started
+module _ (refs doms rooms : List ℕ) (g : Progress) (k : ℕ) (b : Begun refs rooms (g .len) k) where
+  pub first-alone : {r : Rested} → k ≡ 1 → r ≡ restAt (Ends NotDfs 0) (g .len) (g .left) (g .hit)
+      → joined r rooms ≡ packed (turned (g .left) (g .clock) (started (cachesOf refs doms) (coreAt g rooms) (g .clock)))
+  unfolding turned started restAt
   first-alone h e =
-      packed-end n rooms (b .standing) NotDfs 0 limit size false e
-      ∙ (ap packed (sym (goes-stops limit (cachesOf refs doms) clock (coreOf (take n rooms) size false) NotDfs 0 []))
-      ∙ ap (λ (t : Turn). packed (turned limit clock t)) (sym (choose-yes _ _ (eq-eqb _ 1 (sym (b .count) ∙ h)))))
+      packed-end (g .len) rooms (b .standing) NotDfs 0 (g .left) (g .size) (g .hit) e
+      ∙ (ap packed (sym (goes-stops (g .left) (cachesOf refs doms) (g .clock) (coreAt g rooms) NotDfs 0 []))
+      ∙ ap (λ (t : Turn). packed (turned (g .left) (g .clock) t)) (sym (choose-yes _ _ (eq-eqb _ 1 (sym (b .count) ∙ h)))))
 
   module _ (h : k ≡ 1 → ⊥) where
-    pub first-ready : Ready refs rooms n
+    pub first-ready : Ready refs rooms (g .len)
     first-ready = record { order = b .order; standing = b .standing; good = first-good }
       where
-        first-good : goodPrefix (take n rooms) ≡ true
-        first-good = good-counted (take n rooms) (omega (arith, standing-path n rooms (b .standing), b .standing .few)) (b .normal) (omega (arith, b .count, b .some))
+        first-good : goodPrefix (take (g .len) rooms) ≡ true
+        first-good =
+            good-counted (take (g .len) rooms) (omega (arith, standing-path (g .len) rooms (b .standing), b .standing .few)) (b .normal) (omega (arith, b .count, b .some))
 
-    pub first-moved : {x : Packed}
-        → x ≡ stepsFrom limit refs doms clock (withHit (hitAt (cachesOf refs doms) (coreOf (take n rooms) size false)) (coreOf (take n rooms) size false)) (step2 (cachesOf refs doms) (coreOf (take n rooms) size false) clock)
-        → x ≡ packed (turned limit clock (started (cachesOf refs doms) (coreOf (take n rooms) size false) clock))
-    unfolding turned started fromStep2 stepsFrom
+    pub first-moved : {x : Packed} → x ≡ packed (turned (g .left) (g .clock) (fromStep2 (cachesOf refs doms) (coreAt g rooms) (g .clock)))
+        → x ≡ packed (turned (g .left) (g .clock) (started (cachesOf refs doms) (coreAt g rooms) (g .clock)))
+    unfolding started
     first-moved e =
         e
-        ∙ ap (λ (t : Turn). packed (turned limit clock t))
-        (sym (choose-no _ (fromStep2 (cachesOf refs doms) (coreOf (take n rooms) size false) clock) (ne-eqb _ 1 (λ z. h (b .count ∙ z)))))
+        ∙ ap (λ (t : Turn). packed (turned (g .left) (g .clock) t))
+        (sym (choose-no _ (fromStep2 (cachesOf refs doms) (coreAt g rooms) (g .clock)) (ne-eqb _ 1 (λ z. h (b .count ∙ z)))))
 
 -- a start with a good path, by its tests
 module _ (refs doms texts : List ℕ) (walk : Walk) (path boot : List ℕ) (limit size clock : ℕ) (out : List ℕ) {s : Bool} (p : s ≡ goodSettings limit size boot) where

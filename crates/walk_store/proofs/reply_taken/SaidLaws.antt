@@ -12,12 +12,11 @@ use Rattle.laws.specs.Lists.{every}
 use Rattle.laws.proofs.Choices.{and-left, and-right, and-both}
 use Rattle.laws.proofs.Every.{every-take}
 use Rattle.unc.specs.names.Names.{sameName}
-use Rattle.unc.specs.names.Paths.{matches, firstOf}
+use Rattle.unc.specs.names.Paths.{matches, firstOf, Target}
 use Rattle.unc.proofs.names.PieceLaws.{parts, spans, first-hit, first-miss, first-over}
 use Rattle.unc.proofs.names.MatchLaws.{atEnd, matches-units, matches-within}
 use Rattle.reply_bytes.specs.texts.Code.{spanned}
 use Rattle.reply_bytes.proofs.texts.UnitLaws.{length-spanned}
-use Rattle.cache.specs.order.Entries.{Target}
 use Rattle.cache.specs.order.Order.{goodPrefix, goodTarget, firstOpensNone, goodReferral}
 use Rattle.cache.proofs.order.KindLaws.{prefix-short, good-referral}
 use Rattle.reply_read.specs.referral.Replies as replies
@@ -28,8 +27,8 @@ use Rattle.reply_read.specs.declared.referral.ReferralFound.{ReferralFound}
 use Rattle.reply_read.specs.declared.referral.Answer.the-variants.{Says}
 use Rattle.reply_read.proofs.referral.SaysLaws as said
 use Rattle.reply_read.proofs.referral.SaysLaws.{Sound, says-sound, denoted-says}
-use Rattle.cache_store.specs.write_entry.Code.{keptFits}
-use Rattle.cache_store.specs.entry_after_reply.Stored.{targetsIn, fresh}
+use Rattle.cache_entry.specs.write_entry.Code.{keptFits}
+use Rattle.cache_store.specs.entry_after_reply.Stored.{fresh}
 use Rattle.cache_store.specs.entry_after_reply.Code.{Storable}
 
 ended-nil : (n : ℕ) → atEnd (drop n []) ≡ true
@@ -82,10 +81,10 @@ first-whole k s p h =
     ∙ and-both (ap (sameName p) (sym b) ∙ and-left _ _ a) (end-in (length p) (length (firstOf k s)) s l e (first-ends k s))
 
 -- the targets of a reply that is read are good paths
-pathGood : replies.Target → Bool
+pathGood : Target → Bool
 pathGood t = goodPrefix (t .path)
 
-targets-good : (ts : List replies.Target) → every said.goodTarget ts ≡ true → every pathGood ts ≡ true
+targets-good : (ts : List Target) → every said.goodTarget ts ≡ true → every pathGood ts ≡ true
 unfolding every said.goodTarget pathGood goodPrefix
 targets-good [] h = refl
 targets-good (t ∷ ts) h = and-both (and-left (said.goodTarget t) _ h) (targets-good ts (and-right (said.goodTarget t) _ h))
@@ -101,32 +100,28 @@ kept-fit r [] h g = refl
 kept-fit r (k ∷ ks) h g = and-both (one r k (and-left _ _ h) (and-left _ _ g)) (kept-fit r ks (and-right (keptInside r k) _ h) (and-right (pathGood (targetShown r k)) _ g))
 
 -- the targets as a cache holds them
-all-good : (ts : List replies.Target) → every pathGood ts ≡ true → every goodTarget (map (λ t. record { path = t .path; opens = t .opens }) ts) ≡ true
+all-good : (ts : List Target) → every pathGood ts ≡ true → every goodTarget ts ≡ true
 unfolding every goodTarget pathGood
 all-good [] h = refl
 all-good (t ∷ ts) h = and-both (and-left (pathGood t) _ h) (all-good ts (and-right (pathGood t) _ h))
 
-first-shut : (ts : List replies.Target) → ((t : replies.Target) (us : List replies.Target) → ts ≡ t ∷ us → t .opens ≡ false) → firstOpensNone (map (λ t. record { path = t .path; opens = t .opens }) ts) ≡ true
+first-shut : (ts : List Target) → ((t : Target) (us : List Target) → ts ≡ t ∷ us → t .opens ≡ false) → firstOpensNone ts ≡ true
 unfolding firstOpensNone
 first-shut [] h = refl
 first-shut (t ∷ ts) h = ap not (h t ts refl)
 
-length-held : (ts : List replies.Target) → length (map {B = Target} (λ t. record { path = t .path; opens = t .opens }) ts) ≡ length ts
-length-held [] = refl
-length-held (t ∷ ts) = ap suc (length-held ts)
-
 -- the entry that the reply makes is good
 fresh-good : (asked : List ℕ) (x : replies.Referral) → Sound asked x → every pathGood (x .targets) ≡ true → goodReferral (fresh x false 0) ≡ true
-unfolding fresh targetsIn goodPrefix
+unfolding fresh goodPrefix
 fresh-good asked x s g =
     good-referral _
     (record {
       prefixed = le-leb 2 _ (s .prefix-normal);
-      some = omega (arith, length-held (x .targets), s .some);
-      few = omega (arith, length-held (x .targets), s .most);
+      some = omega (arith, s .some);
+      few = omega (arith, s .most);
       each = all-good (x .targets) g;
       first = first-shut (x .targets) (s .first-shut);
-      hinted = omega (arith, length-held (x .targets), s .some);
+      hinted = omega (arith, s .some);
     })
 
 module _ (size : ℕ) (asked r : List ℕ) (f : ReferralFound) (e : denoted r f ≡ readReferral size asked r) (h : f .answer ≡ Says) where

@@ -26,7 +26,7 @@ io-turn-requires : tie.Need-io-turn-requires
 io-turn-requires c κs = let p18 = c .before .before .before .before .before .before .before .before .before .before .before .before .before .before .before .before .before .before in due (now (p18 .args .refs)) (now (p18 .args .doms)) (now (p18 .args .texts)) (p18 .args .walk) (now (p18 .args .out)) (c .before .before .before .before .before .before .before .before .before .before .before .before .caches-in-order .ensures) (not-false _ (c .before .before .before .before .before .before .before .before .before .before .before .if1 .left)) (c .before .before .before .before .before .before .before .before .before .in-form .ensures) (not-false _ (c .before .before .before .before .before .before .before .before .if2 .left)) _ (c .before .before .before .before .before .before .next .given .1) (c .before .before .before .before .has-tried .ensures) (not-false _ (c .before .before .before .if3 .left))
 
 returns-5 : tie.Need-returns-5
-returns-5 c = let p6 = c .before .before .before .before .before .before in let p25 = p6 .before .before .before .before .before .before .before .before .before .before .before .before .before .before .before .before .before .before .before in io-taken (now (p25 .args .refs)) (now (p25 .args .doms)) (now (p25 .args .texts)) (p25 .args .walk) (now (p25 .args .out)) (c .before .before .before .before .before .before .before .before .before .before .before .before .before .before .before .before .before .before .before .caches-in-order .ensures) (not-false _ (c .before .before .before .before .before .before .before .before .before .before .before .before .before .before .before .before .before .before .if1 .left)) (c .before .before .before .before .before .before .before .before .before .before .before .before .before .before .before .before .in-form .ensures) (not-false _ (c .before .before .before .before .before .before .before .before .before .before .before .before .before .before .before .if2 .left)) _ (c .before .before .before .before .before .before .before .before .before .before .before .before .before .next .given .1) (c .before .before .before .before .before .before .before .before .before .before .before .has-tried .ensures) (p25 .args .status) (p25 .args .clock) (not-false _ (c .before .before .before .before .before .before .before .before .before .before .if3 .left)) (p6 .io-turn .ensures .0) (p6 .io-turn .ensures .1)
+returns-5 c = let p6 = c .before .before .before .before .before .before in let p25 = p6 .before .before .before .before .before .before .before .before .before .before .before .before .before .before .before .before .before .before .before in io-taken (now (p25 .args .refs)) (now (p25 .args .doms)) (now (p25 .args .texts)) (p25 .args .walk) (now (p25 .args .out)) (c .before .before .before .before .before .before .before .before .before .before .before .before .before .before .before .before .before .before .before .caches-in-order .ensures) (not-false _ (c .before .before .before .before .before .before .before .before .before .before .before .before .before .before .before .before .before .before .if1 .left)) (c .before .before .before .before .before .before .before .before .before .before .before .before .before .before .before .before .in-form .ensures) (not-false _ (c .before .before .before .before .before .before .before .before .before .before .before .before .before .before .before .if2 .left)) _ (c .before .before .before .before .before .before .before .before .before .before .before .before .before .next .given .1) (c .before .before .before .before .before .before .before .before .before .before .before .has-tried .ensures) (p25 .args .status) (p25 .args .clock) (not-false _ (c .before .before .before .before .before .before .before .before .before .before .if3 .left)) (p6 .io-turn .ensures)
 
 pub answer-io-spec : {M : Type 1} → statement M
 answer-io-spec =

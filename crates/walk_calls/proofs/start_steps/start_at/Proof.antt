@@ -16,8 +16,8 @@ returns c = let p8 = c .before .before .before .before .before .before .before .
 returns-2 : tie.Need-returns-2
 returns-2 c = let p9 = c .before .before .before .before .before .before .before .before .before in (at-texts _ (now (p9 .args .doms)) (now (p9 .args .texts)) _ _ (now (p9 .args .boot)) (p9 .args .limit) (p9 .args .size) _ _ (c .before .before .good-settings .ensures) (not-false _ (c .before .if1 .left)) (c .if2 .taken), rooms-texts _ (now (p9 .args .doms)) (now (p9 .args .texts)) _ (now (p9 .args .boot)) (p9 .args .limit) (p9 .args .size) _ _ (c .before .before .good-settings .ensures) (not-false _ (c .before .if1 .left)) (c .if2 .taken))
 
-cast-first-rest : tie.Need-cast-first-rest
-cast-first-rest c = omega (arith, settings-told _ _ _ (sym (c .before .before .before .good-settings .ensures) ∙ not-false _ (c .before .before .if1 .left)) .limit-most)
+cast-t20 : tie.Need-cast-t20
+cast-t20 c = omega (arith, settings-told _ _ _ (sym (c .before .before .good-settings .ensures) ∙ not-false _ (c .before .if1 .left)) .limit-most)
 
 close-start-requires : tie.Need-close-start-requires
 close-start-requires c κs = (settings-told _ _ _ (sym (c .before .before .before .before .before .before .before .before .before .good-settings .ensures) ∙ not-false _ (c .before .before .before .before .before .before .before .before .if1 .left)) .limit-most, (first-left _ _ (now (c .before .before .before .before .before .before .before .before .before .before .before .before .before .before .before .before .args .rooms)) _ (c .before .before .before .before .before .before .before .before .before .before .before .before .before .before .before .before .args .k) _ (c .before .before .before .before .before .before .before .before .before .before .before .before .before .before .before .before .args .size) _ (c .before .before .before .before .before .before .before .before .before .before .before .before .before .before .before .before .pre) _ _ (c .before .before .before .before .before .first-rest .ensures), (name-short _ (settings-told _ _ _ (sym (c .before .before .before .before .before .before .before .before .before .good-settings .ensures) ∙ not-false _ (c .before .before .before .before .before .before .before .before .if1 .left)) .boot-good), (omega (arith, standing-long _ _ (c .before .before .before .before .before .before .before .before .before .before .before .before .before .before .before .before .pre .standing)), (first-path _ _ (now (c .before .before .before .before .before .before .before .before .before .before .before .before .before .before .before .before .args .rooms)) _ (c .before .before .before .before .before .before .before .before .before .before .before .before .before .before .before .before .args .k) _ (c .before .before .before .before .before .before .before .before .before .before .before .before .before .before .before .before .args .size) _ (c .before .before .before .before .before .before .before .before .before .before .before .before .before .before .before .before .pre) _ _ (c .before .before .before .before .before .first-rest .ensures), c .before .before .before .before .before .before .before .if2 .left)))))
@@ -32,7 +32,7 @@ start-at-spec =
     (λ c κs. search needs)
     returns
     returns-2
-    cast-first-rest
+    cast-t20
     (λ c κs. search needs)
     close-start-requires
     (λ c. search needs)

@@ -10,7 +10,7 @@ ghost use Rattle.reply_bytes.specs.texts.Code.{spanned, Inside};
 ghost use Rattle.reply_read.specs.referral.Code.{keptInside, targetShown};
 ghost use Rattle.cache.specs.places.Layout.{placeCount, placeAt, listCount};
 ghost use Rattle.cache_entry.specs.equivalent_targets.Equivalence.{sameTargets, paths, sets, sameSets, equivalent};
-ghost use Rattle.cache_entry.specs.equivalent_targets.Code.{matched, unmarked, firstPlace, marksIn, startOf, sizeOf, namesAt, Spans};
+ghost use Rattle.cache_entry.specs.equivalent_targets.Code.{matched, unmarked, firstPlace, marksIn, textStart, sizeOf, namesAt, Spans};
 ghost use Rattle.cache_entry.specs.equivalent_targets.Code.{heldTargets, givenPath, boundaries, givenBoundaries, setEnd};
 use reply_bytes::texts::Span;
 use reply_read::referral::Kept;
@@ -35,7 +35,7 @@ fn mark(n: usize) -> u32
 
 // Where the texts of the kept targets start in the reply.
 fn starts_of(kept: [Kept; 8]) -> [usize; 8]
-    ensures { λ r. ⌜ r ≡ map startOf kept ⌝ }
+    ensures { λ r. ⌜ r ≡ map textStart kept ⌝ }
 {
     let mut starts = [0; 8];
     let mut n = 0;

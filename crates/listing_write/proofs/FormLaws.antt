@@ -21,7 +21,7 @@ use Rattle.listing_spelling.proofs.spell.PutLaws.{Left, left-start, left-next, 
 use Rattle.listing_spelling.proofs.spell.SpellingLaws.{length-spelled}
 use Rattle.listing_spelling.proofs.spell.DecimalLaws.{length-decimal}
 use Rattle.listing_write.specs.Form.{kindKey, targetKey, kindWord, pathLine, numberLine, ended, linesText, targetLines, settingLines, countLines, entryLines, entryText, listing}
-use Rattle.listing_write.specs.Listed.{textOf}
+use Rattle.listing_write.specs.Listed.{listedText}
 
 -- the first piece of what is left fits
 pub left-fits : {goal : List ℕ} {stop : ℕ} {d : List ℕ} {n : ℕ} {rest : List ℕ} (p q : List ℕ) → Left goal stop d n rest → rest ≡ p ++ q → n + length p ≤ length d
@@ -183,8 +183,8 @@ targets-units j piece h = ap length (targets-next j piece h) ∙ simp (length-ap
 pub placesLeft : ℕ → List ℕ → List ℕ
 placesLeft i raw = listing (drop i (decode referrals raw))
 
-pub places-start : (raw : List ℕ) → textOf raw ≡ placesLeft 0 raw
-unfolding textOf placesLeft
+pub places-start : (raw : List ℕ) → listedText raw ≡ placesLeft 0 raw
+unfolding listedText placesLeft
 places-start raw = refl
 
 pub places-free : (i : ℕ) (raw : List ℕ) → i < placeCount raw → unitAt 0 (placeAt i raw) ≡ 0 → placesLeft i raw ≡ placesLeft (i + 1) raw

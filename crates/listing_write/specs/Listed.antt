@@ -11,8 +11,8 @@ use Rattle.listing_write.specs.declared.Answer.{Answer}
 use Rattle.listing_write.specs.declared.Answer.the-variants.{NotInOrder, TooShort, Units}
 
 -- the text of a cache
-unfoldable pub textOf : List ℕ → List ℕ
-textOf raw = listing (decode referrals raw)
+unfoldable pub listedText : List ℕ → List ℕ
+listedText raw = listing (decode referrals raw)
 
 -- the numbers of the answers, 0 where the cache is listed
 unfoldable pub listRefusal : Answer → ℕ
@@ -22,8 +22,8 @@ listRefusal TooShort = 10
 
 -- the answer, 4 before 10: how many units the text has
 unfoldable pub listAnswer : List ℕ → ℕ → Answer
-listAnswer raw room = choose (inOrder referrals raw) (choose (leb (length (textOf raw)) room) (Units (length (textOf raw))) TooShort) NotInOrder
+listAnswer raw room = choose (inOrder referrals raw) (choose (leb (length (listedText raw)) room) (Units (length (listedText raw))) TooShort) NotInOrder
 
 -- "Bytes past what is written stay"; with a refusal all do
 unfoldable pub bufferAfter : List ℕ → List ℕ → List ℕ
-bufferAfter raw out = choose (inOrder referrals raw) (choose (leb (length (textOf raw)) (length out)) (pasted out 0 (textOf raw)) out) out
+bufferAfter raw out = choose (inOrder referrals raw) (choose (leb (length (listedText raw)) (length out)) (pasted out 0 (listedText raw)) out) out

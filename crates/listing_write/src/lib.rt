@@ -7,7 +7,7 @@ ghost use Rattle.cache.specs.places.Layout.{placeCount, placeAt, flagAt, flagUn
 ghost use Rattle.cache.specs.order.Memory.{referralOf, mostPlaces};
 ghost use Rattle.listing_spelling.specs.spell.Spelling.{spelled, decimal, Put};
 ghost use Rattle.listing_write.specs.Form.{kindKey, kindWord, pathLine, numberLine, ended, linesText, targetLines, settingLines, countLines, entryText};
-ghost use Rattle.listing_write.specs.Listed.{textOf, listRefusal, listAnswer, bufferAfter};
+ghost use Rattle.listing_write.specs.Listed.{listedText, listRefusal, listAnswer, bufferAfter};
 ghost use Rattle.listing_write.specs.Code.{listNumber};
 use cache::places::PLACE;
 
@@ -83,7 +83,7 @@ fn targets_units(cache: &[u16], i: usize) -> usize
 // How many units the listing has.
 fn listing_units(cache: &[u16]) -> usize
     requires { ⌜ placeCount (now cache) ≤ mostPlaces ⌝ }
-    ensures { λ r. ⌜ r ≡ length (textOf (now (cache .entry))) ⌝ }
+    ensures { λ r. ⌜ r ≡ length (listedText (now (cache .entry))) ⌝ }
 {
     let count = cache.len() / PLACE;
     let mut n = 0;
@@ -227,8 +227,8 @@ fn put_entry(cache: &[u16], i: usize, out: &mut [u16], at: usize) -> usize
 }
 
 fn put_listing(cache: &[u16], out: &mut [u16]) -> usize
-    requires { ⌜ length (textOf (now cache)) ≤ length (now out) ⌝ }
-    ensures { λ r. ⌜ Put (now (out .entry)) 0 (textOf (now (cache .entry))) (now (out .exit)) r ⌝ }
+    requires { ⌜ length (listedText (now cache)) ≤ length (now out) ⌝ }
+    ensures { λ r. ⌜ Put (now (out .entry)) 0 (listedText (now (cache .entry))) (now (out .exit)) r ⌝ }
 {
     let count = cache.len() / PLACE;
     let mut end = 0;

@@ -3,7 +3,7 @@
 ghost use mathlib.Core.Path.{_≡_};
 ghost use Prim.Native.Nat.{_+_, _<_, _^_};
 ghost use lib.ListN.{length};
-ghost use Rattle.reply_bytes.specs.texts.Bytes.{u16At, u32At, textAt};
+ghost use Rattle.reply_bytes.specs.texts.Bytes.{u16At, u32At, textFrom};
 ghost use Rattle.reply_bytes.specs.texts.Code.{textEnd};
 ghost use Rattle.reply_bytes.specs.reader.Code.{headerOf, startOf, entryMarks, offsetsOf};
 use crate::texts::Read;
@@ -37,7 +37,7 @@ pub fn word<'a>(r: Reader<'a>) -> u32
 
 // The text at the position.
 pub fn text<'a>(r: Reader<'a>) -> Read
-    ensures { λ v. ⌜ v ≡ textEnd (r .entry .at) 0 (textAt (now (r .entry .src)) (r .entry .at)) ⌝ }
+    ensures { λ v. ⌜ v ≡ textEnd (r .entry .at) 0 (textFrom (now (r .entry .src)) (r .entry .at)) ⌝ }
 {
     crate::texts::read_text(r.src, r.at)
 }
@@ -142,7 +142,7 @@ pub fn read_unit(src: &[u8], at: usize) -> u16
 
 // The text that starts at a byte.
 pub fn read_text(src: &[u8], at: usize) -> Read
-    ensures { λ v. ⌜ v ≡ textEnd at 0 (textAt (now (src .entry)) at) ⌝ }
+    ensures { λ v. ⌜ v ≡ textEnd at 0 (textFrom (now (src .entry)) at) ⌝ }
 {
     let r = new(src, at);
     text(r)

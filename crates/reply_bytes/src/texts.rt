@@ -6,7 +6,7 @@ ghost use Rattle.laws.specs.Lists.{pasted, roomed};
 ghost use Rattle.unc.specs.names.Names.{sameName, nothingOrDots, goodName};
 ghost use Rattle.unc.specs.names.Code.{plainLength, goodCount};
 ghost use Rattle.unc.specs.names.Paths.{leads, withoutTrail, matches};
-ghost use Rattle.reply_bytes.specs.texts.Bytes.{u16At, u32At, textAt};
+ghost use Rattle.reply_bytes.specs.texts.Bytes.{u16At, u32At, textFrom};
 ghost use Rattle.reply_bytes.specs.texts.Code.{spanned, Inside, partOf, textEnd};
 use unc::names::BACKSLASH;
 use unc::names::DOT;
@@ -43,7 +43,7 @@ pub fn word_at(r: &[u8], at: usize) -> u32
 
 // The text that starts at a byte: it ends with a unit 0 inside the bytes, or there is none.
 pub fn read_text(r: &[u8], at: usize) -> Read
-    ensures { λ v. ⌜ v ≡ textEnd at 0 (textAt (now (r .entry)) at) ⌝ }
+    ensures { λ v. ⌜ v ≡ textEnd at 0 (textFrom (now (r .entry)) at) ⌝ }
 {
     let mut i = at;
     let mut n = 0;

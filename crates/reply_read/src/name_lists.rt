@@ -5,11 +5,11 @@ ghost use mathlib.Core.List.{map};
 ghost use Prim.Native.Nat.{_+_, _*_, _≤_, _<_, min};
 ghost use lib.ListN.{length, take};
 ghost use Rattle.laws.specs.Lists.{every};
-ghost use Rattle.reply_bytes.specs.texts.Bytes.{terminated, textAt};
+ghost use Rattle.reply_bytes.specs.texts.Bytes.{terminated, textFrom};
 ghost use Rattle.reply_bytes.specs.texts.Code.{spanned, Inside};
 ghost use Rattle.reply_read.specs.referral.Replies.{isRead, allRead, entries, readOr};
 ghost use Rattle.reply_read.specs.referral.Code.{isInside, textShown, textInside, unitsRead};
-ghost use Rattle.reply_read.specs.name_lists.NameLists.{bare, dcOf, domainOf, bytesPast, textsAt, dcNames, goodDcs, readDcs, domainAt, goodDomain, readDomains};
+ghost use Rattle.reply_read.specs.name_lists.NameLists.{bare, dcOf, domainSaid, bytesPast, textsAt, dcNames, goodDcs, readDcs, domainAt, goodDomainName, readDomains};
 ghost use Rattle.reply_read.specs.name_lists.Code.{dcShown, dcPlaced, denotedDcs, DcsInside, noDcs, answerOf};
 use crate::referral::Answer;
 use crate::referral::TextRead;
@@ -56,7 +56,7 @@ fn dc_span(r: &[u8], s: Span) -> TextRead
 // The domain name in a text "\domain".
 fn domain_span(r: &[u8], s: Span) -> TextRead
     requires { ⌜ Inside (now r) s ⌝ }
-    ensures name { λ v. ⌜ textShown (now (r .entry)) v ≡ domainOf (terminated (spanned (now (r .entry)) s)) ⌝ }
+    ensures name { λ v. ⌜ textShown (now (r .entry)) v ≡ domainSaid (terminated (spanned (now (r .entry)) s)) ⌝ }
     ensures inside { λ v. ⌜ textInside (now (r .entry)) v ≡ true ⌝ }
 {
     let n = s.units;
@@ -95,8 +95,8 @@ enum DcRead {
 
 // The DC name at a byte.
 fn dc_at(r: &[u8], at: usize) -> DcRead
-    ensures name { λ v. ⌜ dcShown (now (r .entry)) v ≡ dcOf (textAt (now (r .entry)) at) ⌝ }
-    ensures placed { λ v. ⌜ dcPlaced (now (r .entry)) (at + bytesPast (textAt (now (r .entry)) at)) v ≡ true ⌝ }
+    ensures name { λ v. ⌜ dcShown (now (r .entry)) v ≡ dcOf (textFrom (now (r .entry)) at) ⌝ }
+    ensures placed { λ v. ⌜ dcPlaced (now (r .entry)) (at + bytesPast (textFrom (now (r .entry)) at)) v ≡ true ⌝ }
 {
     let Read::Ended(s) = reply_bytes::reader::read_text(r, at) else {
         return DcRead::NoName;
@@ -225,7 +225,7 @@ pub fn read_dcs(r: &[u8], size: u32) -> DcsFound
 // The entry at e of a domain reply.
 fn good_domain(r: &[u8], e: usize) -> bool
     requires { ⌜ (e ≤ length (now r)) × (length (now r) < 4294967296) ⌝ }
-    ensures { λ v. ⌜ v ≡ goodDomain (now (r .entry)) e ⌝ }
+    ensures { λ v. ⌜ v ≡ goodDomainName (now (r .entry)) e ⌝ }
 {
     if !crate::referral::entry_fits(r, e, 18) {
         return false;
@@ -247,7 +247,7 @@ fn good_domain(r: &[u8], e: usize) -> bool
 // All entries of a domain reply.
 fn good_domains(r: &[u8]) -> bool
     requires { ⌜ (8 ≤ length (now r)) × (length (now r) < 4294967296) ⌝ }
-    ensures { λ v. ⌜ v ≡ every (goodDomain (now (r .entry))) (entries (now (r .entry))) ⌝ }
+    ensures { λ v. ⌜ v ≡ every (goodDomainName (now (r .entry))) (entries (now (r .entry))) ⌝ }
 {
     let h = reply_bytes::reader::read_header(r);
     let n = h.count as usize;

@@ -6,7 +6,7 @@ ghost use mathlib.Core.List.{map};
 ghost use Prim.Native.Nat.{_+_, _≤_, _<_, min};
 ghost use lib.ListN.{length, take};
 ghost use Rattle.laws.specs.Lists.{every};
-ghost use Rattle.reply_bytes.specs.texts.Bytes.{flag, terminated, textAt};
+ghost use Rattle.reply_bytes.specs.texts.Bytes.{flag, terminated, textFrom};
 ghost use Rattle.reply_bytes.specs.texts.Code.{spanned, Inside};
 ghost use Rattle.reply_read.specs.referral.Replies.{pathOf};
 ghost use Rattle.reply_read.specs.referral.Replies.{referralCount, versionAt, sizeAt, serverTypeAt, entries, fits, readable};
@@ -89,7 +89,7 @@ fn path_span(r: &[u8], s: Span) -> TextRead
 
 // The path at a byte.
 fn path_at(r: &[u8], at: usize) -> TextRead
-    ensures path { λ v. ⌜ textShown (now (r .entry)) v ≡ pathOf (textAt (now (r .entry)) at) ⌝ }
+    ensures path { λ v. ⌜ textShown (now (r .entry)) v ≡ pathOf (textFrom (now (r .entry)) at) ⌝ }
     ensures inside { λ v. ⌜ textInside (now (r .entry)) v ≡ true ⌝ }
 {
     let Read::Ended(s) = reply_bytes::reader::read_text(r, at) else {

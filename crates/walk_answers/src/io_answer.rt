@@ -11,7 +11,7 @@ ghost use Rattle.cache_lookup.specs.Code.{entryAt};
 ghost use Rattle.walk_steps.specs.steps.Steps.{Caches, Core, goes, ioAnswered, ioFails};
 ghost use Rattle.walk_steps.specs.steps.Held.{cachesOf, coreOf, questionOf};
 ghost use Rattle.walk_steps.specs.steps.Code.{coreAt, calledOf};
-ghost use Rattle.walk_steps.specs.cycle.Code.{joined, packed};
+ghost use Rattle.walk_steps.specs.cycle.Code.{restedWith, packed};
 ghost use Rattle.walk_store.specs.after_reply.Code.{leftBy, leaves};
 ghost use Rattle.walk_answers.specs.io_answer.Code.{triedRoom, Trying, Failing, placeInUse, notCovered, nextTarget, failureCalls};
 ghost use Rattle.walk_answers.specs.declared.io_answer.Failure.the-variants.{Tries};
@@ -65,7 +65,7 @@ fn not_covered(refs: &[u16], g: Progress, q: Asking, status: u32, i: usize) -> N
         party: q.party,
         began: q.party,
         size: g.size,
-        covered: true,
+        uncovered: true,
     })
 }
 
@@ -107,7 +107,7 @@ fn io_fails(
     i: usize,
 ) -> Rested
     requires { ⌜ Failing (now refs) (now rooms) (g .len) i ⌝ }
-    ensures { λ r. ⌜ ((c : Caches) (tried : List ℕ) → joined r (now (rooms .exit)) ≡ packed (goes (g .left) c (g .clock) (coreAt g (now (rooms .entry))) (ioFails (coreAt g (now (rooms .entry))) (questionOf q tried) status (entryAt referrals i (now (refs .entry)))))) ⌝ }
+    ensures { λ r. ⌜ ((c : Caches) (tried : List ℕ) → restedWith r (now (rooms .exit)) ≡ packed (goes (g .left) c (g .clock) (coreAt g (now (rooms .entry))) (ioFails (coreAt g (now (rooms .entry))) (questionOf q tried) status (entryAt referrals i (now (refs .entry)))))) ⌝ }
 {
     let failure = after_failure(refs, g, q, status, i);
     match failure {

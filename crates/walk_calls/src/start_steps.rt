@@ -6,7 +6,7 @@ ghost use Rattle.unc.specs.names.Paths.{pathUnits};
 ghost use Rattle.walk_steps.specs.steps.Steps.{started, turned};
 ghost use Rattle.walk_steps.specs.steps.Held.{cachesOf};
 ghost use Rattle.walk_steps.specs.steps.Code.{coreAt};
-ghost use Rattle.walk_steps.specs.cycle.Code.{joined, packed};
+ghost use Rattle.walk_steps.specs.cycle.Code.{restedWith, packed};
 ghost use Rattle.walk_calls.specs.call_end.Code.{left};
 ghost use Rattle.walk_calls.specs.start_steps.Code.{pathRooms, startAt, startRooms, Begun};
 use crate::call_end::Outcome;
@@ -35,7 +35,7 @@ pub fn put_path(path: &[u16], rooms: &mut [u16]) -> Form
 // Where the steps rest after a start with a path of k components.
 fn first_rest(refs: &[u16], doms: &[u16], rooms: &mut [u16], g: Progress, k: usize) -> Rested
     requires { ⌜ Begun (now refs) (now rooms) (g .len) k ⌝ }
-    ensures { λ r. ⌜ joined r (now (rooms .exit)) ≡ packed (turned (g .left) (g .clock) (started (cachesOf (now (refs .entry)) (now (doms .entry))) (coreAt g (now (rooms .entry))) (g .clock))) ⌝ }
+    ensures { λ r. ⌜ restedWith r (now (rooms .exit)) ≡ packed (turned (g .left) (g .clock) (started (cachesOf (now (refs .entry)) (now (doms .entry))) (coreAt g (now (rooms .entry))) (g .clock))) ⌝ }
 {
     if k == 1 {
         return walk_steps::steps::rest(Next::Ends(End::NotDfs, 0), g);

@@ -98,7 +98,7 @@ fn plain_size(q: Asking) -> bool
     if !good_size(q.size) {
         return false;
     }
-    !q.covered
+    !q.uncovered
 }
 
 fn dc_form(path: &[u16], q: Asking) -> bool
@@ -158,7 +158,7 @@ fn io_form(path: &[u16], q: Asking) -> bool
     if q.size != 0 {
         return false;
     }
-    !q.covered
+    !q.uncovered
 }
 
 fn asked_in_form(path: &[u16], q: Asking) -> bool

@@ -67,11 +67,11 @@ fn put_units(
     party: u16,
     began: u16,
     wide: u32,
-    covered: u16,
+    uncovered: u16,
     dst: &mut [u16],
 )
     requires { ⌜ 32 ≤ length (now dst) ⌝ }
-    ensures { λ r. ⌜ now (dst .exit) ≡ pasted (now (dst .entry)) 0 (roomed 32 (walkUnits walk (code ∷ entry ∷ party ∷ began ∷ (wideUnits wide ++ (covered ∷ []))))) ⌝ }
+    ensures { λ r. ⌜ now (dst .exit) ≡ pasted (now (dst .entry)) 0 (roomed 32 (walkUnits walk (code ∷ entry ∷ party ∷ began ∷ (wideUnits wide ++ (uncovered ∷ []))))) ⌝ }
 {
     let hit = flag(walk.hit);
     let head: [u16; 32] = [
@@ -90,7 +90,7 @@ fn put_units(
         began,
         (wide % 65536) as u16,
         (wide / 65536) as u16,
-        covered,
+        uncovered,
         0,
         0,
         0,
@@ -116,7 +116,7 @@ fn put_asking(walk: Walk, q: Asking, dst: &mut [u16])
     ensures { λ r. ⌜ now (dst .exit) ≡ pasted (now (dst .entry)) 0 (roomed 32 (walkUnits walk (askingUnits q))) ⌝ }
 {
     let kind = q.kind;
-    let covered = flag(q.covered);
+    let uncovered = flag(q.uncovered);
     put_units(
         walk,
         kind_number(kind),
@@ -124,7 +124,7 @@ fn put_asking(walk: Walk, q: Asking, dst: &mut [u16])
         q.party,
         q.began,
         q.size,
-        covered,
+        uncovered,
         dst,
     );
 }
@@ -204,7 +204,7 @@ fn asking_at(units: &[u16]) -> Asking
         party: units[11],
         began: units[12],
         size: wide(units, 13),
-        covered: units[15] == 1,
+        uncovered: units[15] == 1,
     }
 }
 

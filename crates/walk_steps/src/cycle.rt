@@ -18,9 +18,9 @@ ghost use Rattle.cache_lookup.specs.declared.Found.the-variants.{At};
 ghost use Rattle.walk_steps.specs.steps.Steps.{Caches, asks, asking, step3, step5, step8, fromStep2, goes, turned};
 ghost use Rattle.walk_steps.specs.steps.Held.{cachesOf, coreOf, askingOf};
 ghost use Rattle.walk_steps.specs.steps.Code.{coreAt};
-ghost use Rattle.walk_steps.specs.cycle.Code.{joined, packed, calledAfter, Ready, Usable};
-ghost use Rattle.walk_steps.specs.cycle.Code.{due2, due5, due9, due7, due11, askLink, nowhere, whatOf, placeIn, hitIn, unitsOf, leftOf, Parts, kindAt, questionAt};
-ghost use Rattle.walk_steps.specs.cycle.Code.{FoundAt, DcAt, Sought, afterMatch, Matched, replacedAt, movedTo, stepsAt, Point, Halted, Follows, SameRest};
+ghost use Rattle.walk_steps.specs.cycle.Code.{restedWith, packed, calledAfter, Ready, Usable};
+ghost use Rattle.walk_steps.specs.cycle.Code.{due2, due5, due9, due7, due11, askLink, nowhere, whatOf, placeIn, hitIn, unitsOf, leftOf, Parts, kindOfCase, questionOfCase};
+ghost use Rattle.walk_steps.specs.cycle.Code.{FoundAt, DcAt, Sought, afterMatch, Matched, replacedAt, movedTo, stepsAt, Point, Halted, SameSteps, SameRest};
 use crate::steps::Asking;
 use crate::steps::End;
 use crate::steps::Kind;
@@ -53,7 +53,7 @@ fn step8(
     began: u16,
 ) -> Rested
     requires { ⌜ Standing len (now texts) × (Usable (now refs) (take len (now texts)) i × (party < length (entryAt referrals i (now refs) .targets))) ⌝ }
-    ensures { λ r. ⌜ ((size : ℕ) → joined r (now (texts .exit)) ≡ packed (asking left (coreOf (take len (now (texts .entry))) size hit) (step8 (coreOf (take len (now (texts .entry))) size hit) (entryAt referrals i (now (refs .entry))) party began))) ⌝ }
+    ensures { λ r. ⌜ ((size : ℕ) → restedWith r (now (texts .exit)) ≡ packed (asking left (coreOf (take len (now (texts .entry))) size hit) (step8 (coreOf (take len (now (texts .entry))) size hit) (entryAt referrals i (now (refs .entry))) party began))) ⌝ }
 {
     if left == 0 {
         return crate::steps::end_at(End::LimitReached, 0, len, left, hit);
@@ -68,7 +68,7 @@ fn step8(
         party,
         began,
         size: 0,
-        covered: false,
+        uncovered: false,
     };
     Rested {
         next: Next::Asks(q),
@@ -82,7 +82,7 @@ fn step8(
 // Step 3: the try at the target hinted at.
 fn step3(refs: &[u16], texts: &mut [u16], len: usize, left: u16, hit: bool, i: usize) -> Rested
     requires { ⌜ Standing len (now texts) × Usable (now refs) (take len (now texts)) i ⌝ }
-    ensures { λ r. ⌜ ((size : ℕ) → joined r (now (texts .exit)) ≡ packed (asking left (coreOf (take len (now (texts .entry))) size hit) (step3 (coreOf (take len (now (texts .entry))) size hit) (entryAt referrals i (now (refs .entry)))))) ⌝ }
+    ensures { λ r. ⌜ ((size : ℕ) → restedWith r (now (texts .exit)) ≡ packed (asking left (coreOf (take len (now (texts .entry))) size hit) (step3 (coreOf (take len (now (texts .entry))) size hit) (entryAt referrals i (now (refs .entry)))))) ⌝ }
 {
     let hint = cache_lookup::target_hint(refs, i);
     step8(refs, texts, len, left, hit, i, hint, hint)
@@ -252,7 +252,7 @@ fn matched(refs: &[u16], n: u64, found: u64, clock: u32) -> u64
 // Step 5: a request to a DC of the domain, or for its DCs; without a domain one to a host.
 fn step5(refs: &[u16], doms: &[u16], texts: &[u16], n: u64) -> u64
     requires { ⌜ Point (now refs) (now texts) n × (whatOf n ≡ due5) ⌝ }
-    ensures { λ r. ⌜ ((clock : ℕ) → Follows (now (refs .entry)) (now (doms .entry)) clock (now (texts .entry)) n r) × (due11 < whatOf r) ⌝ }
+    ensures { λ r. ⌜ ((clock : ℕ) → SameSteps (now (refs .entry)) (now (doms .entry)) clock (now (texts .entry)) n r) × (due11 < whatOf r) ⌝ }
 {
     let found = sought(refs, doms, texts, n);
     if found == NOWHERE {
@@ -267,7 +267,7 @@ fn step5(refs: &[u16], doms: &[u16], texts: &[u16], n: u64) -> u64
 // Step 9: a request to the root entry's target; without a root entry step 5.
 fn step9(refs: &[u16], doms: &[u16], texts: &[u16], n: u64) -> u64
     requires { ⌜ Point (now refs) (now texts) n × (whatOf n ≡ due9) ⌝ }
-    ensures { λ r. ⌜ ((clock : ℕ) → Follows (now (refs .entry)) (now (doms .entry)) clock (now (texts .entry)) n r) × (due11 < whatOf r) ⌝ }
+    ensures { λ r. ⌜ ((clock : ℕ) → SameSteps (now (refs .entry)) (now (doms .entry)) clock (now (texts .entry)) n r) × (due11 < whatOf r) ⌝ }
 {
     let found = sought(refs, doms, texts, n);
     if found == NOWHERE {
@@ -364,7 +364,7 @@ fn interlink(refs: &[u16], doms: &[u16], texts: &mut [u16], n: u64, clock: u32) 
 
 // The kind of a request that names the domain.
 fn kind(what: u64, path: &[u16]) -> Kind
-    ensures { λ r. ⌜ r ≡ kindAt what (now (path .entry)) ⌝ }
+    ensures { λ r. ⌜ r ≡ kindOfCase what (now (path .entry)) ⌝ }
 {
     if what == ASK_DC {
         return Kind::Dc;
@@ -378,7 +378,7 @@ fn kind(what: u64, path: &[u16]) -> Kind
 // The question at which the steps rest, if it tries no path.
 fn question(refs: &[u16], path: &[u16], what: u64, i: usize, size: u32) -> Asking
     requires { ⌜ (length (now path) ≤ 256) × ((i < 65536) × (what ≡ askLink → i < placeCount (now refs))) ⌝ }
-    ensures { λ r. ⌜ ((hit : Bool) → r ≡ askingOf (questionAt (now (refs .entry)) (coreOf (now (path .entry)) size hit) i what)) ⌝ }
+    ensures { λ r. ⌜ ((hit : Bool) → r ≡ askingOf (questionOfCase (now (refs .entry)) (coreOf (now (path .entry)) size hit) i what)) ⌝ }
 {
     if what == ASK_LINK {
         let n = cache_lookup::prefix(refs, i).len();
@@ -389,7 +389,7 @@ fn question(refs: &[u16], path: &[u16], what: u64, i: usize, size: u32) -> Askin
             party: hint,
             began: hint,
             size,
-            covered: false,
+            uncovered: false,
         };
     }
     if what == ASK_HOST {
@@ -399,7 +399,7 @@ fn question(refs: &[u16], path: &[u16], what: u64, i: usize, size: u32) -> Askin
             party: 0,
             began: 0,
             size,
-            covered: false,
+            uncovered: false,
         };
     }
     crate::steps::domain_asking(kind(what, path), path, i as u16, size)
@@ -408,7 +408,7 @@ fn question(refs: &[u16], path: &[u16], what: u64, i: usize, size: u32) -> Askin
 // The rest at a point from which no move is made.
 fn rest_at(refs: &[u16], texts: &mut [u16], n: u64, size: u32) -> Rested
     requires { ⌜ Halted (now refs) (now texts) n ⌝ }
-    ensures { λ r. ⌜ ((doms : List ℕ) (clock : ℕ) → joined r (now (texts .exit)) ≡ stepsAt (now (refs .entry)) doms size clock n (now (texts .entry))) ⌝ }
+    ensures { λ r. ⌜ ((doms : List ℕ) (clock : ℕ) → restedWith r (now (texts .exit)) ≡ stepsAt (now (refs .entry)) doms size clock n (now (texts .entry))) ⌝ }
 {
     let what = n % PLACE;
     let left = (n / LEFT) as u16;
@@ -430,7 +430,7 @@ fn rest_at(refs: &[u16], texts: &mut [u16], n: u64, size: u32) -> Rested
 // From step 2.
 pub fn from_lookup(refs: &[u16], doms: &[u16], texts: &mut [u16], g: Progress) -> Rested
     requires { ⌜ Ready (now refs) (now texts) (g .len) ⌝ }
-    ensures { λ r. ⌜ joined r (now (texts .exit)) ≡ packed (turned (g .left) (g .clock) (fromStep2 (cachesOf (now (refs .entry)) (now (doms .entry))) (coreAt g (now (texts .entry))) (g .clock))) ⌝ }
+    ensures { λ r. ⌜ restedWith r (now (texts .exit)) ≡ packed (turned (g .left) (g .clock) (fromStep2 (cachesOf (now (refs .entry)) (now (doms .entry))) (coreAt g (now (texts .entry))) (g .clock))) ⌝ }
 {
     let n = point(DUE2, 0, g.hit, g.len, g.left as u64);
     let r = lookup(refs, doms, texts, n, g.clock);
@@ -440,7 +440,7 @@ pub fn from_lookup(refs: &[u16], doms: &[u16], texts: &mut [u16], g: Progress) -
 // From step 5.
 pub fn from_domain(refs: &[u16], doms: &[u16], texts: &mut [u16], g: Progress) -> Rested
     requires { ⌜ Ready (now refs) (now texts) (g .len) ⌝ }
-    ensures { λ r. ⌜ joined r (now (texts .exit)) ≡ packed (goes (g .left) (cachesOf (now (refs .entry)) (now (doms .entry))) (g .clock) (coreAt g (now (texts .entry))) (asks (step5 (decode domains (now (doms .entry))) (coreAt g (now (texts .entry)))))) ⌝ }
+    ensures { λ r. ⌜ restedWith r (now (texts .exit)) ≡ packed (goes (g .left) (cachesOf (now (refs .entry)) (now (doms .entry))) (g .clock) (coreAt g (now (texts .entry))) (asks (step5 (decode domains (now (doms .entry))) (coreAt g (now (texts .entry)))))) ⌝ }
 {
     let n = point(DUE5, 0, g.hit, g.len, g.left as u64);
     let r = domain(refs, doms, texts, n, g.clock);
@@ -457,7 +457,7 @@ pub fn from_stored(
     sysvol: bool,
 ) -> Rested
     requires { ⌜ Ready (now refs) (now texts) (g .len) × (Usable (now refs) (take (g .len) (now texts)) i × (g .hit ≡ true)) ⌝ }
-    ensures { λ r. ⌜ joined r (now (texts .exit)) ≡ packed (goes (g .left) (cachesOf (now (refs .entry)) (now (doms .entry))) (g .clock) (coreAt g (now (texts .entry))) (calledAfter sysvol (coreAt g (now (texts .entry))) (entryAt referrals i (now (refs .entry))))) ⌝ }
+    ensures { λ r. ⌜ restedWith r (now (texts .exit)) ≡ packed (goes (g .left) (cachesOf (now (refs .entry)) (now (doms .entry))) (g .clock) (coreAt g (now (texts .entry))) (calledAfter sysvol (coreAt g (now (texts .entry))) (entryAt referrals i (now (refs .entry))))) ⌝ }
 {
     if sysvol {
         return step3(refs, texts, g.len, g.left, g.hit, i);
@@ -477,7 +477,7 @@ pub fn try_target(
     began: u16,
 ) -> Rested
     requires { ⌜ Standing (g .len) (now texts) × (Usable (now refs) (take (g .len) (now texts)) i × (party < length (entryAt referrals i (now refs) .targets))) ⌝ }
-    ensures { λ r. ⌜ ((c : Caches) → joined r (now (texts .exit)) ≡ packed (goes (g .left) c (g .clock) (coreAt g (now (texts .entry))) (asks (step8 (coreAt g (now (texts .entry))) (entryAt referrals i (now (refs .entry))) party began)))) ⌝ }
+    ensures { λ r. ⌜ ((c : Caches) → restedWith r (now (texts .exit)) ≡ packed (goes (g .left) c (g .clock) (coreAt g (now (texts .entry))) (asks (step8 (coreAt g (now (texts .entry))) (entryAt referrals i (now (refs .entry))) party began)))) ⌝ }
 {
     step8(refs, texts, g.len, g.left, g.hit, i, party, began)
 }

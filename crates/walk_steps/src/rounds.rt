@@ -154,7 +154,7 @@ fn ask_again(q: Asking) -> Next
         party: q.party,
         began: q.began,
         size: doubled(q.size),
-        covered: q.covered,
+        uncovered: q.uncovered,
     })
 }
 
@@ -184,7 +184,7 @@ fn failed_dc(doms: &[u16], path: &[u16], size: u32, q: Asking) -> Next
         party: dc,
         began: q.began,
         size,
-        covered: false,
+        uncovered: false,
     })
 }
 
@@ -214,7 +214,7 @@ fn failed_link(refs: &[u16], path: &[u16], size: u32, q: Asking, status: u32) ->
         party: target,
         began: q.began,
         size,
-        covered: q.covered,
+        uncovered: q.uncovered,
     })
 }
 

@@ -6,7 +6,7 @@ ghost use Prim.Native.Nat.{_≤_};
 ghost use lib.ListN.{length, getD};
 ghost use Rattle.unc.specs.names.Paths.{components};
 ghost use Rattle.cache.specs.order.Order.{goodPrefix};
-ghost use Rattle.walk_steps.specs.steps.Code.{endedAt, askedAt, restAt, domainAsking, rootIn};
+ghost use Rattle.walk_steps.specs.steps.Code.{endedAt, askedAt, restedAt, domainAsking, rootIn};
 use cache_lookup::Found;
 
 // The kinds of question.
@@ -38,7 +38,7 @@ pub struct Asking {
     pub party: u16,
     pub began: u16,
     pub size: u32,
-    pub covered: bool,
+    pub uncovered: bool,
 }
 
 // The next move: a question that waits for its answer, or an end with its status.
@@ -100,7 +100,7 @@ pub fn ask(q: Asking, path: usize, left: u16, hit: bool) -> Rested
 // The rest at an end, or at a question that tries no path.
 pub fn rest(next: Next, g: Progress) -> Rested
     requires { ⌜ g .len ≤ 256 ⌝ }
-    ensures { λ r. ⌜ r ≡ restAt next (g .len) (g .left) (g .hit) ⌝ }
+    ensures { λ r. ⌜ r ≡ restedAt next (g .len) (g .left) (g .hit) ⌝ }
 {
     match next {
         Next::Asks(q) => ask(q, g.len, g.left, g.hit),
@@ -134,7 +134,7 @@ pub fn domain_asking(kind: Kind, path: &[u16], party: u16, size: u32) -> Asking
         party,
         began: party,
         size,
-        covered: false,
+        uncovered: false,
     }
 }
 

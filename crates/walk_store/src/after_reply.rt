@@ -6,8 +6,8 @@ ghost use Rattle.walk_steps.specs.steps.Steps.{turned};
 ghost use Rattle.walk_steps.specs.steps.Code.{coreAt};
 ghost use Rattle.walk_steps.specs.question_request.Questions.{nameFits};
 ghost use Rattle.walk_steps.specs.question_request.Code.{nextUnits, named};
-ghost use Rattle.walk_steps.specs.cycle.Code.{joined, packed};
-ghost use Rattle.walk_store.specs.party_hint.Code.{lent};
+ghost use Rattle.walk_steps.specs.cycle.Code.{restedWith, packed};
+ghost use Rattle.walk_store.specs.party_hint.Code.{lentCaches};
 ghost use Rattle.walk_store.specs.reply_taken.Code.{takenTurn, putBack, CanPutBack};
 ghost use Rattle.walk_store.specs.after_reply.Code.{isForSysvol, GoingOn};
 use crate::reply_taken::Taken;
@@ -52,7 +52,7 @@ pub fn rest_after(
     taken: Taken,
 ) -> Rested
     requires { ⌜ GoingOn (now refs) (now rooms) g taken ⌝ }
-    ensures { λ r. ⌜ joined r (now (rooms .exit)) ≡ packed (turned (g .left) (g .clock) (takenTurn (coreAt g (now (rooms .entry))) (q .kind) taken (now (refs .entry)) (now (doms .entry)))) ⌝ }
+    ensures { λ r. ⌜ restedWith r (now (rooms .exit)) ≡ packed (turned (g .left) (g .clock) (takenTurn (coreAt g (now (rooms .entry))) (q .kind) taken (now (refs .entry)) (now (doms .entry)))) ⌝ }
 {
     let kind = q.kind;
     let on = Progress {
@@ -76,7 +76,7 @@ pub fn rest_after(
 // Both caches as they were before the reply was taken.
 pub fn put_back(refs: &mut [u16], doms: &mut [u16], taken: Taken, saved: &[u16])
     requires { ⌜ CanPutBack taken (now saved) (now refs) (now doms) ⌝ }
-    ensures { λ r. ⌜ lent (now (refs .exit)) (now (doms .exit)) ≡ putBack taken (now (saved .entry)) (now (refs .entry)) (now (doms .entry)) ⌝ }
+    ensures { λ r. ⌜ lentCaches (now (refs .exit)) (now (doms .exit)) ≡ putBack taken (now (saved .entry)) (now (refs .entry)) (now (doms .entry)) ⌝ }
 {
     match taken {
         Taken::Ends(_, _) => {}

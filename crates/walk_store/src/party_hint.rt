@@ -9,7 +9,7 @@ ghost use Rattle.cache.specs.order.Memory.{referrals, domains, inOrder};
 ghost use Rattle.walk_steps.specs.steps.Steps.{targetHintSet, dcHintSet, hintSet};
 ghost use Rattle.walk_steps.specs.steps.Held.{cachesOf, coreOf, questionOf};
 ghost use Rattle.walk_steps.specs.rounds.Code.{targetsUnder, dcsNamed};
-ghost use Rattle.walk_store.specs.party_hint.Code.{whoseOf, lent, unhinted, Unhintable, Hinting, Using};
+ghost use Rattle.walk_store.specs.party_hint.Code.{whoseOf, lentCaches, unhinted, Unhintable, Hinting, Using};
 use cache_lookup::Found;
 use walk_steps::steps::Asking;
 use walk_steps::steps::Kind;
@@ -89,7 +89,7 @@ pub fn set_hint(refs: &mut [u16], doms: &mut [u16], path: &[u16], q: Asking) -> 
 // The hint as it was.
 pub fn unset_hint(refs: &mut [u16], doms: &mut [u16], h: Hinted)
     requires { ⌜ Unhintable h (now refs) (now doms) ⌝ }
-    ensures { λ r. ⌜ lent (now (refs .exit)) (now (doms .exit)) ≡ unhinted h (now (refs .entry)) (now (doms .entry)) ⌝ }
+    ensures { λ r. ⌜ lentCaches (now (refs .exit)) (now (doms .exit)) ≡ unhinted h (now (refs .entry)) (now (doms .entry)) ⌝ }
 {
     match h {
         Hinted::Unset => {}

@@ -17,7 +17,7 @@ ghost use Rattle.cache_store.specs.entry_after_reply.Code.{Storable};
 ghost use Rattle.walk_steps.specs.steps.Steps.{emptyEnd, hintSet, storedTurn, dcAnswer, referralAnswer, referralSucceeds};
 ghost use Rattle.walk_steps.specs.steps.Held.{cachesOf, coreOf, questionOf};
 ghost use Rattle.walk_steps.specs.declared.steps.Kind.the-variants.{Dc};
-ghost use Rattle.walk_store.specs.party_hint.Code.{lent, Using};
+ghost use Rattle.walk_store.specs.party_hint.Code.{lentCaches, Using};
 ghost use Rattle.walk_store.specs.reply_taken.Code.{coversNoMore, saidOf, savedIn, awaitedBy, takenTurn, putBack, TakenIn, NamedIn};
 use crate::party_hint::Hinted;
 use cache::places::PLACE;
@@ -72,7 +72,7 @@ fn empty_end(kind: Kind) -> End
 fn covers_nothing(q: Asking, root: bool, units: usize) -> bool
     ensures { λ b. ⌜ b ≡ coversNoMore q root units ⌝ }
 {
-    if !q.covered {
+    if !q.uncovered {
         return false;
     }
     if root {
@@ -131,7 +131,7 @@ fn store_entry(
 ) -> Taken
     requires { ⌜ Using (now refs) (now doms) (now path) q × (Storable (now reply) found × (matches (spanned (now reply) (found .prefix)) (now path) ≡ true)) ⌝ }
     ensures turn { λ t. ⌜ takenTurn (coreOf (now (path .entry)) (g .size) (g .hit)) (q .kind) t (now (refs .exit)) (now (doms .exit)) ≡ storedTurn (hintSet (cachesOf (now (refs .entry)) (now (doms .entry))) (coreOf (now (path .entry)) (g .size) (g .hit)) (questionOf q [])) (coreOf (now (path .entry)) (g .size) (g .hit)) (questionOf q []) (referralShown (now (reply .entry)) found) (g .clock) ⌝ }
-    ensures back { λ t. ⌜ (length (now (saved .entry)) ≡ 2336 → putBack t (now (saved .exit)) (now (refs .exit)) (now (doms .exit)) ≡ lent (now (refs .entry)) (now (doms .entry))) ⌝ }
+    ensures back { λ t. ⌜ (length (now (saved .entry)) ≡ 2336 → putBack t (now (saved .exit)) (now (refs .exit)) (now (doms .exit)) ≡ lentCaches (now (refs .entry)) (now (doms .entry))) ⌝ }
     ensures after { λ t. ⌜ TakenIn (length (now (saved .entry))) t (now (saved .exit)) (now (path .entry)) (now (refs .exit)) (now (doms .exit)) ⌝ }
 {
     let hinted = crate::party_hint::set_hint(refs, doms, path, q);
@@ -156,7 +156,7 @@ fn take_referral(
 ) -> Taken
     requires { ⌜ Using (now refs) (now doms) (now path) q × NamedIn name (now path) ⌝ }
     ensures turn { λ t. ⌜ takenTurn (coreOf (now (path .entry)) (g .size) (g .hit)) (q .kind) t (now (refs .exit)) (now (doms .exit)) ≡ referralAnswer (cachesOf (now (refs .entry)) (now (doms .entry))) (coreOf (now (path .entry)) (g .size) (g .hit)) (questionOf q []) (g .clock) (readReferral (q .size) (take name (now (path .entry))) (now (reply .entry))) ⌝ }
-    ensures back { λ t. ⌜ (length (now (saved .entry)) ≡ 2336 → putBack t (now (saved .exit)) (now (refs .exit)) (now (doms .exit)) ≡ lent (now (refs .entry)) (now (doms .entry))) ⌝ }
+    ensures back { λ t. ⌜ (length (now (saved .entry)) ≡ 2336 → putBack t (now (saved .exit)) (now (refs .exit)) (now (doms .exit)) ≡ lentCaches (now (refs .entry)) (now (doms .entry))) ⌝ }
     ensures after { λ t. ⌜ TakenIn (length (now (saved .entry))) t (now (saved .exit)) (now (path .entry)) (now (refs .exit)) (now (doms .exit)) ⌝ }
 {
     let found = reply_read::referral::read_referral(reply, q.size, &path[..name]);
@@ -180,7 +180,7 @@ fn take_dcs(
 ) -> Taken
     requires { ⌜ Using (now refs) (now doms) (now path) q × (q .kind ≡ Dc) ⌝ }
     ensures turn { λ t. ⌜ takenTurn (coreOf (now (path .entry)) (g .size) (g .hit)) (q .kind) t (now (refs .entry)) (now (doms .exit)) ≡ dcAnswer (cachesOf (now (refs .entry)) (now (doms .entry))) (coreOf (now (path .entry)) (g .size) (g .hit)) (readDcs (q .size) (now (reply .entry))) ⌝ }
-    ensures back { λ t. ⌜ (length (now (saved .entry)) ≡ 2336 → putBack t (now (saved .exit)) (now (refs .entry)) (now (doms .exit)) ≡ lent (now (refs .entry)) (now (doms .entry))) ⌝ }
+    ensures back { λ t. ⌜ (length (now (saved .entry)) ≡ 2336 → putBack t (now (saved .exit)) (now (refs .entry)) (now (doms .exit)) ≡ lentCaches (now (refs .entry)) (now (doms .entry))) ⌝ }
     ensures after { λ t. ⌜ TakenIn (length (now (saved .entry))) t (now (saved .exit)) (now (path .entry)) (now (refs .entry)) (now (doms .exit)) ⌝ }
 {
     let Found::At(i) = cache_lookup::find_domain(doms, walk_steps::steps::host(path)) else {
@@ -225,7 +225,7 @@ pub fn take_reply(
 ) -> Taken
     requires { ⌜ Using (now refs) (now doms) (now path) q ⌝ }
     ensures turn { λ t. ⌜ takenTurn (coreOf (now (path .entry)) (g .size) (g .hit)) (q .kind) t (now (refs .exit)) (now (doms .exit)) ≡ referralSucceeds (cachesOf (now (refs .entry)) (now (doms .entry))) (coreOf (now (path .entry)) (g .size) (g .hit)) (questionOf q []) (now (reply .entry)) (g .clock) ⌝ }
-    ensures back { λ t. ⌜ (length (now (saved .entry)) ≡ 2336 → putBack t (now (saved .exit)) (now (refs .exit)) (now (doms .exit)) ≡ lent (now (refs .entry)) (now (doms .entry))) ⌝ }
+    ensures back { λ t. ⌜ (length (now (saved .entry)) ≡ 2336 → putBack t (now (saved .exit)) (now (refs .exit)) (now (doms .exit)) ≡ lentCaches (now (refs .entry)) (now (doms .entry))) ⌝ }
     ensures after { λ t. ⌜ TakenIn (length (now (saved .entry))) t (now (saved .exit)) (now (path .entry)) (now (refs .exit)) (now (doms .exit)) ⌝ }
 {
     let kind = q.kind;

@@ -29,7 +29,7 @@ use Rattle.cache.specs.order.Memory.{referralOf, targetOf}
 use Rattle.cache_lookup.specs.Code.{entryAt}
 use Rattle.cache_entry.specs.equivalent_targets.Equivalence.{sameTargets, paths}
 use Rattle.cache_entry.specs.equivalent_targets.Code.{matched, isIn, without, unmarked, firstPlace, marksIn, heldTargets, givenPath}
-use Rattle.cache_entry.specs.equivalent_targets.Code.{startOf, sizeOf, spanIn, namesAt, Spans}
+use Rattle.cache_entry.specs.equivalent_targets.Code.{textStart, sizeOf, spanIn, namesAt, Spans}
 use Rattle.cache_entry.proofs.equivalent_targets.EquivalenceLaws.{matched-same, same-unlike}
 use Rattle.cache_entry.proofs.equivalent_targets.MarkingLaws.{Taken, Bit, place-within, taken, missing, length-marks, bit-free, none-marked}
 
@@ -50,23 +50,23 @@ kept-inside r ks n j z h l f =
 noKept : Kept
 noKept = record { path = record { from = 0; units = 0 }; opens = false }
 
-span-kept : (ks : List Kept) (j : ℕ) → j < length ks → spanIn (map startOf ks) (map sizeOf ks) j ≡ getD ks j noKept .path
-unfolding spanIn startOf sizeOf
+span-kept : (ks : List Kept) (j : ℕ) → j < length ks → spanIn (map textStart ks) (map sizeOf ks) j ≡ getD ks j noKept .path
+unfolding spanIn textStart sizeOf
 span-kept ks j h =
-    λ i. record { from = getD-map startOf ks j noKept 0 h i; units = getD-map sizeOf ks j noKept 0 h i }
+    λ i. record { from = getD-map textStart ks j noKept 0 h i; units = getD-map sizeOf ks j noKept 0 h i }
 
-pub kept-spans : (r : List ℕ) (ks : List Kept) (n : ℕ) → every (keptInside r) (take n ks) ≡ true → n ≤ length ks → {a b : List ℕ} → a ≡ map startOf ks → b ≡ map sizeOf ks → Spans r a b n
+pub kept-spans : (r : List ℕ) (ks : List Kept) (n : ℕ) → every (keptInside r) (take n ks) ≡ true → n ≤ length ks → {a b : List ℕ} → a ≡ map textStart ks → b ≡ map sizeOf ks → Spans r a b n
 kept-spans r ks n h f {a} {b} p q =
     subst (λ (l : List ℕ). Spans r l b n) (sym p)
-    (subst (λ (l : List ℕ). Spans r (map startOf ks) l n) (sym q)
+    (subst (λ (l : List ℕ). Spans r (map textStart ks) l n) (sym q)
     (record {
-      begun = omega (arith, length-map ks startOf);
+      begun = omega (arith, length-map ks textStart);
       sized = omega (arith, length-map ks sizeOf);
       within = λ j l. subst (Inside r) (sym (span-kept ks j (omega arith))) (kept-inside r ks n j noKept h l f);
     }))
 
-pub kept-names : (r : List ℕ) (ks : List Kept) → namesAt r (map startOf ks) (map sizeOf ks) ≡ map (givenPath r) ks
-unfolding namesAt spanIn startOf sizeOf givenPath listed
+pub kept-names : (r : List ℕ) (ks : List Kept) → namesAt r (map textStart ks) (map sizeOf ks) ≡ map (givenPath r) ks
+unfolding namesAt spanIn textStart sizeOf givenPath listed
 kept-names r [] = refl
 kept-names r (k ∷ ks) = ap (λ (l : List (List ℕ)). spanned r (k .path) ∷ l) (kept-names r ks)
 
@@ -238,7 +238,7 @@ module _ (raw : List ℕ) (i start end : ℕ) (r : List ℕ) (ks : List Kept) (f
   set-unlike =
       parts-unlike (paths (heldTargets i raw)) (map (givenPath r) ks) start end from to a (omega (arith, held-count raw i)) b (omega (arith, length-map ks (givenPath r)))
 
-  pub set-matched : end - start ≡ to - from → to ≤ 8 → {p q : List ℕ} → p ≡ map startOf ks → q ≡ map sizeOf ks → {v : Bool}
+  pub set-matched : end - start ≡ to - from → to ≤ 8 → {p q : List ℕ} → p ≡ map textStart ks → q ≡ map sizeOf ks → {v : Bool}
       → v ≡ matched (part start (end - start) (paths (heldTargets i raw))) (unmarked (marksIn (to - from) 255) (part from (to - from) (namesAt r p q)))
       → v ≡ sameTargets (part start (end - start) (paths (heldTargets i raw))) (part from (to - from) (map (givenPath r) ks))
   set-matched h few u w e =

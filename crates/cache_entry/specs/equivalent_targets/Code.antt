@@ -48,8 +48,8 @@ marksIn zero m = []
 marksIn (suc n) m = eqb (m % 2) 0 ∷ marksIn n (m / 2)
 
 -- where the text of a kept target starts in the reply, and its units
-unfoldable pub startOf : Kept → ℕ
-startOf k = k .path .from
+unfoldable pub textStart : Kept → ℕ
+textStart k = k .path .from
 
 unfoldable pub sizeOf : Kept → ℕ
 sizeOf k = k .path .units

@@ -14,7 +14,7 @@ use Rattle.reply_bytes.specs.declared.texts.Span.{Span}
 use Rattle.reply_read.specs.referral.Replies.{referralCount, sizeAt, starts, entries}
 use Rattle.reply_read.specs.referral.Code.{isInside}
 use Rattle.reply_read.proofs.referral.EntryLaws.{starts-cons, starts-none, entries-start}
-use Rattle.reply_read.specs.name_lists.NameLists.{goodDomain, domainAt}
+use Rattle.reply_read.specs.name_lists.NameLists.{goodDomainName, domainAt}
 use Rattle.reply_read.specs.name_lists.Code.{domainName}
 use Rattle.reply_read.specs.referral.Code.{textShown, textInside}
 use Rattle.reply_read.specs.declared.referral.TextRead.{TextRead}
@@ -30,7 +30,7 @@ use Rattle.cache_store.proofs.domain_cache.OnceLaws.{unlike, once-start
 pub record Going (r : List ℕ) (n : ℕ) (v : Names) (e i : ℕ) : Type 0 where
   pub past : i ≤ n
   pub fit : Fit r v
-  pub left : every (goodDomain r) (starts (n - i) e r) ≡ true
+  pub left : every (goodDomainName r) (starts (n - i) e r) ≡ true
   pub all : once (map (domainName r) (entries r)) ≡ shown r v ++ unlike (shown r v) (once (map (domainName r) (starts (n - i) e r)))
 
 pub going-start : (r : List ℕ) (n : ℕ) (v : Names) → WellFormed r → n ≡ referralCount r → v .count ≡ 0 → length (v .kept) ≡ 33 → Going r n v 8 0
@@ -40,7 +40,7 @@ going-start r n v w e h l =
     record {
       past = omega arith;
       fit = none-kept r v h l;
-      left = sym (entries-start (goodDomain r) r e) ∙ w .good;
+      left = sym (entries-start (goodDomainName r) r e) ∙ w .good;
       all = once-start (once-list r)
           ∙ (λ i. map (spanned r) (take (sym h i) (v .kept)) ++ unlike (map (spanned r) (take (sym h i) (v .kept))) (once (map (domainName r) (starts (q i) 8 r))));
     }

@@ -23,7 +23,7 @@ use Rattle.reply_read.specs.referral.Replies.{Reply, malformed, nothing, says, 
 use Rattle.reply_read.specs.declared.referral.Answer.{Answer}
 use Rattle.reply_read.specs.declared.referral.Answer.the-variants.{Says}
 use Rattle.reply_read.proofs.referral.Answer.{the-type}
-use Rattle.reply_read.specs.name_lists.NameLists.{readDomains, domainAt, goodDomain}
+use Rattle.reply_read.specs.name_lists.NameLists.{readDomains, domainAt, goodDomainName}
 use Rattle.reply_read.specs.name_lists.Code.{domainName, answerOf}
 use Rattle.reply_read.proofs.name_lists.ListLaws.{domain-read}
 use Rattle.reply_read.proofs.name_lists.SaysLaws.{SoundDomains, says-domains, domain-name-good}
@@ -140,12 +140,12 @@ not-says a (inl p) h = let t : tagOf the-type a ≡ 2 = ap (tagOf the-type) h in
 not-says a (inr p) h = let t : tagOf the-type a ≡ 2 = ap (tagOf the-type) h in omega arith
 
 -- a domain reply that was read: its names are good
-names-good : (r : List ℕ) (es : List ℕ) → every (goodDomain r) es ≡ true → every goodName (map (domainName r) es) ≡ true
+names-good : (r : List ℕ) (es : List ℕ) → every (goodDomainName r) es ≡ true → every goodName (map (domainName r) es) ≡ true
 unfolding every domainName domainAt
 names-good r [] h = refl
 names-good r (e ∷ es) h =
-    and-both (domain-name-good _ (domain-read r e (and-left (goodDomain r e) _ h)))
-    (names-good r es (and-right (goodDomain r e) _ h))
+    and-both (domain-name-good _ (domain-read r e (and-left (goodDomainName r e) _ h)))
+    (names-good r es (and-right (goodDomainName r e) _ h))
 
 few-names : (c : ℕ) (ns : List (List ℕ)) → _≡_ {A = ℕ} (choose (leb (length (once ns)) c) 0 6) 0 → leb (length (once ns)) c ≡ true
 few-names c ns h = go (told (leb (length (once ns)) c))

@@ -34,7 +34,7 @@ train = record {
 }
 
 -- a reply with as many targets, \n1\train and \n2\train
-abbrev moved : replies.Referral
+abbrev moved : replies.ReferralReply
 moved = record {
   version = 4;
   count = 2;

@@ -29,7 +29,7 @@ unfolding dcsStored
 dcs-stored-key name names ps i e = on-at domains name (dcsTo names) ps i e ∙ ap (set ps i) (with-dcs names (getD ps i free))
 
 -- a referral reply: the entry with an equal prefix is refreshed
-module _ (q : replies.Referral) (interlink : Bool) (clock : ℕ) (ps : List (Place Referral)) where
+module _ (q : replies.ReferralReply) (interlink : Bool) (clock : ℕ) (ps : List (Place Referral)) where
   pub stored-key : (i : ℕ) → withKey referrals (q .prefix) ps ≡ At i
       → stored q interlink clock ps ≡ onKey referrals (q .prefix) (λ e. refreshed e q interlink clock) ps
   unfolding stored storePlace foundOr prefixed held heldAt storedEntry onEntry

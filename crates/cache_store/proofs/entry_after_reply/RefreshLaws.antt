@@ -78,7 +78,7 @@ module _ (raw : List ℕ) (i : ℕ) (fits : i < placeCount raw) (e : Referral) (
       (target-hint-units (failedBack failback (e .targets) hint) e good)
 
 -- the entry as a refresh leaves it before its hint is set
-abbrev pub based : Referral → replies.Referral → Bool → ℕ → List Target → ℕ → Referral
+abbrev pub based : Referral → replies.ReferralReply → Bool → ℕ → List Target → ℕ → Referral
 based e q interlink clock ts hint = record {
   prefix = e .prefix;
   settings = settingsSaid q interlink clock;
@@ -86,7 +86,7 @@ based e q interlink clock ts hint = record {
   hint = hint;
 }
 
-module _ (e : Referral) (q : replies.Referral) (interlink : Bool) (clock : ℕ) where
+module _ (e : Referral) (q : replies.ReferralReply) (interlink : Bool) (clock : ℕ) where
   pub refreshed-held : {r : Bool} → r ≡ equivalent (q .version) (e .targets) (q .targets) → r ≡ true → (h : ℕ)
       → targetHintTo (failedBack (q .failback) (e .targets) (firstEqual 0 (hinted e) (e .targets))) (based e q interlink clock (e .targets) h) ≡ refreshed e q interlink clock
   unfolding refreshed targetsAfter targetHintTo settingsSaid

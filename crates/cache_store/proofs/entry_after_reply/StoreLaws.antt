@@ -29,7 +29,7 @@ unfolding referralShown
 targets-in r f = refl
 
 -- whether an entry is good does not depend on Interlink or the time taken
-pub fresh-good : (q : replies.Referral) (a b : Bool) (s t : ℕ) → goodReferral (fresh q a s) ≡ true → goodReferral (fresh q b t) ≡ true
+pub fresh-good : (q : replies.ReferralReply) (a b : Bool) (s t : ℕ) → goodReferral (fresh q a s) ≡ true → goodReferral (fresh q b t) ≡ true
 unfolding goodReferral fresh settingsSaid
 fresh-good q a b s t h = h
 

@@ -55,7 +55,7 @@ unfolding heldTargets referralShown
 equivalent-told raw i r f e h = sym e ∙ h
 
 -- a refreshed entry is good
-pub refreshed-good : (e : Referral) (q : replies.Referral) (interlink : Bool) (clock : ℕ) → goodReferral e ≡ true → goodReferral (fresh q false 0) ≡ true
+pub refreshed-good : (e : Referral) (q : replies.ReferralReply) (interlink : Bool) (clock : ℕ) → goodReferral e ≡ true → goodReferral (fresh q false 0) ≡ true
     → goodReferral (refreshed e q interlink clock) ≡ true
 unfolding fresh settingsSaid
 refreshed-good e q interlink clock h k = go (told (equivalent (q .version) (e .targets) (q .targets)))

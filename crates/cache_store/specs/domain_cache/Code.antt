@@ -18,7 +18,7 @@ use Rattle.reply_read.specs.declared.referral.Asked.{Asked}
 use Rattle.reply_read.specs.declared.referral.Asked.the-variants.{Bytes, TooShort}
 use Rattle.reply_read.specs.referral.Replies.{entries}
 use Rattle.reply_read.specs.declared.name_lists.DcsFound.{DcsFound}
-use Rattle.reply_read.specs.name_lists.NameLists.{goodDomain}
+use Rattle.reply_read.specs.name_lists.NameLists.{goodDomainName}
 use Rattle.reply_read.specs.name_lists.Code.{domainName}
 use Rattle.cache_store.specs.entry_after_reply.Stored.{once}
 use Rattle.cache_store.specs.declared.domain_cache.DomainsRead.{DomainsRead}
@@ -82,7 +82,7 @@ pub record Added (r : List ℕ) (before : Names) (s : Span) (v : Names) : Type 0
 pub record WellFormed (r : List ℕ) : Type 0 where
   pub header : 8 ≤ length r
   pub short : length r < 4294967296
-  pub good : every (goodDomain r) (entries r) ≡ true
+  pub good : every (goodDomainName r) (entries r) ≡ true
 
 -- its different names, 33 at most
 pub record Gathered (r : List ℕ) (v : Names) : Type 0 where

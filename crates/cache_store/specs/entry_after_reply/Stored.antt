@@ -17,7 +17,7 @@ use Rattle.reply_read.specs.referral.Replies as replies
 use Rattle.cache_entry.specs.equivalent_targets.Equivalence.{equivalent}
 
 -- "Interlink is set exactly when ReferralServers is set and StorageServers is not." The domain cache is not looked at.
-unfoldable pub isInterlink : replies.Referral → List (Place Domain) → Bool
+unfoldable pub isInterlink : replies.ReferralReply → List (Place Domain) → Bool
 isInterlink q ds = q .referralServers && not (q .storageServers)
 
 -- "A kept hint points to the first equal target": the place of the first target equal to this path, 0 where there is none
@@ -38,15 +38,15 @@ unfoldable pub failedBack : Bool → List Target → ℕ → ℕ
 failedBack failback ts hint = choose (failback && not (inFirstSet hint ts)) 0 hint
 
 -- "if the targets .. are equivalent, the client MUST NOT update the TargetList"
-unfoldable pub targetsAfter : Referral → replies.Referral → List Target
+unfoldable pub targetsAfter : Referral → replies.ReferralReply → List Target
 targetsAfter e q = choose (equivalent (q .version) (e .targets) (q .targets)) (e .targets) (q .targets)
 
 -- the settings that a reply gives: kind, TTL and TargetFailback as it says them, and the time taken is now
-unfoldable pub settingsSaid : replies.Referral → Bool → ℕ → Settings
+unfoldable pub settingsSaid : replies.ReferralReply → Bool → ℕ → Settings
 settingsSaid q interlink clock = record { root = q .root; interlink = interlink; failback = q .failback; ttl = q .ttl; taken = clock }
 
 -- An entry refreshed: the prefix keeps its spelling; the settings are the reply's.
-unfoldable pub refreshed : Referral → replies.Referral → Bool → ℕ → Referral
+unfoldable pub refreshed : Referral → replies.ReferralReply → Bool → ℕ → Referral
 refreshed e q interlink clock = record {
   prefix = e .prefix;
   settings = settingsSaid q interlink clock;
@@ -55,7 +55,7 @@ refreshed e q interlink clock = record {
 }
 
 -- A new entry: TargetHint is the first target.
-unfoldable pub fresh : replies.Referral → Bool → ℕ → Referral
+unfoldable pub fresh : replies.ReferralReply → Bool → ℕ → Referral
 fresh q interlink clock = record {
   prefix = q .prefix;
   settings = settingsSaid q interlink clock;
@@ -81,12 +81,12 @@ unfoldable pub prefixed : List ℕ → List (Place Referral) → Option Referral
 prefixed prefix ps = held (withKey referrals prefix ps) ps
 
 -- "if an entry has an equal prefix it is refreshed", else the entry is new
-unfoldable pub storedEntry : Option Referral → replies.Referral → Bool → ℕ → Referral
+unfoldable pub storedEntry : Option Referral → replies.ReferralReply → Bool → ℕ → Referral
 storedEntry none q interlink clock = fresh q interlink clock
 storedEntry (some e) q interlink clock = refreshed e q interlink clock
 
 -- the cache then: every other place stays as it was
-unfoldable pub stored : replies.Referral → Bool → ℕ → List (Place Referral) → List (Place Referral)
+unfoldable pub stored : replies.ReferralReply → Bool → ℕ → List (Place Referral) → List (Place Referral)
 stored q interlink clock ps =
     set ps (storePlace clock (q .prefix) ps) (used (storedEntry (prefixed (q .prefix) ps) q interlink clock))
 

@@ -22,7 +22,7 @@ use Rattle.cache.specs.order.Memory.{referrals, settingsAt, referralOf, targetO
 use Rattle.cache.proofs.order.MemoryLaws.{cache-told, order-good, encode-decode, length-decode, decode-encode, in-order-parts}
 use Rattle.cache.proofs.order.KindLaws.{referrals-lawful}
 use Rattle.listing_write.specs.Form.{entryText, listing}
-use Rattle.listing_write.specs.Listed.{textOf}
+use Rattle.listing_write.specs.Listed.{listedText}
 use Rattle.listing_spelling.specs.unspell.Reading.{unit}
 use Rattle.listing_read.specs.listing_rules.Entries.{entriesSaid}
 use Rattle.listing_read.specs.listing_rules.Read.{oneSet, listable, isListing, placed, readNumber, readAfter, entriesIn, allFree, noGaps, plainCache}
@@ -82,14 +82,14 @@ unfolding placed
 lists es n = placed-lists es (n - length es)
 
 -- Text read and listed again is the same text
-pub read-listed : (text raw : List ℕ) → readNumber text raw ≡ 0 → textOf (readAfter text raw) ≡ text
-unfolding readAfter textOf
+pub read-listed : (text raw : List ℕ) → readNumber text raw ≡ 0 → listedText (readAfter text raw) ≡ text
+unfolding readAfter listedText
 read-listed text raw h =
     let a = accepted text raw h in
     let s = listing-sound text (a .form) in
     let es = entriesSaid text in
     let ps = placed (placeCount raw) es in
-    ap textOf (choose-yes (encode referrals ps) raw (eq-eqb _ _ h))
+    ap listedText (choose-yes (encode referrals ps) raw (eq-eqb _ _ h))
     ∙ (ap listing (decode-encode referrals referrals-lawful ps (good-placed es (placeCount raw) (s .each)))
     ∙ (lists es (placeCount raw) ∙ sym (s .form)))
 
@@ -232,8 +232,8 @@ plain-told raw h =
     }
 
 -- what its text says
-plain-said : (raw : List ℕ) → Plain raw → Said (textOf raw) (entriesIn (decode referrals raw))
-unfolding textOf
+plain-said : (raw : List ℕ) → Plain raw → Said (listedText raw) (entriesIn (decode referrals raw))
+unfolding listedText
 plain-said raw p =
     let g = cache-told referrals (decode referrals raw) (order-good referrals raw (p .order)) in
     record {
@@ -248,15 +248,15 @@ gapless ps h = no-gaps ps h
 
 -- A cache with one set each and no gap before an entry comes back the same, whatever the cache held that it is read into
 pub comes-back : (raw into : List ℕ) → plainCache raw ≡ true → rightSize into ≡ true → placeCount into ≡ placeCount raw
-    → (readNumber (textOf raw) into ≡ 0) × (readAfter (textOf raw) into ≡ raw)
+    → (readNumber (listedText raw) into ≡ 0) × (readAfter (listedText raw) into ≡ raw)
 unfolding readAfter
 comes-back raw into h s n =
     let p = plain-told raw h in
     let d = plain-said raw p in
     let ps = decode referrals raw in
-    let e : entriesSaid (textOf raw) ≡ entriesIn ps = said-same (textOf raw) (entriesIn ps) d in
-    let f : length (entriesSaid (textOf raw)) ≤ placeCount into = omega (arith, ap length e, entries-few ps, length-decode referrals raw) in
-    let z = accept (textOf raw) into (record { size = s; form = listing-complete (textOf raw) (entriesIn ps) d; fits = f }) in (
+    let e : entriesSaid (listedText raw) ≡ entriesIn ps = said-same (listedText raw) (entriesIn ps) d in
+    let f : length (entriesSaid (listedText raw)) ≤ placeCount into = omega (arith, ap length e, entries-few ps, length-decode referrals raw) in
+    let z = accept (listedText raw) into (record { size = s; form = listing-complete (listedText raw) (entriesIn ps) d; fits = f }) in (
       z,
       choose-yes _ into (eq-eqb _ _ z)
           ∙ (ap (λ (x : List Referral). encode referrals (placed (placeCount into) x)) e
@@ -265,7 +265,7 @@ comes-back raw into h s n =
     )
 
 -- two different caches of as many places, without gaps or sets, have different listings
-pub listings-differ : (a b : List ℕ) → plainCache a ≡ true → plainCache b ≡ true → placeCount a ≡ placeCount b → textOf a ≡ textOf b → a ≡ b
+pub listings-differ : (a b : List ℕ) → plainCache a ≡ true → plainCache b ≡ true → placeCount a ≡ placeCount b → listedText a ≡ listedText b → a ≡ b
 listings-differ a b p q n e =
     let s = and-left (rightSize a) _ (sym (in-order-parts referrals referrals-lawful a) ∙ plain-told a p .order) in
     sym (comes-back a a p s refl .1) ∙ (ap (λ (x : List ℕ). readAfter x a) e ∙ comes-back b a q s n .1)

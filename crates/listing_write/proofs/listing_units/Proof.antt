@@ -5,7 +5,7 @@ use native.Mathlib.Omega.{arith}
 use lib.ListN.{length}
 use Rattle.cache.specs.places.Layout.{placeAt}
 use Rattle.cache.specs.order.Memory.{referralOf}
-use Rattle.listing_write.specs.Listed.{textOf}
+use Rattle.listing_write.specs.Listed.{listedText}
 use Rattle.listing_write.proofs.FormLaws.{head-bound, length-entry, placesLeft, places-start, places-free, places-units, places-end}
 use Rattle.listing_write.proofs.UsedLaws.{seen-free, seen-used}
 use borrow.Author.Needs.{needs}
@@ -13,7 +13,7 @@ use Rattle.listing_write.proofs.listing_units.Statement.{statement}
 use Rattle.listing_write.proofs.listing_units.Tie as tie
 
 abbrev Inv-loop : tie.InvT-loop
-Inv-loop cache count n₀ i₀ n i = (i ≤ count) × ((n ≤ 11704 * i) × (length (textOf cache) ≡ n + length (placesLeft i cache)))
+Inv-loop cache count n₀ i₀ n i = (i ≤ count) × ((n ≤ 11704 * i) × (length (listedText cache) ≡ n + length (placesLeft i cache)))
 
 abbrev μ-loop : tie.MeasureT-loop
 μ-loop cache count n₀ i₀ n i = count - i

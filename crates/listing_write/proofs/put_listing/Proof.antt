@@ -8,7 +8,7 @@ use Rattle.cache.specs.places.Layout.{placeAt}
 use Rattle.cache.specs.order.Memory.{referralOf}
 use Rattle.listing_spelling.proofs.spell.PutLaws.{Left, left-start, left-next, left-done}
 use Rattle.listing_write.specs.Form.{entryText}
-use Rattle.listing_write.specs.Listed.{textOf}
+use Rattle.listing_write.specs.Listed.{listedText}
 use Rattle.listing_write.proofs.FormLaws.{left-fits, placesLeft, places-start, places-free, places-used, places-end}
 use Rattle.listing_write.proofs.EntryLaws.{left-same}
 use Rattle.listing_write.proofs.UsedLaws.{seen-free, seen-used}
@@ -17,7 +17,7 @@ use Rattle.listing_write.proofs.put_listing.Statement.{statement}
 use Rattle.listing_write.proofs.put_listing.Tie as tie
 
 abbrev Inv-loop : tie.InvT-loop
-Inv-loop cache out₀ count end₀ i₀ out end i = (i ≤ count) × ((length out ≡ length out₀) × Left (pasted out₀ 0 (textOf cache)) (0 + length (textOf cache)) out end (placesLeft i cache))
+Inv-loop cache out₀ count end₀ i₀ out end i = (i ≤ count) × ((length out ≡ length out₀) × Left (pasted out₀ 0 (listedText cache)) (0 + length (listedText cache)) out end (placesLeft i cache))
 
 abbrev μ-loop : tie.MeasureT-loop
 μ-loop cache out₀ count end₀ i₀ out end i = count - i

@@ -17,7 +17,7 @@ use Rattle.laws.specs.Lists.{pasted, roomed}
 use Rattle.laws.proofs.Orders.{told}
 use Rattle.laws.proofs.Pasting.{pasted-room}
 use Rattle.unc.specs.names.Names.{sameUnit}
-use Rattle.reply_bytes.specs.texts.Bytes.{u16At, Text, terminated, unterminated, longer, text, textAt}
+use Rattle.reply_bytes.specs.texts.Bytes.{u16At, Text, terminated, unterminated, longer, text, textFrom}
 use Rattle.reply_bytes.specs.texts.Code.{unitsAt, spanned, Inside, partOf, textEnd}
 use Rattle.reply_bytes.specs.declared.texts.Span.{Span}
 use Rattle.reply_bytes.specs.declared.texts.Read.the-variants.{Ended, Unended}
@@ -87,20 +87,20 @@ text-longer at n u (terminated s) = let q : n + suc (length s) ≡ n + 1 + lengt
 text-longer at n u unterminated = refl
 
 module _ (r : List ℕ) (at i n : ℕ) where
-  pub text-over : length r ≤ i → Unended ≡ textEnd at n (textAt r i)
-  unfolding textAt text textEnd
+  pub text-over : length r ≤ i → Unended ≡ textEnd at n (textFrom r i)
+  unfolding textFrom text textEnd
   text-over h = rw (drop-of-length-le r h)
 
-  pub text-half : i < length r → length r - i < 2 → Unended ≡ textEnd at n (textAt r i)
-  unfolding textAt text textEnd
+  pub text-half : i < length r → length r - i < 2 → Unended ≡ textEnd at n (textFrom r i)
+  unfolding textFrom text textEnd
   text-half h k = rw (drop-cons r i 0 h, drop-of-length-le r {i = suc i} (omega arith))
 
-  pub text-zero : {u : ℕ} → i + 1 < length r → u ≡ u16At r i → u ≡ 0 → Ended (record { from = at; units = n }) ≡ textEnd at n (textAt r i)
-  unfolding textAt text textEnd u16At choose
+  pub text-zero : {u : ℕ} → i + 1 < length r → u ≡ u16At r i → u ≡ 0 → Ended (record { from = at; units = n }) ≡ textEnd at n (textFrom r i)
+  unfolding textFrom text textEnd u16At choose
   text-zero h e k = rw (two-bytes r i h, eq-eqb _ _ (sym e ∙ k)) (λ j. Ended (record { from = at; units = sym (add-zero n) j }))
 
-  pub text-more : {u : ℕ} → i + 1 < length r → u ≡ u16At r i → (u ≡ 0 → ⊥) → textEnd at n (textAt r i) ≡ textEnd at (n + 1) (textAt r (i + 2))
-  unfolding textAt text u16At choose
+  pub text-more : {u : ℕ} → i + 1 < length r → u ≡ u16At r i → (u ≡ 0 → ⊥) → textEnd at n (textFrom r i) ≡ textEnd at (n + 1) (textFrom r (i + 2))
+  unfolding textFrom text u16At choose
   text-more h e k = rw (two-bytes r i h, ne-eqb _ _ (λ z. k (e ∙ z))) (text-longer at n _ (text (drop (i + 2) r)))
 
 -- A text that is ended is the units before its unit 0, which lies inside the bytes.
@@ -158,11 +158,11 @@ unended-text i unterminated h = refl
 unended-text i (terminated s) h = absurd (let z : _≡_ {A = ℕ} 0 1 = cc in omega arith)
 
 pub record EndedAt (r : List ℕ) (i : ℕ) (s : Span) : Type 0 where
-  pub is : textAt r i ≡ terminated (spanned r s)
+  pub is : textFrom r i ≡ terminated (spanned r s)
   pub from-is : s .from ≡ i
   pub within : s .from + (2 * s .units + 2) ≤ length r
 
-ended-text : (r : List ℕ) (i : ℕ) (s : Span) (x : Text) → ((y : List ℕ) → x ≡ terminated y → Begins (drop i r) y) → Ended s ≡ textEnd i 0 x → textAt r i ≡ x → EndedAt r i s
+ended-text : (r : List ℕ) (i : ℕ) (s : Span) (x : Text) → ((y : List ℕ) → x ≡ terminated y → Begins (drop i r) y) → Ended s ≡ textEnd i 0 x → textFrom r i ≡ x → EndedAt r i s
 unfolding textEnd spanned
 ended-text r i s unterminated f h e = absurd (let z : _≡_ {A = ℕ} 0 1 = cc in omega arith)
 ended-text r i s (terminated y) f h e =
@@ -178,12 +178,12 @@ ended-text r i s (terminated y) f h e =
       within = omega (arith, w, length-drop i r);
     }
 
-pub ended-at : (r : List ℕ) (i : ℕ) (s : Span) → Ended s ≡ textEnd i 0 (textAt r i) → EndedAt r i s
-unfolding textAt
+pub ended-at : (r : List ℕ) (i : ℕ) (s : Span) → Ended s ≡ textEnd i 0 (textFrom r i) → EndedAt r i s
+unfolding textFrom
 ended-at r i s h = ended-text r i s (text (drop i r)) (begins (drop i r)) h refl
 
-pub unended-at : (r : List ℕ) (i : ℕ) → Unended ≡ textEnd i 0 (textAt r i) → textAt r i ≡ unterminated
-unended-at r i h = unended-text i (textAt r i) h
+pub unended-at : (r : List ℕ) (i : ℕ) → Unended ≡ textEnd i 0 (textFrom r i) → textFrom r i ≡ unterminated
+unended-at r i h = unended-text i (textFrom r i) h
 
 -- a unit of each of two lists, compared
 pub units-told : (s t : List ℕ) (i : ℕ) {x y : ℕ} {r : Bool} → r ≡ sameUnit x y → x ≡ getD s i 0 → y ≡ getD t i 0

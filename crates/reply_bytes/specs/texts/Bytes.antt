@@ -31,5 +31,5 @@ text [] = unterminated
 text (a ∷ []) = unterminated
 text (a ∷ (b ∷ s)) = choose (eqb (a + 256 * b) 0) (terminated []) (longer (a + 256 * b) (text s))
 
-unfoldable pub textAt : List ℕ → ℕ → Text
-textAt r i = text (drop i r)
+unfoldable pub textFrom : List ℕ → ℕ → Text
+textFrom r i = text (drop i r)

@@ -15,12 +15,12 @@ use Rattle.laws.proofs.Choices.{choose-yes, choose-no, and-left, and-right, and
 use Rattle.laws.proofs.Orders.{lt-or-le}
 use Rattle.laws.proofs.Filling.{filled-next, filled-whole, every-set}
 use Rattle.unc.specs.names.Names.{goodName}
-use Rattle.reply_bytes.specs.texts.Bytes.{Text, terminated, unterminated, textAt, u16At, flag}
+use Rattle.reply_bytes.specs.texts.Bytes.{Text, terminated, unterminated, textFrom, u16At, flag}
 use Rattle.reply_bytes.specs.texts.Code.{spanned, Inside, partOf}
 use Rattle.reply_bytes.specs.declared.texts.Span.{Span}
 use Rattle.reply_bytes.proofs.texts.UnitLaws.{length-spanned, part-spanned}
 use Rattle.reply_read.specs.referral.Replies.{isRead, withFirst, allRead, readable, versionAt, fits, entryFlag, sizeAt}
-use Rattle.reply_read.specs.name_lists.NameLists.{bare, dcOf, domainOf, bytesPast, textsAt, dcNames, goodDcs, domainAt, goodDomain}
+use Rattle.reply_read.specs.name_lists.NameLists.{bare, dcOf, domainSaid, bytesPast, textsAt, dcNames, goodDcs, domainAt, goodDomainName}
 use Rattle.reply_read.specs.referral.Replies.{Reply, malformed, nothing, readOr}
 use Rattle.reply_read.specs.referral.Code.{isInside, unitsRead, replyOf}
 use Rattle.reply_read.specs.name_lists.Code.{dcShown, dcPlaced, domainName, answerOf, denotedDcs, noDcs, DcsInside}
@@ -57,21 +57,21 @@ module _ (u : List ℕ) where
   unfolding dcOf
   dc-no e f h = choose-no (some (bare u)) none (sym (f ∙ ap goodName e) ∙ h)
 
-  pub domain-unled : (getD u 0 0 ≡ 92 → ⊥) → domainOf (terminated u) ≡ none
-  unfolding domainOf
+  pub domain-unled : (getD u 0 0 ≡ 92 → ⊥) → domainSaid (terminated u) ≡ none
+  unfolding domainSaid
   domain-unled h = choose-no (some (drop 1 u)) none (and-no-left _ (ne-eqb (getD u 0 0) 92 h))
 
-  pub domain-no : {b : List ℕ} {t : Bool} → b ≡ drop 1 u → t ≡ goodName b → t ≡ false → domainOf (terminated u) ≡ none
-  unfolding domainOf
+  pub domain-no : {b : List ℕ} {t : Bool} → b ≡ drop 1 u → t ≡ goodName b → t ≡ false → domainSaid (terminated u) ≡ none
+  unfolding domainSaid
   domain-no e f h = choose-no (some (drop 1 u)) none (and-no-right (eqb (getD u 0 0) 92) (sym (f ∙ ap goodName e) ∙ h))
 
-  pub domain-yes : {b : List ℕ} {t : Bool} → getD u 0 0 ≡ 92 → b ≡ drop 1 u → t ≡ goodName b → t ≡ true → some b ≡ domainOf (terminated u)
-  unfolding domainOf
+  pub domain-yes : {b : List ℕ} {t : Bool} → getD u 0 0 ≡ 92 → b ≡ drop 1 u → t ≡ goodName b → t ≡ true → some b ≡ domainSaid (terminated u)
+  unfolding domainSaid
   domain-yes g e f h = (λ i. some (e i)) ∙ sym (choose-yes (some (drop 1 u)) none (and-both (eq-eqb (getD u 0 0) 92 g) (sym (f ∙ ap goodName e) ∙ h)))
 
-pub domain-unended : {t : Text} → t ≡ unterminated → domainOf t ≡ none
-unfolding domainOf
-domain-unended e = ap domainOf e
+pub domain-unended : {t : Text} → t ≡ unterminated → domainSaid t ≡ none
+unfolding domainSaid
+domain-unended e = ap domainSaid e
 
 pub dc-unended : {t : Text} → t ≡ unterminated → dcOf t ≡ none
 unfolding dcOf
@@ -117,7 +117,7 @@ past-ended at r s e =
 
 -- Texts one after another, i of n passed.
 module _ (r : List ℕ) (n i at : ℕ) where
-  texts-cons : i < n → textsAt (n - i) at r ≡ textAt r at ∷ textsAt (n - (i + 1)) (at + bytesPast (textAt r at)) r
+  texts-cons : i < n → textsAt (n - i) at r ≡ textFrom r at ∷ textsAt (n - (i + 1)) (at + bytesPast (textFrom r at)) r
   unfolding textsAt
   texts-cons h = let q : n - i ≡ suc (n - (i + 1)) = omega arith in ap (λ (m : ℕ). textsAt m at r) q
 
@@ -125,21 +125,21 @@ module _ (r : List ℕ) (n i at : ℕ) where
   unfolding textsAt
   texts-none h = let q : n - i ≡ 0 = omega arith in ap (λ (m : ℕ). textsAt m at r) q
 
-  pub names-miss : i < n → dcOf (textAt r at) ≡ none → every isRead (map dcOf (textsAt (n - i) at r)) ≡ false
+  pub names-miss : i < n → dcOf (textFrom r at) ≡ none → every isRead (map dcOf (textsAt (n - i) at r)) ≡ false
   unfolding every isRead
   names-miss h k =
       ap (λ (x : List Text). every isRead (map dcOf x)) (texts-cons h)
-      ∙ ap (λ (x : Option (List ℕ)). isRead x && every isRead (map dcOf (textsAt (n - (i + 1)) (at + bytesPast (textAt r at)) r))) k
+      ∙ ap (λ (x : Option (List ℕ)). isRead x && every isRead (map dcOf (textsAt (n - (i + 1)) (at + bytesPast (textFrom r at)) r))) k
 
-  pub names-left : i < n → every isRead (map dcOf (textsAt (n - i) at r)) ≡ true → dcOf (textAt r at) ≡ none → ⊥
+  pub names-left : i < n → every isRead (map dcOf (textsAt (n - i) at r)) ≡ true → dcOf (textFrom r at) ≡ none → ⊥
   names-left h g k = true≢false (sym g ∙ names-miss h k)
 
-  module _ (s : Span) (a : dcOf (textAt r at) ≡ some (spanned r s)) {z : ℕ} (b : z ≡ at + bytesPast (textAt r at)) where
+  module _ (s : Span) (a : dcOf (textFrom r at) ≡ some (spanned r s)) {z : ℕ} (b : z ≡ at + bytesPast (textFrom r at)) where
     pub names-hit : i < n → every isRead (map dcOf (textsAt (n - i) at r)) ≡ every isRead (map dcOf (textsAt (n - (i + 1)) z r))
     unfolding every isRead
     names-hit h =
         ap (λ (x : List Text). every isRead (map dcOf x)) (texts-cons h)
-        ∙ (ap (λ (x : Option (List ℕ)). isRead x && every isRead (map dcOf (textsAt (n - (i + 1)) (at + bytesPast (textAt r at)) r))) a
+        ∙ (ap (λ (x : Option (List ℕ)). isRead x && every isRead (map dcOf (textsAt (n - (i + 1)) (at + bytesPast (textFrom r at)) r))) a
         ∙ ap (λ (x : ℕ). every isRead (map dcOf (textsAt (n - (i + 1)) x r))) (sym b))
 
     -- one name stored
@@ -151,7 +151,7 @@ module _ (r : List ℕ) (n i at : ℕ) where
         g
         ∙ filled-next (spanned r) l i s h
         ((λ j. map unitsRead (take (p j) (map dcOf (texts-cons k j))))
-        ∙ (λ j. unitsRead (dcOf (textAt r at)) ∷ map unitsRead (take (8 - (i + 1)) (map dcOf (textsAt (n - (i + 1)) (sym b j) r)))))
+        ∙ (λ j. unitsRead (dcOf (textFrom r at)) ∷ map unitsRead (take (8 - (i + 1)) (map dcOf (textsAt (n - (i + 1)) (sym b j) r)))))
         (sym (ap unitsRead a))
 
   pub names-end : n ≤ i → every isRead (map dcOf (textsAt (n - i) at r)) ≡ true
@@ -237,55 +237,55 @@ module _ (r : List ℕ) {f : DcsFound} where
 
 -- the ways of `goodDomain`, in the order of the tests
 module _ (r : List ℕ) (e : ℕ) where
-  pub domain-unfit : {t : Bool} → t ≡ fits 18 r e → t ≡ false → false ≡ goodDomain r e
-  unfolding goodDomain
+  pub domain-unfit : {t : Bool} → t ≡ fits 18 r e → t ≡ false → false ≡ goodDomainName r e
+  unfolding goodDomainName
   domain-unfit f h = sym (and-no-right (eqb (versionAt r e) 3) (and-no-left _ (sym f ∙ h)))
 
-  pub domain-version : {v : ℕ} → v ≡ u16At r e → (v ≡ 3 → ⊥) → false ≡ goodDomain r e
-  unfolding goodDomain versionAt
+  pub domain-version : {v : ℕ} → v ≡ u16At r e → (v ≡ 3 → ⊥) → false ≡ goodDomainName r e
+  unfolding goodDomainName versionAt
   domain-version f h = sym (and-no-left _ (ne-eqb (u16At r e) 3 (λ q. h (f ∙ q))))
 
   module _ {t : Bool} (a : t ≡ fits 18 r e) (a' : t ≡ true) {v : ℕ} (b : v ≡ u16At r e) (b' : v ≡ 3) where
-    domain-rest : goodDomain r e ≡ (entryFlag 2 r e && isRead (domainAt r e))
-    unfolding goodDomain versionAt
+    domain-rest : goodDomainName r e ≡ (entryFlag 2 r e && isRead (domainAt r e))
+    unfolding goodDomainName versionAt
     domain-rest =
         let x : eqb (u16At r e) 3 ≡ true = eq-eqb _ _ (sym b ∙ b') in
         let y : fits 18 r e ≡ true = sym a ∙ a' in
         rw (x, y)
 
-    pub domain-flag : {f : ℕ} {g : Bool} → f ≡ u16At r (e + 6) → g ≡ flag 2 f → g ≡ false → false ≡ goodDomain r e
+    pub domain-flag : {f : ℕ} {g : Bool} → f ≡ u16At r (e + 6) → g ≡ flag 2 f → g ≡ false → false ≡ goodDomainName r e
     unfolding entryFlag
     domain-flag i j h = sym (domain-rest ∙ and-no-left _ (sym (j ∙ ap (flag 2) i) ∙ h))
 
-    pub domain-good : {f : ℕ} {g : Bool} → f ≡ u16At r (e + 6) → g ≡ flag 2 f → g ≡ true → {s : List ℕ} → domainAt r e ≡ some s → true ≡ goodDomain r e
+    pub domain-good : {f : ℕ} {g : Bool} → f ≡ u16At r (e + 6) → g ≡ flag 2 f → g ≡ true → {s : List ℕ} → domainAt r e ≡ some s → true ≡ goodDomainName r e
     unfolding entryFlag isRead
     domain-good i j h k = sym (domain-rest ∙ and-both (sym (j ∙ ap (flag 2) i) ∙ h) (ap isRead k))
 
-  domain-told : goodDomain r e ≡ (eqb (versionAt r e) 3 && (fits 18 r e && (entryFlag 2 r e && isRead (domainAt r e))))
-  unfolding goodDomain
+  domain-told : goodDomainName r e ≡ (eqb (versionAt r e) 3 && (fits 18 r e && (entryFlag 2 r e && isRead (domainAt r e))))
+  unfolding goodDomainName
   domain-told = refl
 
-  pub domain-bad : domainAt r e ≡ none → false ≡ goodDomain r e
+  pub domain-bad : domainAt r e ≡ none → false ≡ goodDomainName r e
   unfolding isRead
   domain-bad h =
       sym
       (domain-told
       ∙ and-no-right (eqb (versionAt r e) 3) (and-no-right (fits 18 r e) (and-no-right (entryFlag 2 r e) (ap isRead h))))
 
-  pub domain-read : goodDomain r e ≡ true → isRead (domainAt r e) ≡ true
+  pub domain-read : goodDomainName r e ≡ true → isRead (domainAt r e) ≡ true
   domain-read h = and-right (entryFlag 2 r e) _ (and-right (fits 18 r e) _ (and-right (eqb (versionAt r e) 3) _ (sym domain-told ∙ h)))
 
-  pub domain-fit : {t : Bool} → t ≡ goodDomain r e → t ≡ true → (18 ≤ sizeAt r e) × (e + sizeAt r e ≤ length r)
-  unfolding goodDomain
+  pub domain-fit : {t : Bool} → t ≡ goodDomainName r e → t ≡ true → (18 ≤ sizeAt r e) × (e + sizeAt r e ≤ length r)
+  unfolding goodDomainName
   domain-fit f h = fits-room 18 r e refl (and-left _ _ (and-right (eqb (versionAt r e) 3) _ (sym f ∙ h)))
 
 -- the names of good entries are read
-pub domains-read : (r es : List ℕ) → every (goodDomain r) es ≡ true → allRead (map (domainAt r) es) ≡ some (map (domainName r) es)
+pub domains-read : (r es : List ℕ) → every (goodDomainName r) es ≡ true → allRead (map (domainAt r) es) ≡ some (map (domainName r) es)
 unfolding every allRead withFirst domainName
 domains-read r [] h = refl
 domains-read r (e ∷ es) h =
-    ap (λ (x : Option (List ℕ)). allRead (x ∷ map (domainAt r) es)) (read-some (domainAt r e) (domain-read r e (and-left (goodDomain r e) _ h)))
-    ∙ ap (withFirst (domainName r e)) (domains-read r es (and-right (goodDomain r e) _ h))
+    ap (λ (x : Option (List ℕ)). allRead (x ∷ map (domainAt r) es)) (read-some (domainAt r e) (domain-read r e (and-left (goodDomainName r e) _ h)))
+    ∙ ap (withFirst (domainName r e)) (domains-read r es (and-right (goodDomainName r e) _ h))
 
 -- which way a reply is read
 pub answer-says : {A : Type 0} {x : Option A} {a : A} → x ≡ some a → Says ≡ answerOf (readOr x)

@@ -26,7 +26,7 @@ use Rattle.reply_bytes.specs.declared.texts.Span.{Span}
 use Rattle.reply_read.proofs.referral.TextLaws.{text-good, text-bad}
 use Rattle.reply_read.proofs.referral.EntryLaws.{unread, all-read, starts-cons}
 use Rattle.reply_read.proofs.referral.SaysLaws.{Read, read-says, some-is}
-use Rattle.reply_read.specs.name_lists.NameLists.{bare, dcOf, domainOf, textsAt, dcNames, goodDcs, readDcs, domainAt, goodDomain, readDomains}
+use Rattle.reply_read.specs.name_lists.NameLists.{bare, dcOf, domainSaid, textsAt, dcNames, goodDcs, readDcs, domainAt, goodDomainName, readDomains}
 use Rattle.reply_read.specs.name_lists.Code.{domainName, denotedDcs, answerOf}
 use Rattle.reply_read.specs.declared.name_lists.DcsFound.{DcsFound}
 use Rattle.reply_read.proofs.name_lists.ListLaws.{domain-fit, domain-read, domains-read}
@@ -42,8 +42,8 @@ unfolding dcOf
 dc-name-good unterminated h = absurd (unread refl h)
 dc-name-good (terminated s) h = chosen-good (goodName (bare s)) (bare s) (λ e. e) h
 
-pub domain-name-good : (t : Text) → isRead (domainOf t) ≡ true → goodName (unitsRead (domainOf t)) ≡ true
-unfolding domainOf
+pub domain-name-good : (t : Text) → isRead (domainSaid t) ≡ true → goodName (unitsRead (domainSaid t)) ≡ true
+unfolding domainSaid
 domain-name-good unterminated h = absurd (unread refl h)
 domain-name-good (terminated s) h = chosen-good (eqb (getD s 0 0) 92 && goodName (drop 1 s)) (drop 1 s) (λ e. and-right (eqb (getD s 0 0) 92) _ e) h
 
@@ -113,7 +113,7 @@ pub record SoundDomains (size : ℕ) (r : List ℕ) : Type 0 where
   pub header : 8 ≤ length r
   pub within : length r ≤ size
   pub some : 0 < referralCount r
-  pub good : every (goodDomain r) (entries r) ≡ true
+  pub good : every (goodDomainName r) (entries r) ≡ true
 
 says-of : {A : Type 0} (x : Reply A) → Says ≡ answerOf x → (B : Type 0) → ((a : A) → x ≡ says a → B) → B
 unfolding answerOf
@@ -127,8 +127,8 @@ says-domains size r h = says-of (readDomains size r) h (SoundDomains size r) mad
   where
     made : (xs : List (List ℕ)) → readDomains size r ≡ says xs → SoundDomains size r
     made xs e =
-        let w : Read size r (every (goodDomain r) (entries r)) (allRead (map (domainAt r) (entries r))) xs =
-        read-says size r (every (goodDomain r) (entries r)) (allRead (map (domainAt r) (entries r))) xs e in
+        let w : Read size r (every (goodDomainName r) (entries r)) (allRead (map (domainAt r) (entries r))) xs =
+        read-says size r (every (goodDomainName r) (entries r)) (allRead (map (domainAt r) (entries r))) xs e in
         let q : xs ≡ map (domainName r) (entries r) = some-is xs _ (sym (w .same) ∙ domains-read r (entries r) (w .passed)) in
         record {
           is = e ∙ (λ i. says (q i));
@@ -144,10 +144,10 @@ unfolding domainName unitsRead
 name-taken r e s f h = sym (ap unitsRead (text-good r s h f))
 
 -- The entries one after another, i of n passed, all that are left being good: the one at e fits and has a good name.
-module _ (r : List ℕ) (n i e : ℕ) (h : i < n) (k : every (goodDomain r) (starts (n - i) e r) ≡ true) where
-  left-good : goodDomain r e ≡ true
+module _ (r : List ℕ) (n i e : ℕ) (h : i < n) (k : every (goodDomainName r) (starts (n - i) e r) ≡ true) where
+  left-good : goodDomainName r e ≡ true
   unfolding every
-  left-good = and-left _ _ (ap (every (goodDomain r)) (sym (starts-cons (λ x. true) r n i e h)) ∙ k)
+  left-good = and-left _ _ (ap (every (goodDomainName r)) (sym (starts-cons (λ x. true) r n i e h)) ∙ k)
 
   pub left-fits : (18 ≤ sizeAt r e) × (e + sizeAt r e ≤ length r)
   left-fits = domain-fit r e refl left-good
@@ -159,8 +159,8 @@ module _ (r : List ℕ) (n i e : ℕ) (h : i < n) (k : every (goodDomain r) (sta
   pub left-read : {v : TextRead} → textShown r v ≡ domainAt r e → v ≡ Bad → ⊥
   left-read f h = unread (text-bad r h f) (domain-read r e left-good)
 
-  pub left-next : {z : ℕ} → z ≡ e + sizeAt r e → every (goodDomain r) (starts (n - (i + 1)) z r) ≡ true
+  pub left-next : {z : ℕ} → z ≡ e + sizeAt r e → every (goodDomainName r) (starts (n - (i + 1)) z r) ≡ true
   unfolding every
   left-next g =
-      ap (λ (x : ℕ). every (goodDomain r) (starts (n - (i + 1)) x r)) g
-      ∙ and-right (goodDomain r e) _ (ap (every (goodDomain r)) (sym (starts-cons (λ x. true) r n i e h)) ∙ k)
+      ap (λ (x : ℕ). every (goodDomainName r) (starts (n - (i + 1)) x r)) g
+      ∙ and-right (goodDomainName r e) _ (ap (every (goodDomainName r)) (sym (starts-cons (λ x. true) r n i e h)) ∙ k)

@@ -8,7 +8,7 @@ use Rattle.laws.specs.Choice.{choose}
 use Rattle.laws.specs.Lists.{every}
 use Rattle.unc.specs.names.Names.{folded, sameUnit, sameName, plain, nothingOrDots, goodComponent}
 use Rattle.unc.specs.names.Paths.{before, pieces, components, componentCount, leads, withoutTrail, body, goodPath, normalised, begins, matches}
-use Rattle.reply_bytes.specs.texts.Bytes.{u16At, u32At, flag, longer, text, textAt}
+use Rattle.reply_bytes.specs.texts.Bytes.{u16At, u32At, flag, longer, text, textFrom}
 use Rattle.reply_read.specs.referral.Request.{bytesOf, request}
 use Rattle.reply_read.specs.referral.Replies.{referralCount, headerFlag, versionAt, sizeAt, serverTypeAt, entryFlag, textOf, starts, entries, fits, pathOf, isRead, sameRead, matchesRead, withFirst, allRead, readable, fixedLength, ttlAt, prefixAt, targetAt, goodFields, goodEntry, targetRead, laterTarget, keptTargets, referralSaid, referralWith, referralIn, malformed, says, readOr, readAs, readReferral}
 
@@ -51,10 +51,10 @@ pub reply-read : readReferral 8192 files reply ≡ says (record {
   prefix = files;
   targets = record { path = nas; opens = false } ∷ [];
 })
-unfolding reply bytesOf choose every folded sameUnit sameName plain nothingOrDots goodComponent before pieces components componentCount leads withoutTrail body goodPath normalised begins matches u16At u32At flag longer text textAt referralCount headerFlag versionAt sizeAt serverTypeAt entryFlag textOf starts entries fits pathOf isRead sameRead matchesRead withFirst allRead readable fixedLength ttlAt prefixAt targetAt goodFields goodEntry targetRead laterTarget keptTargets referralSaid referralWith referralIn readOr readAs readReferral
+unfolding reply bytesOf choose every folded sameUnit sameName plain nothingOrDots goodComponent before pieces components componentCount leads withoutTrail body goodPath normalised begins matches u16At u32At flag longer text textFrom referralCount headerFlag versionAt sizeAt serverTypeAt entryFlag textOf starts entries fits pathOf isRead sameRead matchesRead withFirst allRead readable fixedLength ttlAt prefixAt targetAt goodFields goodEntry targetRead laterTarget keptTargets referralSaid referralWith referralIn readOr readAs readReferral
 reply-read = refl
 
 -- "79 are malformed"
 pub reply-cut : readReferral 8192 files (take 79 reply) ≡ malformed
-unfolding reply bytesOf choose every folded sameUnit sameName plain nothingOrDots goodComponent before pieces components componentCount leads withoutTrail body goodPath normalised begins matches u16At u32At flag longer text textAt referralCount headerFlag versionAt sizeAt serverTypeAt entryFlag textOf starts entries fits pathOf isRead sameRead matchesRead withFirst allRead readable fixedLength ttlAt prefixAt targetAt goodFields goodEntry targetRead laterTarget keptTargets referralSaid referralWith referralIn readOr readAs readReferral
+unfolding reply bytesOf choose every folded sameUnit sameName plain nothingOrDots goodComponent before pieces components componentCount leads withoutTrail body goodPath normalised begins matches u16At u32At flag longer text textFrom referralCount headerFlag versionAt sizeAt serverTypeAt entryFlag textOf starts entries fits pathOf isRead sameRead matchesRead withFirst allRead readable fixedLength ttlAt prefixAt targetAt goodFields goodEntry targetRead laterTarget keptTargets referralSaid referralWith referralIn readOr readAs readReferral
 reply-cut = refl

@@ -17,7 +17,7 @@ use Rattle.laws.proofs.Every.{every-take}
 use Rattle.unc.specs.names.Names.{goodComponent}
 use Rattle.unc.specs.names.Paths.{leads, pieces, body, goodPath, normalised, isNormalised, normalisedCount, componentCount, matches, Target}
 use Rattle.reply_bytes.specs.texts.Bytes.{Text, terminated, unterminated}
-use Rattle.reply_read.specs.referral.Replies.{referralCount, starts, entries, pathOf, isRead, sameRead, matchesRead, prefixAt, targetAt, goodFields, goodEntry, Referral, referralSaid, referralIn, malformed, nothing, says, readOr, readAs, readReferral}
+use Rattle.reply_read.specs.referral.Replies.{referralCount, starts, entries, pathOf, isRead, sameRead, matchesRead, prefixAt, targetAt, goodFields, goodEntry, ReferralReply, referralSaid, referralIn, malformed, nothing, says, readOr, readAs, readReferral}
 use Rattle.reply_read.specs.referral.Code.{unitsRead, opensAt, keptHere, keptFrom, replyOf, denoted, referralShown}
 use Rattle.reply_read.specs.declared.referral.ReferralFound.{ReferralFound}
 use Rattle.reply_read.specs.declared.referral.Answer.{Answer}
@@ -130,7 +130,7 @@ first-kept r (e ∷ es) t ts h = let q : record { path = unitsRead (targetAt r e
 
 -- What a reply says: a prefix that matches the name asked and 1 to 8 targets, all of them normalised paths of 2 components or more and at
 -- most 256 units; no boundary is held for the first.
-pub record Sound (asked : List ℕ) (x : Referral) : Type 0 where
+pub record Sound (asked : List ℕ) (x : ReferralReply) : Type 0 where
   pub some : 1 ≤ length (x .targets)
   pub most : length (x .targets) ≤ 8
   pub targets-normal : every goodTarget (x .targets) ≡ true
@@ -150,7 +150,7 @@ unfolding matchesRead unitsRead
 read-matches none asked h = absurd (true≢false (sym h))
 read-matches (some p) asked h = h
 
-pub says-sound : (size : ℕ) (asked r : List ℕ) (x : Referral) → readReferral size asked r ≡ says x → Sound asked x
+pub says-sound : (size : ℕ) (asked r : List ℕ) (x : ReferralReply) → readReferral size asked r ≡ says x → Sound asked x
 unfolding readReferral referralSaid prefixAt
 says-sound size asked r x h = subst (Sound asked) is sound
   where

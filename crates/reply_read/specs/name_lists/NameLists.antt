@@ -8,7 +8,7 @@ use lib.Dec.{eqb}
 use Rattle.laws.specs.Choice.{choose}
 use Rattle.laws.specs.Lists.{every}
 use Rattle.unc.specs.names.Names.{goodName, backslash}
-use Rattle.reply_bytes.specs.texts.Bytes.{u16At, Text, terminated, unterminated, textAt}
+use Rattle.reply_bytes.specs.texts.Bytes.{u16At, Text, terminated, unterminated, textFrom}
 use Rattle.reply_read.specs.referral.Replies.{versionAt, entryFlag, textOf, entries, fits, isRead, allRead, readable, Reply, readAs}
 
 -- A DC's name, "with or without a leading backslash", which is not kept; none of any other text.
@@ -20,9 +20,9 @@ dcOf unterminated = none
 dcOf (terminated s) = choose (goodName (bare s)) (some (bare s)) none
 
 -- A domain's name, written "\domain"; none of any other text.
-unfoldable pub domainOf : Text → Option (List ℕ)
-domainOf unterminated = none
-domainOf (terminated s) = choose (eqb (getD s 0 0) backslash && goodName (drop 1 s)) (some (drop 1 s)) none
+unfoldable pub domainSaid : Text → Option (List ℕ)
+domainSaid unterminated = none
+domainSaid (terminated s) = choose (eqb (getD s 0 0) backslash && goodName (drop 1 s)) (some (drop 1 s)) none
 
 -- A DC reply: the first entry only; "its NumberOfExpandedNames DC names one after another, 1 or more".
 unfoldable pub bytesPast : Text → ℕ
@@ -31,7 +31,7 @@ bytesPast (terminated s) = 2 * (length s + 1)
 
 unfoldable pub textsAt : ℕ → ℕ → List ℕ → List Text
 textsAt zero i r = []
-textsAt (suc n) i r = textAt r i ∷ textsAt n (i + bytesPast (textAt r i)) r
+textsAt (suc n) i r = textFrom r i ∷ textsAt n (i + bytesPast (textFrom r i)) r
 
 unfoldable pub dcNames : List ℕ → List (Option (List ℕ))
 dcNames r = map dcOf (textsAt (u16At r 22) (8 + u16At r 24) r)
@@ -47,10 +47,10 @@ readDcs size r = readAs size r (goodDcs r) (allRead (take 8 (dcNames r)))
 
 -- A domain reply: version 3, NameListReferral set, names "\domain". All names, in reply order.
 unfoldable pub domainAt : List ℕ → ℕ → Option (List ℕ)
-domainAt r e = domainOf (textOf 12 r e)
+domainAt r e = domainSaid (textOf 12 r e)
 
-unfoldable pub goodDomain : List ℕ → ℕ → Bool
-goodDomain r e = eqb (versionAt r e) 3 && (fits 18 r e && (entryFlag 2 r e && isRead (domainAt r e)))
+unfoldable pub goodDomainName : List ℕ → ℕ → Bool
+goodDomainName r e = eqb (versionAt r e) 3 && (fits 18 r e && (entryFlag 2 r e && isRead (domainAt r e)))
 
 unfoldable pub readDomains : ℕ → List ℕ → Reply (List (List ℕ))
-readDomains size r = readAs size r (every (goodDomain r) (entries r)) (allRead (map (domainAt r) (entries r)))
+readDomains size r = readAs size r (every (goodDomainName r) (entries r)) (allRead (map (domainAt r) (entries r)))

@@ -12,7 +12,7 @@ use Rattle.reply_bytes.specs.texts.Code.{spanned, Inside}
 use Rattle.reply_bytes.specs.declared.texts.Span.{Span}
 use Rattle.reply_read.specs.referral.Request.{request}
 use Rattle.unc.specs.names.Paths.{Target}
-use Rattle.reply_read.specs.referral.Replies.{versionAt, serverTypeAt, entryFlag, goodEntry, entries, prefixAt, targetAt, Referral, Reply, malformed, nothing, says}
+use Rattle.reply_read.specs.referral.Replies.{versionAt, serverTypeAt, entryFlag, goodEntry, entries, prefixAt, targetAt, ReferralReply, Reply, malformed, nothing, says}
 use Rattle.reply_read.specs.declared.referral.Kept.{Kept}
 use Rattle.reply_read.specs.declared.referral.TextRead.{TextRead}
 use Rattle.reply_read.specs.declared.referral.TextRead.the-variants.{Good, Bad}
@@ -104,7 +104,7 @@ replyOf Malformed a = malformed
 replyOf Nothing a = nothing
 replyOf Says a = says a
 
-unfoldable pub referralShown : List ℕ → ReferralFound → Referral
+unfoldable pub referralShown : List ℕ → ReferralFound → ReferralReply
 referralShown r f = record {
   version = f .version;
   root = f .root;
@@ -118,7 +118,7 @@ referralShown r f = record {
 }
 
 -- what a reader's answer says, given the reply
-unfoldable pub denoted : List ℕ → ReferralFound → Reply Referral
+unfoldable pub denoted : List ℕ → ReferralFound → Reply ReferralReply
 denoted r f = replyOf (f .answer) (referralShown r f)
 
 -- a request written into a buffer of n bytes, or told to be longer

@@ -9,7 +9,7 @@ use Rattle.laws.specs.Choice.{choose}
 use Rattle.laws.specs.Lists.{every}
 use Rattle.unc.specs.names.Names.{sameName}
 use Rattle.unc.specs.names.Paths.{goodPath, normalised, componentCount, matches, pathUnits, Target}
-use Rattle.reply_bytes.specs.texts.Bytes.{u16At, u32At, flag, Text, terminated, unterminated, textAt}
+use Rattle.reply_bytes.specs.texts.Bytes.{u16At, u32At, flag, Text, terminated, unterminated, textFrom}
 
 -- The header: NumberOfReferrals, ReferralServers, StorageServers, TargetFailback. PathConsumed is not used.
 unfoldable pub referralCount : List ℕ → ℕ
@@ -33,7 +33,7 @@ entryFlag m r e = flag m (u16At r (e + 6))
 
 -- the text whose offset, counted from the start of the entry, stands in the field f bytes into it
 unfoldable pub textOf : ℕ → List ℕ → ℕ → Text
-textOf f r e = textAt r (e + u16At r (e + f))
+textOf f r e = textFrom r (e + u16At r (e + f))
 
 -- Where n entries start, the first at e: "the next entry starts Size bytes on".
 unfoldable pub starts : ℕ → ℕ → List ℕ → List ℕ
@@ -109,7 +109,7 @@ unfoldable pub goodEntry : List ℕ → ℕ → Bool
 goodEntry r e = goodFields r e && (sameRead (prefixAt r e) (prefixAt r 8) && isRead (targetAt r e))
 
 -- What a reply to a root, link or SYSVOL request says. `count` is its number of entries, `targets` the first 8.
-pub record Referral : Type 0 where
+pub record ReferralReply : Type 0 where
   pub version : ℕ
   pub root : Bool
   pub referralServers : Bool
@@ -135,7 +135,7 @@ keptTargets r [] = []
 keptTargets r (e ∷ es) = targetRead (targetAt r e) false ∷ map (laterTarget r) es
 
 -- what a reply says, with its prefix and its first 8 targets
-unfoldable pub referralSaid : List ℕ → List ℕ → List Target → Referral
+unfoldable pub referralSaid : List ℕ → List ℕ → List Target → ReferralReply
 referralSaid r prefix targets = record {
   version = versionAt r 8;
   root = eqb (serverTypeAt r 8) 1;
@@ -149,12 +149,12 @@ referralSaid r prefix targets = record {
 }
 
 -- the same, where these are read
-unfoldable pub referralWith : List ℕ → Option (List ℕ) → Option (List Target) → Option Referral
+unfoldable pub referralWith : List ℕ → Option (List ℕ) → Option (List Target) → Option ReferralReply
 referralWith r none targets = none
 referralWith r (some prefix) none = none
 referralWith r (some prefix) (some targets) = some (referralSaid r prefix targets)
 
-unfoldable pub referralIn : List ℕ → Option Referral
+unfoldable pub referralIn : List ℕ → Option ReferralReply
 referralIn r = referralWith r (prefixAt r 8) (allRead (keptTargets r (take 8 (entries r))))
 
 -- What a reply is read as: malformed, without an entry, or what it says.
@@ -174,6 +174,6 @@ readAs size r good a =
     choose (leb 8 (length r) && leb (length r) size) (choose (eqb (referralCount r) 0) nothing (choose good (readOr a) malformed)) malformed
 
 -- a reply to a root, link or SYSVOL request for the name asked
-unfoldable pub readReferral : ℕ → List ℕ → List ℕ → Reply Referral
+unfoldable pub readReferral : ℕ → List ℕ → List ℕ → Reply ReferralReply
 readReferral size asked r =
     readAs size r (every (goodEntry r) (entries r) && matchesRead (prefixAt r 8) asked) (referralIn r)

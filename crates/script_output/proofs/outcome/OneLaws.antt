@@ -112,7 +112,7 @@ name-few : (w : Core) (q : Question) → length (w .path) ≤ 256 → length (q 
 unfolding nameAsked
 name-few w q p t = go (q .kind)
   where
-    go : (k : Kind) → length (nameAsked w (record { kind = k; entry = q .entry; party = q .party; began = q .began; size = q .size; tried = q .tried; covered = q .covered })) ≤ 256
+    go : (k : Kind) → length (nameAsked w (record { kind = k; entry = q .entry; party = q .party; began = q .began; size = q .size; tried = q .tried; uncovered = q .uncovered })) ≤ 256
     go Dc = first-few 1 (w .path) p
     go Root = first-few 2 (w .path) p
     go Link = p

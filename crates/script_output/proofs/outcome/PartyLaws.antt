@@ -92,7 +92,7 @@ module _ (c : Caches) (refs : goodCache referrals (c .referrals) ≡ true) (doms
           (f (round n (ap (λ (b : Bool). b || (ltb (q .party) n && ltb (q .began) n)) (sym t) ∙ u)))
 
   kindTo : asked.Kind → Question
-  kindTo k = record { kind = k; entry = q .entry; party = q .party; began = q .began; size = q .size; tried = q .tried; covered = q .covered }
+  kindTo k = record { kind = k; entry = q .entry; party = q .party; began = q .began; size = q .size; tried = q .tried; uncovered = q .uncovered }
 
   party-there : inUse c w q ≡ true → Texted (partyOf c w boot q)
   unfolding inUse partyCount partyOf kindTo referralInUse

@@ -10,7 +10,7 @@ use Rattle.reply_read.specs.referral.Replies.{referralCount, sizeAt, starts, en
 use Rattle.reply_read.specs.referral.Code.{textShown}
 use Rattle.reply_read.specs.declared.referral.TextRead.{TextRead}
 use Rattle.reply_read.specs.declared.referral.TextRead.the-variants.{Bad}
-use Rattle.reply_read.specs.name_lists.NameLists.{domainAt, goodDomain}
+use Rattle.reply_read.specs.name_lists.NameLists.{domainAt, goodDomainName}
 use Rattle.reply_read.specs.declared.referral.Answer.{Answer}
 use Rattle.reply_read.specs.declared.referral.Answer.the-variants.{Malformed, Nothing, Says}
 use Rattle.reply_read.proofs.referral.TextLaws.{text-bad}
@@ -45,7 +45,7 @@ four-past b k h p q r s = omega arith
 pub domain-there : (r : List ℕ) (i : ℕ) → GoodDomains r i → (e : ℕ) → e ≡ getD (entries r) i 0 → {v : TextRead} → textShown r v ≡ domainAt r e → v ≡ Bad → ⊥
 domain-there r i g e p f h =
     unread (text-bad r h f)
-    (domain-read r e (ap (goodDomain r) p ∙ every-at (goodDomain r) (entries r) (g .good) i 0 (omega (arith, g .there, length-entries r))))
+    (domain-read r e (ap (goodDomainName r) p ∙ every-at (goodDomainName r) (entries r) (g .good) i 0 (omega (arith, g .there, length-entries r))))
 
 -- A reply that says something, by its number.
 pub says-two : (a : Answer) → answerNumber a ≡ 2 → Says ≡ a

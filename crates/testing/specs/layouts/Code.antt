@@ -15,7 +15,7 @@ use Rattle.reply_read.specs.declared.referral.Kept.{Kept}
 use Rattle.reply_read.specs.declared.referral.ReferralFound.{ReferralFound}
 use Rattle.reply_read.specs.declared.referral.Answer.{Answer}
 use Rattle.reply_read.specs.declared.referral.Answer.the-variants.{Malformed, Nothing, Says}
-use Rattle.reply_read.specs.name_lists.NameLists.{domainAt, goodDomain, readDcs}
+use Rattle.reply_read.specs.name_lists.NameLists.{domainAt, goodDomainName, readDcs}
 use Rattle.reply_read.specs.name_lists.Code.{denotedDcs}
 use Rattle.reply_read.specs.declared.name_lists.DcsFound.{DcsFound}
 
@@ -72,7 +72,7 @@ pub record DcsNumber (size : ℕ) (r : List ℕ) (k v : ℕ) : Type 0 where
 pub record GoodDomains (r : List ℕ) (i : ℕ) : Type 0 where
   pub header : 8 ≤ length r
   pub short : length r < 4294967296
-  pub good : every (goodDomain r) (entries r) ≡ true
+  pub good : every (goodDomainName r) (entries r) ≡ true
   pub there : i < referralCount r
 
 -- number k of its domain i

@@ -147,7 +147,7 @@ rows-say (r ∷ rs) h m =
 
 -- every row passes
 all-hold : every holds rows ≡ true
-unfolding holds sameBool sameTold sameTexts sameHeard told toldNext memory begin overflows dated heard rows afterAnswer run choose every part roomed pasted listed sameList flatten folded sameUnit sameName plain nothingOrDots goodComponent goodName before pieces joined components componentCount firstOf leads withoutTrail body goodPath normalised isNormalised normalisedCount begins matches isSysvol replaced placeAt wideAt flagAt flagUnit roomAt textAt blank headOf roomsOf written goodPrefix goodTarget firstOpensNone goodReferral goodDCHint goodDomain distinct targetOf referralOf settingsUnits referralUnits domainOf domainUnits placeOf pieceOf decode encode goodPlace keys goodCache inOrder longerMatch prefixUnits longestFrom longestMatch hasKey withKeyFrom withKey age expired targetPath bytes.u16At bytes.u32At bytes.flag bytes.longer bytes.text bytes.textAt bytesOf request bufferWith replies.referralCount replies.headerFlag replies.versionAt replies.sizeAt replies.serverTypeAt replies.entryFlag replies.textOf replies.starts replies.entries replies.fits replies.pathOf replies.isRead replies.sameRead replies.matchesRead replies.withFirst replies.allRead replies.readable replies.fixedLength replies.ttlAt replies.prefixAt replies.targetAt replies.goodFields replies.goodEntry replies.targetRead replies.laterTarget replies.keptTargets replies.referralSaid replies.referralWith replies.referralIn replies.readOr replies.readAs replies.readReferral heldAt held prefixed steps.endNumber steps.longest steps.domainNamed steps.severity steps.step11 steps.step4 steps.step7 steps.step6Host steps.step5With steps.step5 steps.step2With steps.step2 steps.isThere steps.hitAt steps.withHit steps.withPath steps.fromStep2 steps.started steps.nameAsked steps.domainInUse steps.referralInUse steps.dcCount steps.targetCount steps.partyCount steps.inUse steps.doubled steps.failedHost steps.failed steps.referralFails steps.referralAnswered steps.rests steps.asking steps.goes steps.turned cachesOf askingOf nextOf triedOf questionOf requestName nameFits restFits withRequest outAfter textsOf goodSize lent pathIn triedIn bootIn goodLimit goodSettings namesDomain namesPrefix noParty oneParty askedInForm hasTried endTried goodTried endStatus nextInForm inForm walkOf textsAfter closes coreIn refusalNumber startRest startCall restAt restIn referralEvent answers answerCall referralCall settingsAt
+unfolding holds sameBool sameTold sameTexts sameHeard told toldNext memory begin overflows dated heard rows afterAnswer run choose every part roomed pasted listed sameList flatten folded sameUnit sameName plain nothingOrDots goodComponent goodName before pieces joined components componentCount firstOf leads withoutTrail body goodPath normalised isNormalised normalisedCount begins matches isSysvol replaced placeAt wideAt flagAt flagUnit roomAt textAt blank headOf roomsOf written goodPrefix goodTarget firstOpensNone goodReferral goodDCHint goodDomain distinct targetOf referralOf settingsUnits referralUnits domainOf domainUnits placeOf pieceOf decode encode goodPlace keys goodCache inOrder longerMatch prefixUnits longestFrom longestMatch hasKey withKeyFrom withKey age expired targetPath bytes.u16At bytes.u32At bytes.flag bytes.longer bytes.text bytes.textFrom bytesOf request bufferWith replies.referralCount replies.headerFlag replies.versionAt replies.sizeAt replies.serverTypeAt replies.entryFlag replies.textOf replies.starts replies.entries replies.fits replies.pathOf replies.isRead replies.sameRead replies.matchesRead replies.withFirst replies.allRead replies.readable replies.fixedLength replies.ttlAt replies.prefixAt replies.targetAt replies.goodFields replies.goodEntry replies.targetRead replies.laterTarget replies.keptTargets replies.referralSaid replies.referralWith replies.referralIn replies.readOr replies.readAs replies.readReferral heldAt held prefixed steps.endNumber steps.longest steps.domainNamed steps.severity steps.step11 steps.step4 steps.step7 steps.step6Host steps.step5With steps.step5 steps.step2With steps.step2 steps.isThere steps.hitAt steps.withHit steps.withPath steps.fromStep2 steps.started steps.nameAsked steps.domainInUse steps.referralInUse steps.dcCount steps.targetCount steps.partyCount steps.inUse steps.doubled steps.failedHost steps.failed steps.referralFails steps.referralAnswered steps.rests steps.asking steps.goes steps.turned cachesOf askingOf nextOf triedOf questionOf requestName nameFits restFits withRequest outAfter textsOf goodSize lent pathIn triedIn bootIn goodLimit goodSettings namesDomain namesPrefix noParty oneParty askedInForm hasTried endTried goodTried endStatus nextInForm inForm walkOf textsAfter closes coreIn refusalNumber startRest startCall restAt restIn referralEvent answers answerCall referralCall settingsAt
 all-hold = refl
 
 all-beside : AllBeside rows

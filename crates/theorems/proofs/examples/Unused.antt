@@ -8,8 +8,8 @@ use native.Mathlib.Numerals.{add-one}
 use native.Mathlib.Omega.{arith}
 use lib.ListN.{take}
 use Rattle.laws.specs.Lists.{every}
-use Rattle.reply_bytes.specs.texts.Bytes.{u16At, u32At, Text, textAt}
-use Rattle.reply_read.specs.name_lists.NameLists.{domainOf, bytesPast, textsAt, dcNames, goodDcs, readDcs, domainAt, goodDomain, readDomains}
+use Rattle.reply_bytes.specs.texts.Bytes.{u16At, u32At, Text, textFrom}
+use Rattle.reply_read.specs.name_lists.NameLists.{domainSaid, bytesPast, textsAt, dcNames, goodDcs, readDcs, domainAt, goodDomainName, readDomains}
 use Rattle.unc.specs.names.Paths.{Target}
 use Rattle.reply_read.specs.referral.Replies.{referralCount, headerFlag, versionAt, sizeAt, serverTypeAt, entryFlag, textOf, starts, entries, fits, pathOf, fixedLength, ttlAt, prefixAt, targetAt, goodFields, goodEntry, allRead, targetRead, laterTarget, keptTargets, referralSaid, referralWith, referralIn, readAs, readReferral}
 
@@ -26,15 +26,15 @@ module _ (a b c d : ℕ) (s : List ℕ) where
   units (suc zero) h = absurd (omega arith)
   units (suc (suc k)) h = rw add-one
 
-  texts : (e : ℕ) → 2 ≤ e → textAt one e ≡ textAt two e
-  unfolding textAt
+  texts : (e : ℕ) → 2 ≤ e → textFrom one e ≡ textFrom two e
+  unfolding textFrom
   texts zero h = absurd (omega arith)
   texts (suc zero) h = absurd (omega arith)
   texts (suc (suc k)) h = refl
 
   texts-of : (f e : ℕ) → 2 ≤ e → textOf f one e ≡ textOf f two e
   unfolding textOf
-  texts-of f e h = texts (e + u16At one (e + f)) (omega arith) ∙ ap (λ (n : ℕ). textAt two (e + n)) (units (e + f) (omega arith))
+  texts-of f e h = texts (e + u16At one (e + f)) (omega arith) ∙ ap (λ (n : ℕ). textFrom two (e + n)) (units (e + f) (omega arith))
 
   prefixes : (e : ℕ) → 2 ≤ e → prefixAt one e ≡ prefixAt two e
   unfolding prefixAt
@@ -147,7 +147,7 @@ module _ (a b c d : ℕ) (s : List ℕ) where
   texts-from zero e h = refl
   texts-from (suc n) e h =
       ap (λ (x : Text). x ∷ textsAt n (e + bytesPast x) one) (texts e h)
-      ∙ ap (λ (x : List Text). textAt two e ∷ x) (texts-from n (e + bytesPast (textAt two e)) (omega arith))
+      ∙ ap (λ (x : List Text). textFrom two e ∷ x) (texts-from n (e + bytesPast (textFrom two e)) (omega arith))
 
   dcs : dcNames one ≡ dcNames two
   unfolding dcNames
@@ -165,13 +165,13 @@ module _ (a b c d : ℕ) (s : List ℕ) where
   -- a domain reply
   named : (e : ℕ) → 2 ≤ e → domainAt one e ≡ domainAt two e
   unfolding domainAt
-  named e h = ap domainOf (texts-of 12 e h)
+  named e h = ap domainSaid (texts-of 12 e h)
 
-  domain-good : (e : ℕ) → 2 ≤ e → goodDomain one e ≡ goodDomain two e
-  unfolding goodDomain
+  domain-good : (e : ℕ) → 2 ≤ e → goodDomainName one e ≡ goodDomainName two e
+  unfolding goodDomainName
   domain-good e h = rw (versions e h, fitting 18 e h, flags 2 e h, named e h)
 
-  all-domains : (n e : ℕ) → 2 ≤ e → every (goodDomain one) (starts n e two) ≡ every (goodDomain two) (starts n e two)
+  all-domains : (n e : ℕ) → 2 ≤ e → every (goodDomainName one) (starts n e two) ≡ every (goodDomainName two) (starts n e two)
   unfolding starts every
   all-domains zero e h = refl
   all-domains (suc n) e h = λ i. domain-good e h i && all-domains n (e + sizeAt two e) (omega arith) i
@@ -181,9 +181,9 @@ module _ (a b c d : ℕ) (s : List ℕ) where
   all-named zero e h = refl
   all-named (suc n) e h = λ i. named e h i ∷ all-named n (e + sizeAt two e) (omega arith) i
 
-  domains-good : every (goodDomain one) (entries one) ≡ every (goodDomain two) (entries two)
+  domains-good : every (goodDomainName one) (entries one) ≡ every (goodDomainName two) (entries two)
   unfolding entries
-  domains-good = ap (every (goodDomain one)) all-entries ∙ all-domains (referralCount two) 8 first
+  domains-good = ap (every (goodDomainName one)) all-entries ∙ all-domains (referralCount two) 8 first
 
   domains-named : map (domainAt one) (entries one) ≡ map (domainAt two) (entries two)
   unfolding entries

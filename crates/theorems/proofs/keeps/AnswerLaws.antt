@@ -28,7 +28,8 @@ use Rattle.reply_read.specs.name_lists.NameLists.{readDcs}
 use Rattle.reply_read.proofs.name_lists.SaysLaws.{says-dcs}
 use Rattle.cache_store.specs.entry_after_reply.Stored.{fresh, prefixed, isInterlink}
 use Rattle.walk_steps.specs.steps.Steps.{Caches, Core, Question, Called, ends, Turn, waits, withHit, withReferrals, nameAsked, inUse, referralInUse, nextPlace, onward, doubled, failedHost, failed, referralFails, hintSet, emptyEnd, dcsIn, dcAnswer, coversNothing, storedTurn, referralAnswer, referralSucceeds, referralAnswered, ioFails, ioWith, ioAnswered, severity, isOneOf, nextTargetStatuses, step6, step8, linkRequest}
-use Rattle.walk_steps.specs.steps.Steps.{bufferOverflow, pathNotFound, pathNotCovered, mostSize}
+use Rattle.reply_read.specs.referral.Request.{mostSize}
+use Rattle.walk_steps.specs.steps.Steps.{bufferOverflow, pathNotFound, pathNotCovered}
 use Rattle.walk_steps.specs.steps.Held.{askingOf, nextOf, triedOf}
 use Rattle.walk_steps.specs.declared.steps.Kind.{Kind}
 use Rattle.walk_steps.specs.declared.steps.Kind.the-variants.{Dc, Root, Link, Sysvol, Io}
@@ -46,7 +47,7 @@ use Rattle.theorems.proofs.keeps.HintLaws.{kindTo, hint-good, dcs-good}
 
 -- the same question with another size
 resized : (path : List ℕ) (a : Asking) (s : ℕ) (k : Kind) → hasTried k ≡ false → goodSize s ≡ true → askedInForm path a k ≡ true
-    → askedInForm path (record { kind = a .kind; entry = a .entry; party = a .party; began = a .began; size = s; covered = a .covered }) k ≡ true
+    → askedInForm path (record { kind = a .kind; entry = a .entry; party = a .party; began = a .began; size = s; uncovered = a .uncovered }) k ≡ true
 unfolding askedInForm namesDomain namesPrefix noParty oneParty hasTried
 resized path a s Dc n g h =
     let r = and-right (namesDomain path a) _ h in
@@ -119,10 +120,10 @@ module _ (c : Caches) (cs : GoodCaches c) (w : Core) (q : Question) (p : Proper 
   unfolding askedInForm
   names-io e = and-left _ _ (form-as Io e)
 
-  link-again : (entry place began : ℕ) (covered : Bool) → entry ≡ q .entry → namesPrefix (w .path) (askingOf q) ≡ true → Asked (w .path) (linkRequest w entry place began covered)
+  link-again : (entry place began : ℕ) (uncovered : Bool) → entry ≡ q .entry → namesPrefix (w .path) (askingOf q) ≡ true → Asked (w .path) (linkRequest w entry place began uncovered)
   unfolding namesPrefix askingOf linkRequest
-  link-again entry place began covered e h =
-      asked-link w (told-q .good) (p .size) entry place began covered (ap (λ (n : ℕ). namesPrefix (w .path) (record { kind = Link; entry = n; party = place; began = began; size = w .size; covered = covered })) e ∙ h)
+  link-again entry place began uncovered e h =
+      asked-link w (told-q .good) (p .size) entry place began uncovered (ap (λ (n : ℕ). namesPrefix (w .path) (record { kind = Link; entry = n; party = place; began = began; size = w .size; uncovered = uncovered })) e ∙ h)
 
   -- a referral that fails
   module _ (none-tried : hasTried (q .kind) ≡ false) (status : ℕ) where
@@ -147,8 +148,8 @@ module _ (c : Caches) (cs : GoodCaches c) (w : Core) (q : Question) (p : Proper 
             (chosen (Well (w .path)) (w .hit) _ _ (well-failed (w .path) status) (well-not-dfs (w .path)))
             (onward-well (w .path) _ _ (λ place. step6 w place (q .began)) (ends NoDc pathNotFound) (asked-root w (told-q .good) (p .size) _ (q .began)) (well-no-dc (w .path) pathNotFound))
         go Link e =
-            onward-well (w .path) _ _ (λ place. linkRequest w (q .entry) place (q .began) (q .covered)) (ends Failed status)
-            (link-again (q .entry) _ (q .began) (q .covered) refl (names-link e)) (well-failed (w .path) status)
+            onward-well (w .path) _ _ (λ place. linkRequest w (q .entry) place (q .began) (q .uncovered)) (ends Failed status)
+            (link-again (q .entry) _ (q .began) (q .uncovered) refl (names-link e)) (well-failed (w .path) status)
 
     pub well-referral-fails : Well (w .path) (referralFails c w q status)
     unfolding referralFails
@@ -172,7 +173,7 @@ module _ (c : Caches) (cs : GoodCaches c) (w : Core) (q : Question) (p : Proper 
 
   -- a reply that is stored
   module _ (none-tried : hasTried (q .kind) ≡ false) (there : inUse c w q ≡ true) (clock : ℕ) where
-    stored-turn : (r : replies.Referral) → Sound (nameAsked w q) r → GoodTurn (storedTurn (hintSet c w q) w q r clock)
+    stored-turn : (r : replies.ReferralReply) → Sound (nameAsked w q) r → GoodTurn (storedTurn (hintSet c w q) w q r clock)
     unfolding storedTurn withReferrals withHit
     stored-turn r s =
         let h : GoodCaches (hintSet c w q) = hint-good c w cs q there in
@@ -190,7 +191,7 @@ module _ (c : Caches) (cs : GoodCaches c) (w : Core) (q : Question) (p : Proper 
     unfolding referralAnswer
     referral-turn reply = go (readReferral (q .size) (nameAsked w q) reply) refl
       where
-        go : (x : replies.Reply replies.Referral) → readReferral (q .size) (nameAsked w q) reply ≡ x → GoodTurn (referralAnswer c w q clock x)
+        go : (x : replies.Reply replies.ReferralReply) → readReferral (q .size) (nameAsked w q) reply ≡ x → GoodTurn (referralAnswer c w q clock x)
         go malformed e = stay (well-malformed (w .path))
         go nothing e = stay (well-empty (w .path) (q .kind))
         go (says r) e =

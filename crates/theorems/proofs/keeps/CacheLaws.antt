@@ -139,7 +139,7 @@ unfolding firstOpensNone
 first-shuts [] h = refl
 first-shuts (t ∷ ts) h = ap not (h t ts refl)
 
-pub reply-good : (asked : List ℕ) (r : replies.Referral) → said.Sound asked r → (interlink : Bool) (clock : ℕ) → goodReferral (fresh r interlink clock) ≡ true
+pub reply-good : (asked : List ℕ) (r : replies.ReferralReply) → said.Sound asked r → (interlink : Bool) (clock : ℕ) → goodReferral (fresh r interlink clock) ≡ true
 unfolding fresh goodPrefix
 reply-good asked r s interlink clock =
     good-referral (fresh r interlink clock) (record {
@@ -152,7 +152,7 @@ reply-good asked r s interlink clock =
     })
 
 -- the entry that a store leaves, and the cache
-module _ (ps : List (Place Referral)) (good : goodCache referrals ps ≡ true) (r : replies.Referral) (interlink : Bool) (clock : ℕ) (fine : goodReferral (fresh r interlink clock) ≡ true) where
+module _ (ps : List (Place Referral)) (good : goodCache referrals ps ≡ true) (r : replies.ReferralReply) (interlink : Bool) (clock : ℕ) (fine : goodReferral (fresh r interlink clock) ≡ true) where
   fine-plain : goodReferral (fresh r false 0) ≡ true
   fine-plain = fresh-good r interlink false clock 0 fine
 

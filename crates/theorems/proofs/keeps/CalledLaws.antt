@@ -112,10 +112,10 @@ module _ (w : Core) (good : goodPrefix (w .path) ≡ true) (size : goodSize (w .
   asked-sysvol d =
       record { form = and-both (eqb-refl (length (firstOf 1 (w .path)))) (and-both (eqb-refl (d .hint)) (and-both size refl)); tried = λ l. refl }
 
-  pub asked-link : (entry place began : ℕ) (covered : Bool) → namesPrefix (w .path) (askingOf (linkRequest w entry place began covered)) ≡ true
-      → Asked (w .path) (linkRequest w entry place began covered)
+  pub asked-link : (entry place began : ℕ) (uncovered : Bool) → namesPrefix (w .path) (askingOf (linkRequest w entry place began uncovered)) ≡ true
+      → Asked (w .path) (linkRequest w entry place began uncovered)
   unfolding linkRequest askingOf askedInForm hasTried goodTried
-  asked-link entry place began covered h = record { form = and-both h size; tried = λ l. refl }
+  asked-link entry place began uncovered h = record { form = and-both h size; tried = λ l. refl }
 
   pub asked-refresh : (e : Referral) → goodReferral e ≡ true → matches (e .prefix) (w .path) ≡ true
       → Asked (w .path) (linkRequest w (length (e .prefix)) (e .hint) (e .hint) false)

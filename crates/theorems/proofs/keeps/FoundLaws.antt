@@ -77,7 +77,7 @@ module _ (ps : List (Place Referral)) (good : goodCache referrals ps ≡ true) (
   under-path i e g m = held-is ps i e g (key-at referrals ps good i e g _ (found.matches-same (e .prefix) path m))
 
 -- the place that a store writes lies in the cache
-module _ (ps : List (Place Referral)) (good : goodCache referrals ps ≡ true) (r : replies.Referral) (interlink : Bool) (clock : ℕ)
+module _ (ps : List (Place Referral)) (good : goodCache referrals ps ≡ true) (r : replies.ReferralReply) (interlink : Bool) (clock : ℕ)
     (fine : goodReferral (fresh r interlink clock) ≡ true) where
   store-inside : storePlace clock (r .prefix) ps < length ps
   store-inside = go (prefixed-or ps good (r .prefix))

@@ -28,7 +28,7 @@ use Rattle.theorems.proofs.keeps.CacheLaws.{held-is, hint-kept, dc-hint
 
 -- a question of another kind
 abbrev pub kindTo : Kind → Question → Question
-kindTo k q = record { kind = k; entry = q .entry; party = q .party; began = q .began; size = q .size; tried = q .tried; covered = q .covered }
+kindTo k q = record { kind = k; entry = q .entry; party = q .party; began = q .began; size = q .size; tried = q .tried; uncovered = q .uncovered }
 
 -- where the entry in use is, and what is then set
 module _ (c : Caches) (w : Core) where

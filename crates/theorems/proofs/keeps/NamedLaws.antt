@@ -149,13 +149,13 @@ module _ (c : Caches) (w : Core) (q : Question) where
       go Io = target Io (withKey referrals (take (q .entry) (w .path)) (c .referrals)) refl
 
   -- a reply that is stored
-  module _ (f : ℕ → Bool) (reply : replies.Reply replies.Referral) (clock : ℕ)
+  module _ (f : ℕ → Bool) (reply : replies.Reply replies.ReferralReply) (clock : ℕ)
       (uses : (i : ℕ) → f i ≡ false → usesPrefix c w q i ≡ false) (put : (i : ℕ) → f i ≡ false → storesAt c clock reply i ≡ false) where
     reply-elsewhere : Elsewhere f (usesDomain c w q) c (referralAnswer c w q clock reply .caches)
     unfolding referralAnswer storedTurn withReferrals stored storesAt
     reply-elsewhere = go reply put
       where
-        go : (x : replies.Reply replies.Referral) → ((i : ℕ) → f i ≡ false → storesAt c clock x i ≡ false) → Elsewhere f (usesDomain c w q) c (referralAnswer c w q clock x .caches)
+        go : (x : replies.Reply replies.ReferralReply) → ((i : ℕ) → f i ≡ false → storesAt c clock x i ≡ false) → Elsewhere f (usesDomain c w q) c (referralAnswer c w q clock x .caches)
         go malformed u = same-elsewhere f (usesDomain c w q) c
         go nothing u = same-elsewhere f (usesDomain c w q) c
         go (says r) u =

@@ -22,7 +22,8 @@ use Rattle.reply_read.specs.name_lists.NameLists.{readDcs}
 use Rattle.reply_read.proofs.name_lists.SaysLaws.{says-dcs}
 use Rattle.cache_store.specs.entry_after_reply.Stored.{prefixed, stored, isInterlink}
 use Rattle.walk_steps.specs.steps.Steps.{Caches, Core, Question, Called, ends, Turn, Rest, waits, ended, started, fromStep2, turned, hitAt, withHit, withReferrals, nameAsked, inUse, referralInUse, domainInUse, dcCount, targetCount, partyCount, nextPlace, onward, doubled, failedHost, failed, referralFails, hintSet}
-use Rattle.walk_steps.specs.steps.Steps.{dcsIn, dcAnswer, coversNothing, storedTurn, referralAnswer, referralSucceeds, referralAnswered, ioFails, ioWith, ioAnswered, severity, isOneOf, nextTargetStatuses, step6, step8, linkRequest, bufferOverflow, pathNotFound, pathNotCovered, mostSize}
+use Rattle.reply_read.specs.referral.Request.{mostSize}
+use Rattle.walk_steps.specs.steps.Steps.{dcsIn, dcAnswer, coversNothing, storedTurn, referralAnswer, referralSucceeds, referralAnswered, ioFails, ioWith, ioAnswered, severity, isOneOf, nextTargetStatuses, step6, step8, linkRequest, bufferOverflow, pathNotFound, pathNotCovered}
 use Rattle.walk_steps.specs.steps.Held.{askingOf}
 use Rattle.walk_steps.specs.declared.steps.Kind.{Kind}
 use Rattle.walk_steps.specs.declared.steps.Kind.the-variants.{Dc, Root, Link, Sysvol, Io}
@@ -119,8 +120,8 @@ module _ (c : Caches) (w : Core) (q : Question) (there : inUse c w q ≡ true) w
       go Link e =
           let n : ℕ = targetCount (prefixed (take (q .entry) (w .path)) (c .referrals)) in
           let r : (ltb (q .party) n && ltb (q .began) n) ≡ true = targets-round (inl e) in
-          onward-uses n (λ place. linkRequest w (q .entry) place (q .began) (q .covered)) (ends Failed status)
-          (use-link c w (q .entry) _ (q .began) (q .covered) n refl (next-party (q .party) (q .began) n r) (began-inside (q .party) (q .began) n r)) (uses-stops c w _ _ _)
+          onward-uses n (λ place. linkRequest w (q .entry) place (q .began) (q .uncovered)) (ends Failed status)
+          (use-link c w (q .entry) _ (q .began) (q .uncovered) n refl (next-party (q .party) (q .began) n r) (began-inside (q .party) (q .began) n r)) (uses-stops c w _ _ _)
 
   fails-uses : (status : ℕ) → Uses c w (referralFails c w q status)
   unfolding referralFails
@@ -142,7 +143,7 @@ module _ (c : Caches) (cs : GoodCaches c) (w : Core) (q : Question) where
 
   module _ (none-tried : hasTried (q .kind) ≡ false) (there : inUse c w q ≡ true) (clock : ℕ) where
     -- a reply that is stored: the entry that it leaves is the one in use
-    stored-uses : (r : replies.Referral) → Sound (nameAsked w q) r → TurnUses (storedTurn (hintSet c w q) w q r clock)
+    stored-uses : (r : replies.ReferralReply) → Sound (nameAsked w q) r → TurnUses (storedTurn (hintSet c w q) w q r clock)
     unfolding storedTurn withReferrals withHit TurnUses
     stored-uses r s =
         let h : GoodCaches (hintSet c w q) = hint-good c w cs q there in
@@ -157,7 +158,7 @@ module _ (c : Caches) (cs : GoodCaches c) (w : Core) (q : Question) where
     unfolding referralAnswer
     reply-uses reply = go (readReferral (q .size) (nameAsked w q) reply) refl
       where
-        go : (x : replies.Reply replies.Referral) → readReferral (q .size) (nameAsked w q) reply ≡ x → TurnUses (referralAnswer c w q clock x)
+        go : (x : replies.Reply replies.ReferralReply) → readReferral (q .size) (nameAsked w q) reply ≡ x → TurnUses (referralAnswer c w q clock x)
         go malformed e = turn-uses c w _ (uses-stops c w _ _ _)
         go nothing e = turn-uses c w _ (uses-stops c w _ _ _)
         go (says r) e =

@@ -8,7 +8,7 @@ use Rattle.reply_read.specs.referral.Replies as replies
 use Rattle.cache_entry.specs.equivalent_targets.Equivalence.{equivalent}
 use Rattle.cache_store.specs.entry_after_reply.Stored.{targetsAfter, refreshed}
 
-module _ (e : Referral) (q : replies.Referral) (interlink : Bool) (clock : ℕ) where
+module _ (e : Referral) (q : replies.ReferralReply) (interlink : Bool) (clock : ℕ) where
   -- an equivalent list stays as it was: order, spelling, boundaries
   pub targets-stay : equivalent (q .version) (e .targets) (q .targets) ≡ true → refreshed e q interlink clock .targets ≡ e .targets
   unfolding refreshed targetsAfter

@@ -87,10 +87,10 @@ module _ (c : Caches) (w : Core) where
   unfolding inUse step6 partyCount
   use-root place began a b = or-right (eqb (length (firstOf 1 (w .path))) 0) (in-round (dcCount (domainInUse c w)) place began a b)
 
-  pub use-link : (entry place began : ℕ) (covered : Bool) (n : ℕ) → targetCount (prefixed (take entry (w .path)) (c .referrals)) ≡ n → place < n → began < n
-      → inUse c w (linkRequest w entry place began covered) ≡ true
+  pub use-link : (entry place began : ℕ) (uncovered : Bool) (n : ℕ) → targetCount (prefixed (take entry (w .path)) (c .referrals)) ≡ n → place < n → began < n
+      → inUse c w (linkRequest w entry place began uncovered) ≡ true
   unfolding inUse linkRequest partyCount referralInUse
-  use-link entry place began covered n e a b = ap (λ (m : ℕ). ltb place m && ltb began m) e ∙ in-round n place began a b
+  use-link entry place began uncovered n e a b = ap (λ (m : ℕ). ltb place m && ltb began m) e ∙ in-round n place began a b
 
   -- an I/O try at a target of an entry that is held under the path
   pub use-io : (e : Referral) (place began : ℕ) → prefixed (take (length (e .prefix)) (w .path)) (c .referrals) ≡ some e → place < length (e .targets)

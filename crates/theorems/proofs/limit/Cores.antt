@@ -41,7 +41,7 @@ module _ (c : Caches) (w : Core) where
     dc-same nothing = same
     dc-same (says names) = record { path = refl; size = refl }
 
-    reply-same : (q : Question) (r : replies.Reply replies.Referral) → Keeps (referralAnswer c w q clock r)
+    reply-same : (q : Question) (r : replies.Reply replies.ReferralReply) → Keeps (referralAnswer c w q clock r)
     unfolding referralAnswer storedTurn withHit
     reply-same q malformed = same
     reply-same q nothing = same

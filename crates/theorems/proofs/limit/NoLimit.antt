@@ -123,7 +123,7 @@ after-no Link w e = seven w e
 after-no Sysvol w e = a-question
 after-no Io w e = seven w e
 
-reply-no : (c : Caches) (w : Core) (q : Question) (clock : ℕ) (r : replies.Reply replies.Referral) → NoLimitIn (referralAnswer c w q clock r)
+reply-no : (c : Caches) (w : Core) (q : Question) (clock : ℕ) (r : replies.Reply replies.ReferralReply) → NoLimitIn (referralAnswer c w q clock r)
 unfolding referralAnswer storedTurn
 reply-no c w q clock malformed = is-malformed
 reply-no c w q clock nothing = empty-no (q .kind) _

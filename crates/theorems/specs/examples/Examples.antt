@@ -73,7 +73,7 @@ dated ttl taken = record {
 }
 
 -- a reply that was read, as its prefix and its targets; none where it is malformed
-unfoldable pub heard : replies.Reply replies.Referral → Option (List (List ℕ))
+unfoldable pub heard : replies.Reply replies.ReferralReply → Option (List (List ℕ))
 heard malformed = none
 heard nothing = some []
 heard (says r) = some (r .prefix ∷ map (λ t. t .path) (r .targets))

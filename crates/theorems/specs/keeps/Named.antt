@@ -46,7 +46,7 @@ usesDomain c w q i = by (q .kind)
     by Io = false
 
 -- the place that a reply is stored at: that of an equal prefix, else the lowest free one, else that of the greatest age
-unfoldable pub storesAt : Caches → ℕ → replies.Reply replies.Referral → ℕ → Bool
+unfoldable pub storesAt : Caches → ℕ → replies.Reply replies.ReferralReply → ℕ → Bool
 storesAt c clock malformed i = false
 storesAt c clock nothing i = false
 storesAt c clock (says r) i = eqb i (storePlace clock (r .prefix) (c .referrals))

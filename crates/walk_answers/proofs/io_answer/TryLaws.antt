@@ -33,7 +33,7 @@ use Rattle.cache_lookup.proofs.StoreLaws.{entry-good}
 use Rattle.cache_store.specs.entry_after_reply.Stored.{prefixed}
 use Rattle.walk_steps.specs.steps.Steps.{Caches, Core, Question, Called, stops, ends, asks, Turn, ended, rests, goes, turned, inUse, referralInUse, hintSet, targetHintSet, withReferrals, nextPlace, onward, step8, linkRequest, severity, isOneOf, nextTargetStatuses, pathNotCovered, ioFails, ioWith, ioAnswered}
 use Rattle.walk_steps.specs.steps.Held.{cachesOf, coreOf, nextOf, triedOf, questionOf}
-use Rattle.walk_steps.specs.steps.Code.{coreAt, restedOf, restAt, calledOf}
+use Rattle.walk_steps.specs.steps.Code.{coreAt, restedOf, restedAt, calledOf}
 use Rattle.walk_steps.specs.declared.steps.Kind.{Kind}
 use Rattle.walk_steps.specs.declared.steps.Kind.the-variants.{Link, Io}
 use Rattle.walk_steps.specs.declared.steps.End.the-variants.{Done, Failed, Gone}
@@ -43,7 +43,7 @@ use Rattle.walk_steps.specs.declared.steps.Asking.{Asking}
 use Rattle.walk_steps.specs.declared.steps.Progress.{Progress}
 use Rattle.walk_steps.specs.declared.steps.Rested.{Rested}
 use Rattle.walk_steps.proofs.steps.HeldLaws.{key-held, key-fits, used-is}
-use Rattle.walk_steps.specs.cycle.Code.{Packed, joined, packed, Usable}
+use Rattle.walk_steps.specs.cycle.Code.{Packed, restedWith, packed, Usable}
 use Rattle.walk_steps.proofs.cycle.MoveLaws.{matches-same, goes-stops}
 use Rattle.walk_steps.specs.question_request.Questions.{requestName, nameFits, restFits}
 use Rattle.walk_steps.specs.rounds.Code.{targetsUnder, inRound}
@@ -169,7 +169,7 @@ module _ (refs doms path : List ℕ) (size : ℕ) (hit : Bool) (q : Asking) (tri
     hinting : Kind → Caches
     hinting k =
         hintSet (cachesOf refs doms) (coreOf path size hit)
-        (record { kind = k; entry = q .entry; party = q .party; began = q .began; size = q .size; tried = tried; covered = q .covered })
+        (record { kind = k; entry = q .entry; party = q .party; began = q .began; size = q .size; tried = tried; uncovered = q .uncovered })
 
     hint-kinded : hintSet (cachesOf refs doms) (coreOf path size hit) (questionOf q tried) ≡ hinting Io
     unfolding questionOf hinting
@@ -234,7 +234,7 @@ module _ {refs doms rooms : List ℕ} {g : Progress} {q : Asking} {tried : ℕ} 
     place-is h = ap (λ (p : List ℕ). placeInUse p refs (q .party) (q .began)) (sym prefix-taken) ∙ (sym e ∙ h)
 
     -- the entry is gone
-    pub gone-left : (status : ℕ) → f ≡ Nothing → {o : List ℕ} {r : Rested} → o ≡ pasted rooms 256 (replicate 256 0) → r ≡ restAt (Ends Gone 0) (g .len) (g .left) (g .hit)
+    pub gone-left : (status : ℕ) → f ≡ Nothing → {o : List ℕ} {r : Rested} → o ≡ pasted rooms 256 (replicate 256 0) → r ≡ restedAt (Ends Gone 0) (g .len) (g .left) (g .hit)
         → leftBy r o refs doms ≡ leaves g refs doms (turn status)
     unfolding calledOf
     gone-left status h {o} d x =
@@ -300,7 +300,7 @@ module _ {refs doms rooms : List ℕ} {g : Progress} {q : Asking} {tried : ℕ} 
 
       -- the try failed
       pub fails-left : (status : ℕ) → status / 1073741824 ≡ 3 → {o p : List ℕ} {r : Rested} → o ≡ pasted rooms 256 (replicate 256 0)
-          → ((c : Caches) (tries : List ℕ) → joined r p ≡ packed (goes (g .left) c (g .clock) (coreAt g o) (ioFails (coreAt g o) (questionOf q tries) status (entryAt referrals i refs))))
+          → ((c : Caches) (tries : List ℕ) → restedWith r p ≡ packed (goes (g .left) c (g .clock) (coreAt g o) (ioFails (coreAt g o) (questionOf q tries) status (entryAt referrals i refs))))
           → leftBy r p refs doms ≡ leaves g refs doms (turn status)
       unfolding severity
       fails-left status x d y =
@@ -328,7 +328,7 @@ module _ (q : Asking) (g : Progress) (status : ℕ) (e : Referral) {b : Bool} (h
   covered-end x path tried = sym (choose-no _ (ends Failed status) (sym h ∙ not-true b x))
 
   pub covered-asks : not b ≡ false → (path tried : List ℕ)
-      → calledOf (Asks (record { kind = Link; entry = q .entry; party = q .party; began = q .party; size = g .size; covered = true }))
+      → calledOf (Asks (record { kind = Link; entry = q .entry; party = q .party; began = q .party; size = g .size; uncovered = true }))
       ≡ notCovered (coreOf path (g .size) (g .hit)) (questionOf q tried) status e
   unfolding notCovered calledOf linkRequest questionOf
   covered-asks x path tried = sym (choose-yes (asks (linkRequest (coreOf path (g .size) (g .hit)) (q .entry) (q .party) (q .party) true)) _ (sym h ∙ not-false b x))
@@ -385,8 +385,8 @@ module _ (q : Asking) (g : Progress) (status : ℕ) (e : Referral) where
 -- where the steps rest after a failed try
 module _ (rooms : List ℕ) (g : Progress) (q : Asking) (status : ℕ) (e : Referral) {f : Failure}
     (x : (path tried : List ℕ) → failureCalls (coreOf path (g .size) (g .hit)) e (q .began) f ≡ ioFails (coreOf path (g .size) (g .hit)) (questionOf q tried) status e) where
-  pub called-rests : Standing (g .len) rooms → (next : Next) → f ≡ Calls next → {r : Rested} → r ≡ restAt next (g .len) (g .left) (g .hit) → (c : Caches) (tried : List ℕ)
-      → joined r rooms ≡ packed (goes (g .left) c (g .clock) (coreAt g rooms) (ioFails (coreAt g rooms) (questionOf q tried) status e))
+  pub called-rests : Standing (g .len) rooms → (next : Next) → f ≡ Calls next → {r : Rested} → r ≡ restedAt next (g .len) (g .left) (g .hit) → (c : Caches) (tried : List ℕ)
+      → restedWith r rooms ≡ packed (goes (g .left) c (g .clock) (coreAt g rooms) (ioFails (coreAt g rooms) (questionOf q tried) status e))
   unfolding failureCalls
   called-rests s next h k c tried =
       rest-called rooms g s next c k

@@ -17,7 +17,7 @@ use Rattle.cache.proofs.order.KindLaws.{prefix-short}
 use Rattle.walk_steps.specs.walk_texts.Code.{Standing}
 use Rattle.walk_steps.specs.steps.Steps.{Caches, Core, Called, ends, Turn, Resting, goes, turned, withHit, referralFails, referralSucceeds, referralAnswered, severity, inUse}
 use Rattle.walk_steps.specs.steps.Held.{cachesOf, coreOf, askingOf, questionOf}
-use Rattle.walk_steps.specs.steps.Code.{coreAt, restAt, calledOf}
+use Rattle.walk_steps.specs.steps.Code.{coreAt, restedAt, calledOf}
 use Rattle.walk_steps.specs.declared.steps.Kind.{Kind as Kinds}
 use Rattle.walk_steps.specs.declared.steps.End.the-variants as end
 use Rattle.walk_steps.specs.declared.steps.Next.{Next}
@@ -26,23 +26,23 @@ use Rattle.walk_steps.specs.declared.steps.Asking.{Asking}
 use Rattle.walk_steps.specs.declared.steps.Progress.{Progress}
 use Rattle.walk_steps.specs.declared.steps.Rested.{Rested}
 use Rattle.walk_steps.proofs.steps.StepLaws.{asked-as}
-use Rattle.walk_steps.specs.cycle.Code.{Packed, joined, packed}
+use Rattle.walk_steps.specs.cycle.Code.{Packed, restedWith, packed}
 use Rattle.walk_steps.proofs.cycle.MoveLaws.{standing-path, packed-end, packed-asked, goes-asks, goes-stops}
 use Rattle.walk_steps.specs.question_request.Questions.{nameFits, restFits}
 use Rattle.walk_steps.specs.question_request.Code.{nextUnits, named}
 use Rattle.walk_steps.proofs.rounds.RoundLaws.{in-use-same}
 use Rattle.walk_store.specs.declared.reply_taken.Taken.{Taken}
 use Rattle.walk_store.specs.declared.reply_taken.Taken.the-variants as taken
-use Rattle.walk_store.specs.party_hint.Code.{Lent, lent, Using}
+use Rattle.walk_store.specs.party_hint.Code.{Lent, lentCaches, Using}
 use Rattle.walk_store.specs.reply_taken.Code.{takenTurn, putBack, CanPutBack, TakenIn}
 use Rattle.walk_store.specs.after_reply.Code.{GoingOn, leftBy, leaves}
 use Rattle.walk_store.proofs.after_reply.RestLaws.{kept-goes, rest-path, rest-tested, always-fits}
 use Rattle.walk_answers.specs.referral_answer.Code.{Awaiting, Succeeding}
 
 -- the rest at a next move is where the steps rest that call for it
-pub rest-called : (rooms : List ℕ) (g : Progress) → Standing (g .len) rooms → (next : Next) (c : Caches) {r : Rested} → r ≡ restAt next (g .len) (g .left) (g .hit)
-    → joined r rooms ≡ packed (goes (g .left) c (g .clock) (coreAt g rooms) (calledOf next))
-unfolding restAt calledOf askingOf questionOf
+pub rest-called : (rooms : List ℕ) (g : Progress) → Standing (g .len) rooms → (next : Next) (c : Caches) {r : Rested} → r ≡ restedAt next (g .len) (g .left) (g .hit)
+    → restedWith r rooms ≡ packed (goes (g .left) c (g .clock) (coreAt g rooms) (calledOf next))
+unfolding restedAt calledOf askingOf questionOf
 rest-called rooms g s (Asks q) c e =
     packed-asked (g .len) rooms s (g .left) (g .size) (g .hit) (questionOf q []) refl
     (asked-as (g .left) (coreAt g rooms) (questionOf q []) q e refl (sym (standing-path (g .len) rooms s)) refl)
@@ -62,7 +62,7 @@ unchanged k b raw order = go (told b)
 -- nothing is stored
 pub still-left : (g : Progress) (refs doms : List ℕ) → inOrder referrals refs ≡ true → inOrder domains doms ≡ true → (w : Core) (a : Called) {t : Turn}
     → record { caches = cachesOf refs doms; core = w; called = a } ≡ t → {r : Rested} {rooms : List ℕ}
-    → joined r rooms ≡ packed (goes (g .left) (cachesOf refs doms) (g .clock) w a) → leftBy r rooms refs doms ≡ leaves g refs doms t
+    → restedWith r rooms ≡ packed (goes (g .left) (cachesOf refs doms) (g .clock) w a) → leftBy r rooms refs doms ≡ leaves g refs doms t
 unfolding leaves turned cachesOf
 still-left g refs doms o p w a h e =
     (λ j.
@@ -82,7 +82,7 @@ module _ (refs doms rooms : List ℕ) (g : Progress) (q : Asking) (a : Awaiting 
   abbrev turn : Turn
   turn = referralAnswered (cachesOf refs doms) (coreAt g rooms) (questionOf q []) status reply (g .clock)
 
-  pub gone-left : not b ≡ true → {r : Rested} → r ≡ restAt (Ends end.Gone 0) (g .len) (g .left) (g .hit) → leftBy r rooms refs doms ≡ leaves g refs doms turn
+  pub gone-left : not b ≡ true → {r : Rested} → r ≡ restedAt (Ends end.Gone 0) (g .len) (g .left) (g .hit) → leftBy r rooms refs doms ≡ leaves g refs doms turn
   unfolding referralAnswered calledOf
   gone-left h k =
       still-left g refs doms (a .refs-order) (a .doms-order) (coreAt g rooms) (ends end.Gone 0) (sym (choose-no _ _ (use-is (not-true b h) (g .size) (g .hit))))
@@ -90,7 +90,7 @@ module _ (refs doms rooms : List ℕ) (g : Progress) (q : Asking) (a : Awaiting 
 
   module _ (h : not b ≡ false) where
     pub fails-left : 2 ≤ status / 1073741824 → (next : Next) {r : Rested} → calledOf next ≡ referralFails (cachesOf refs doms) (coreAt g rooms) (questionOf q []) status
-        → r ≡ restAt next (g .len) (g .left) (g .hit) → leftBy r rooms refs doms ≡ leaves g refs doms turn
+        → r ≡ restedAt next (g .len) (g .left) (g .hit) → leftBy r rooms refs doms ≡ leaves g refs doms turn
     unfolding referralAnswered severity
     fails-left l next n k =
         still-left g refs doms (a .refs-order) (a .doms-order) (coreAt g rooms) (calledOf next)
@@ -133,11 +133,11 @@ taken-caches w k (taken.Entry i h) refs doms = refl
 -- a reply that was taken
 module _ (refs doms rooms : List ℕ) (g : Progress) (q : Asking) (s : Succeeding refs doms rooms g q) (reply saved : List ℕ) (wide : g .room < 516 → length saved ≡ 2336)
     {t : Taken} {after more then : List ℕ} (e : takenTurn (coreAt g rooms) (q .kind) t more then ≡ referralSucceeds (cachesOf refs doms) (coreAt g rooms) (questionOf q []) reply (g .clock))
-    (back : length saved ≡ 2336 → putBack t after more then ≡ lent refs doms) (i : TakenIn (length saved) t after (take (g .len) rooms) more then) where
+    (back : length saved ≡ 2336 → putBack t after more then ≡ lentCaches refs doms) (i : TakenIn (length saved) t after (take (g .len) rooms) more then) where
   pub going-on : GoingOn more rooms g t
   going-on = record { ready = record { order = i .refs-order; standing = s .standing; good = s .in-use .good }; usable = i .usable }
 
-  module _ {r : Rested} {o : List ℕ} (k : joined r o ≡ packed (turned (g .left) (g .clock) (takenTurn (coreAt g rooms) (q .kind) t more then))) where
+  module _ {r : Rested} {o : List ℕ} (k : restedWith r o ≡ packed (turned (g .left) (g .clock) (takenTurn (coreAt g rooms) (q .kind) t more then))) where
     abbrev made : Turn
     made = takenTurn (coreAt g rooms) (q .kind) t more then
 
@@ -186,7 +186,7 @@ module _ (refs doms rooms : List ℕ) (g : Progress) (q : Asking) (s : Succeedin
         pub can-put : CanPutBack t after more then
         can-put = i .able (wide narrow)
 
-        pub put-left : {m n : List ℕ} → lent m n ≡ putBack t after more then → leftBy r o m n ≡ leaves g refs doms turned-to
+        pub put-left : {m n : List ℕ} → lentCaches m n ≡ putBack t after more then → leftBy r o m n ≡ leaves g refs doms turned-to
         unfolding leaves
         put-left p =
             λ j.

@@ -23,7 +23,7 @@ use Rattle.walk_steps.specs.declared.steps.Asking.{Asking}
 use Rattle.walk_steps.specs.steps.Code.{coreAt}
 use Rattle.walk_steps.specs.declared.steps.Progress.{Progress}
 use Rattle.walk_steps.specs.declared.steps.Rested.{Rested}
-use Rattle.walk_steps.specs.cycle.Code.{joined, packed}
+use Rattle.walk_steps.specs.cycle.Code.{restedWith, packed}
 use Rattle.walk_store.specs.after_reply.Code.{Leaving, leftBy, leaves}
 use Rattle.walk_store.proofs.after_reply.RestLaws.{Kept, rest-left, rest-path}
 use Rattle.walk_answers.specs.referral_answer.Code.{Awaiting}
@@ -176,7 +176,7 @@ module _ {refs doms : List ℕ} {walk : Walk} {texts : List ℕ} {q : Asking} {h
   -- an answer that rests is closed
   module _ (t : Turn) (clock room : ℕ) (k : Kept (walk .limit - walk .moves) (coreIn walk texts) (turned (walk .limit - walk .moves) clock t)) {r : Rested} {o more then : List ℕ}
       (e : leftBy r o more then ≡ leaves (progressOf walk clock room) refs doms t) where
-    rests-so : joined r o ≡ packed (turned (walk .limit - walk .moves) clock t)
+    rests-so : restedWith r o ≡ packed (turned (walk .limit - walk .moves) clock t)
     unfolding leaves progressOf
     rests-so = ap (λ (x : Leaving). x .rest) e
 

@@ -37,7 +37,7 @@ same-dcs c w malformed = same-turn w _ _
 same-dcs c w nothing = same-turn w _ _
 same-dcs c w (says names) = same-hit w _ true _
 
-same-stored : (c : Caches) (w : Core) (q : Question) (clock : ℕ) (r : replies.Reply replies.Referral) → Same w (referralAnswer c w q clock r)
+same-stored : (c : Caches) (w : Core) (q : Question) (clock : ℕ) (r : replies.Reply replies.ReferralReply) → Same w (referralAnswer c w q clock r)
 unfolding referralAnswer storedTurn
 same-stored c w q clock malformed = same-turn w _ _
 same-stored c w q clock nothing = same-turn w _ _
@@ -48,7 +48,7 @@ unfolding referralSucceeds
 same-success c w q reply clock = go (q .kind)
   where
     go : (k : Kind)
-        → Same w (referralSucceeds c w (record { kind = k; entry = q .entry; party = q .party; began = q .began; size = q .size; tried = q .tried; covered = q .covered }) reply clock)
+        → Same w (referralSucceeds c w (record { kind = k; entry = q .entry; party = q .party; began = q .began; size = q .size; tried = q .tried; uncovered = q .uncovered }) reply clock)
     go Dc = same-dcs c w _
     go Root = same-stored c w _ clock _
     go Link = same-stored c w _ clock _

@@ -12,7 +12,7 @@ use Rattle.laws.proofs.Pasting.{pasted-join, pasted-whole, length-roomed}
 use Rattle.walk_steps.specs.steps.Steps.{Resting}
 use Rattle.walk_steps.specs.steps.Code.{restedOf}
 use Rattle.walk_steps.specs.declared.steps.Rested.{Rested}
-use Rattle.walk_steps.specs.cycle.Code.{joined, packed}
+use Rattle.walk_steps.specs.cycle.Code.{restedWith, packed}
 use Rattle.walk_steps.specs.question_request.Questions.{nameFits, withRequest}
 use Rattle.walk_steps.specs.question_request.Code.{nextUnits, named}
 use Rattle.walk_steps.proofs.question_request.NameLaws.{rest-fits, rest-out}
@@ -70,7 +70,7 @@ module _ (limit size : ℕ) (boot : List ℕ) (r : Rested) (rooms : List ℕ) (w
   rest-closed h a e g = (λ j. record { verdict = Taken; walk = a j; texts = e j; out = g j }) ∙ sym (choose-yes _ _ (sym f ∙ h))
 
 -- a rest that a call closes
-module _ (x : Resting) (r : Rested) (rooms : List ℕ) (e : joined r rooms ≡ packed x) where
+module _ (x : Resting) (r : Rested) (rooms : List ℕ) (e : restedWith r rooms ≡ packed x) where
   pub closed-rest : (limit size : ℕ) (boot : List ℕ) (walk : Walk) (texts out : List ℕ) → x .core .size ≡ size
       → closedRest limit size boot r rooms walk texts out ≡ closes limit boot x walk texts out
   unfolding closedRest closes walkWith walkOf textsAfter lent restedOf

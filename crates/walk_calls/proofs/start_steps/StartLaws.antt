@@ -19,12 +19,12 @@ use Rattle.unc.specs.declared.names.Form.{Form}
 use Rattle.cache.specs.order.Order.{goodPrefix}
 use Rattle.walk_steps.specs.steps.Steps.{Caches, Core, ends, Turn, started, fromStep2, hitAt, withHit, step2, turned}
 use Rattle.walk_steps.specs.steps.Held.{cachesOf, coreOf}
-use Rattle.walk_steps.specs.steps.Code.{coreAt, restAt}
+use Rattle.walk_steps.specs.steps.Code.{coreAt, restedAt}
 use Rattle.walk_steps.specs.declared.steps.End.the-variants.{NotDfs}
 use Rattle.walk_steps.specs.declared.steps.Next.the-variants.{Ends}
 use Rattle.walk_steps.specs.declared.steps.Progress.{Progress}
 use Rattle.walk_steps.specs.declared.steps.Rested.{Rested}
-use Rattle.walk_steps.specs.cycle.Code.{Packed, joined, packed, Ready}
+use Rattle.walk_steps.specs.cycle.Code.{Packed, restedWith, packed, Ready}
 use Rattle.walk_steps.proofs.cycle.MoveLaws.{standing-path, packed-end, goes-stops}
 use Rattle.walk_store.proofs.after_reply.RestLaws.{Kept, kept-goes, rest-left, rest-path}
 use Rattle.walk_form.specs.held.Walks.{goodSettings}
@@ -75,9 +75,9 @@ form-put path rooms l e h = h ∙ ap (λ (n : ℕ). formWithin n path) (sym (cle
 
 -- the first rest
 module _ (refs doms rooms : List ℕ) (g : Progress) (k : ℕ) (b : Begun refs rooms (g .len) k) where
-  pub first-alone : {r : Rested} → k ≡ 1 → r ≡ restAt (Ends NotDfs 0) (g .len) (g .left) (g .hit)
-      → joined r rooms ≡ packed (turned (g .left) (g .clock) (started (cachesOf refs doms) (coreAt g rooms) (g .clock)))
-  unfolding turned started restAt
+  pub first-alone : {r : Rested} → k ≡ 1 → r ≡ restedAt (Ends NotDfs 0) (g .len) (g .left) (g .hit)
+      → restedWith r rooms ≡ packed (turned (g .left) (g .clock) (started (cachesOf refs doms) (coreAt g rooms) (g .clock)))
+  unfolding turned started restedAt
   first-alone h e =
       packed-end (g .len) rooms (b .standing) NotDfs 0 (g .left) (g .size) (g .hit) e
       ∙ (ap packed (sym (goes-stops (g .left) (cachesOf refs doms) (g .clock) (coreAt g rooms) NotDfs 0 []))
@@ -129,7 +129,7 @@ kept-started n c clock w h = go (told (eqb (componentCount (w .path)) 1))
 
 -- a start that rests: its numbers fit, and it is closed
 module _ (refs doms rooms : List ℕ) (n k limit size clock : ℕ) (b : Begun refs rooms n k) (r : Rested) (o : List ℕ)
-    (e : joined r o ≡ packed (turned limit clock (started (cachesOf refs doms) (coreOf (take n rooms) size false) clock))) where
+    (e : restedWith r o ≡ packed (turned limit clock (started (cachesOf refs doms) (coreOf (take n rooms) size false) clock))) where
   all-kept : Kept limit (coreOf (take n rooms) size false) (turned limit clock (started (cachesOf refs doms) (coreOf (take n rooms) size false) clock))
   all-kept = kept-started limit (cachesOf refs doms) clock (coreOf (take n rooms) size false) (omega (arith, standing-path n rooms (b .standing), b .standing .few))
 
@@ -154,7 +154,7 @@ module _ (refs doms texts path boot : List ℕ) (limit size clock : ℕ) (rooms 
   rooms-texts e n = sym (choose-yes _ _ (sym s ∙ e) ∙ choose-no _ _ (ne-eqb _ _ n))
 
   pub rooms-taken : g ≡ true → length texts ≡ 768 → {r : Rested} {after : List ℕ}
-      → joined r after ≡ packed (turned limit clock (started (cachesOf refs doms) (coreOf path size false) clock))
+      → restedWith r after ≡ packed (turned limit clock (started (cachesOf refs doms) (coreOf path size false) clock))
       → after ≡ startRooms refs doms texts path boot limit size clock rooms
   unfolding startRooms
   rooms-taken e l p = ap (λ (x : Packed). x .texts) p ∙ sym (choose-yes _ _ (sym s ∙ e) ∙ choose-yes _ _ (eq-eqb _ _ l))

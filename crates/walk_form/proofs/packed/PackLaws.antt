@@ -149,7 +149,7 @@ module _ (u : List ℕ) where
   wide-read i = refl
 
   pub asking-read : {k : Kind} {s : ℕ} → k ≡ kindAt (getD u 9 0) → s ≡ wideAt 13 u
-      → record { kind = k; entry = getD u 10 0; party = getD u 11 0; began = getD u 12 0; size = s; covered = eqb (getD u 15 0) 1 } ≡ askingAt u
+      → record { kind = k; entry = getD u 10 0; party = getD u 11 0; began = getD u 12 0; size = s; uncovered = eqb (getD u 15 0) 1 } ≡ askingAt u
   unfolding askingAt flagAt
   asking-read a b = λ j. record {
     kind = a j;
@@ -157,7 +157,7 @@ module _ (u : List ℕ) where
     party = getD u 11 0;
     began = getD u 12 0;
     size = b j;
-    covered = eqb (getD u 15 0) 1;
+    uncovered = eqb (getD u 15 0) 1;
   }
 
   pub next-asks : {q : Asking} → getD u 9 0 ≤ 5 → q ≡ askingAt u → Asks q ≡ nextAt u
@@ -183,17 +183,17 @@ module _ (u : List ℕ) where
   }
 
 -- what the writers make
-module _ (w : Walk) (code entry party began wide covered : ℕ) {hit : ℕ} (e : hit ≡ flagUnit (w .hit)) where
-  pub units-are : (w .limit % 65536 ∷ w .limit / 65536 ∷ w .size % 65536 ∷ w .size / 65536 ∷ w .boot ∷ w .moves ∷ w .path ∷ w .tried ∷ hit ∷ code ∷ entry ∷ party ∷ began ∷ wide % 65536 ∷ wide / 65536 ∷ covered ∷ replicate 16 0)
-      ≡ roomed 32 (walkUnits w (code ∷ entry ∷ party ∷ began ∷ (wideUnits wide ++ (covered ∷ []))))
+module _ (w : Walk) (code entry party began wide uncovered : ℕ) {hit : ℕ} (e : hit ≡ flagUnit (w .hit)) where
+  pub units-are : (w .limit % 65536 ∷ w .limit / 65536 ∷ w .size % 65536 ∷ w .size / 65536 ∷ w .boot ∷ w .moves ∷ w .path ∷ w .tried ∷ hit ∷ code ∷ entry ∷ party ∷ began ∷ wide % 65536 ∷ wide / 65536 ∷ uncovered ∷ replicate 16 0)
+      ≡ roomed 32 (walkUnits w (code ∷ entry ∷ party ∷ began ∷ (wideUnits wide ++ (uncovered ∷ []))))
   unfolding roomed walkUnits
-  units-are = λ j. w .limit % 65536 ∷ w .limit / 65536 ∷ w .size % 65536 ∷ w .size / 65536 ∷ w .boot ∷ w .moves ∷ w .path ∷ w .tried ∷ e j ∷ code ∷ entry ∷ party ∷ began ∷ wide % 65536 ∷ wide / 65536 ∷ covered ∷ replicate 16 0
+  units-are = λ j. w .limit % 65536 ∷ w .limit / 65536 ∷ w .size % 65536 ∷ w .size / 65536 ∷ w .boot ∷ w .moves ∷ w .path ∷ w .tried ∷ e j ∷ code ∷ entry ∷ party ∷ began ∷ wide % 65536 ∷ wide / 65536 ∷ uncovered ∷ replicate 16 0
 
 pub units-put : (d : List ℕ) {a b o : List ℕ} → o ≡ pasted d 0 a → a ≡ b → o ≡ pasted d 0 b
 units-put d e h = e ∙ ap (pasted d 0) h
 
-pub asking-put : (d : List ℕ) (w : Walk) (q : Asking) {o : List ℕ} {code covered : ℕ} → code ≡ kindNumber (q .kind) → covered ≡ flagUnit (q .covered)
-    → o ≡ pasted d 0 (roomed 32 (walkUnits w (code ∷ q .entry ∷ q .party ∷ q .began ∷ (wideUnits (q .size) ++ (covered ∷ [])))))
+pub asking-put : (d : List ℕ) (w : Walk) (q : Asking) {o : List ℕ} {code uncovered : ℕ} → code ≡ kindNumber (q .kind) → uncovered ≡ flagUnit (q .uncovered)
+    → o ≡ pasted d 0 (roomed 32 (walkUnits w (code ∷ q .entry ∷ q .party ∷ q .began ∷ (wideUnits (q .size) ++ (uncovered ∷ [])))))
     → o ≡ pasted d 0 (roomed 32 (walkUnits w (askingUnits q)))
 unfolding askingUnits
 asking-put d w q a b h =
@@ -232,7 +232,7 @@ next-back w (Asks q) =
       party = q .party;
       began = q .began;
       size = wide-back (q .size) j;
-      covered = flag-back (q .covered) j;
+      uncovered = flag-back (q .uncovered) j;
     }))
 next-back w (Ends e s) = choose-no _ _ (end-ends e) ∙ (λ j. Ends (end-back e j) (wide-back s j))
 

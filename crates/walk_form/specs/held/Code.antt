@@ -14,7 +14,7 @@ use Rattle.walk_form.specs.held.Walks.{nextInForm}
 
 -- a good size, and not of PATH_NOT_COVERED
 unfoldable pub plainSize : Asking → Bool
-plainSize q = goodSize (q .size) && not (q .covered)
+plainSize q = goodSize (q .size) && not (q .uncovered)
 
 -- the two cases of the next move
 unfoldable pub askingForm : List ℕ → List ℕ → Asking → Bool

@@ -61,12 +61,12 @@ oneParty q = eqb (q .party) (q .began)
 
 -- a question, by its kind: the entry and the party that it has, the size it asks, and whether it came of PATH_NOT_COVERED
 unfoldable pub askedInForm : List ℕ → Asking → Kind → Bool
-askedInForm path q Dc = namesDomain path q && (noParty q && (goodSize (q .size) && not (q .covered)))
+askedInForm path q Dc = namesDomain path q && (noParty q && (goodSize (q .size) && not (q .uncovered)))
 askedInForm path q Root =
-    ((eqb (q .entry) 0 && noParty q) || namesDomain path q) && (goodSize (q .size) && not (q .covered))
+    ((eqb (q .entry) 0 && noParty q) || namesDomain path q) && (goodSize (q .size) && not (q .uncovered))
 askedInForm path q Link = namesPrefix path q && goodSize (q .size)
-askedInForm path q Sysvol = namesDomain path q && (oneParty q && (goodSize (q .size) && not (q .covered)))
-askedInForm path q Io = namesPrefix path q && (eqb (q .size) 0 && not (q .covered))
+askedInForm path q Sysvol = namesDomain path q && (oneParty q && (goodSize (q .size) && not (q .uncovered)))
+askedInForm path q Io = namesPrefix path q && (eqb (q .size) 0 && not (q .uncovered))
 
 -- "there is a path tried exactly while the walk waits for I/O and after end 20"
 unfoldable pub hasTried : Kind → Bool

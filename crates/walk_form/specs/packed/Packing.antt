@@ -39,7 +39,7 @@ kindNumber Io = 5
 
 -- units 9 to 15: a question, or an end
 unfoldable pub askingUnits : Asking → List ℕ
-askingUnits q = kindNumber (q .kind) ∷ q .entry ∷ q .party ∷ q .began ∷ (wideUnits (q .size) ++ (flagUnit (q .covered) ∷ []))
+askingUnits q = kindNumber (q .kind) ∷ q .entry ∷ q .party ∷ q .began ∷ (wideUnits (q .size) ++ (flagUnit (q .uncovered) ∷ []))
 
 unfoldable pub nextPacked : Next → List ℕ
 nextPacked (Asks q) = askingUnits q
@@ -75,7 +75,7 @@ askingAt u = record {
   party = unitAt 11 u;
   began = unitAt 12 u;
   size = wideAt 13 u;
-  covered = flagAt 15 u;
+  uncovered = flagAt 15 u;
 }
 
 unfoldable pub nextAt : List ℕ → Next

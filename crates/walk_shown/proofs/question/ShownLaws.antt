@@ -148,7 +148,7 @@ module _ (refs doms path boot : List ℕ) (q : Asking) where
   partyBy : Kind → Option (List ℕ)
   partyBy k =
       partyOf (cachesOf refs doms) (coreOf path 0 true) boot
-      (record { kind = k; entry = q .entry; party = q .party; began = q .began; size = q .size; tried = []; covered = q .covered })
+      (record { kind = k; entry = q .entry; party = q .party; began = q .began; size = q .size; tried = []; uncovered = q .uncovered })
 
   kinded : {k : Kind} → q .kind ≡ k → partyBy k ≡ partyOf (cachesOf refs doms) (coreOf path 0 true) boot (questionOf q [])
   unfolding questionOf partyBy
@@ -218,7 +218,7 @@ party-same c path boot size more hit other q tried others = go (q .kind)
   where
     at : Kind → ℕ → Bool → List ℕ → Option (List ℕ)
     at k s h t =
-        partyOf c (coreOf path s h) boot (record { kind = k; entry = q .entry; party = q .party; began = q .began; size = q .size; tried = t; covered = q .covered })
+        partyOf c (coreOf path s h) boot (record { kind = k; entry = q .entry; party = q .party; began = q .began; size = q .size; tried = t; uncovered = q .uncovered })
 
     go : (k : Kind) → at k size hit tried ≡ at k more other others
     go Dc = refl
@@ -237,7 +237,7 @@ text-same c path boot size more hit other q tried others =
 module _ (path tried out : List ℕ) (q : Asking) where
   nameBy : Kind → List ℕ
   nameBy k =
-      nameAsked (coreOf path 0 true) (record { kind = k; entry = q .entry; party = q .party; began = q .began; size = q .size; tried = tried; covered = q .covered })
+      nameAsked (coreOf path 0 true) (record { kind = k; entry = q .entry; party = q .party; began = q .began; size = q .size; tried = tried; uncovered = q .uncovered })
 
   first-is : (n : ℕ) (k : Kind) → nameUnits k path ≡ First n → take n path ≡ nameBy k
   unfolding nameUnits nameBy nameAsked
@@ -274,7 +274,7 @@ name-same path size more hit other q tried = go (q .kind)
   where
     at : Kind → ℕ → Bool → List ℕ
     at k s h =
-        nameAsked (coreOf path s h) (record { kind = k; entry = q .entry; party = q .party; began = q .began; size = q .size; tried = tried; covered = q .covered })
+        nameAsked (coreOf path s h) (record { kind = k; entry = q .entry; party = q .party; began = q .began; size = q .size; tried = tried; uncovered = q .uncovered })
 
     go : (k : Kind) → at k size hit ≡ at k more other
     go Dc = refl

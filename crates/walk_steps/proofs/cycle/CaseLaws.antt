@@ -25,7 +25,7 @@ use Rattle.walk_steps.specs.steps.Held.{cachesOf, coreOf}
 use Rattle.walk_steps.specs.steps.Code.{rootAt, rootIn}
 use Rattle.walk_steps.specs.declared.steps.Kind.the-variants.{Dc, Root, Sysvol}
 use Rattle.walk_steps.specs.declared.steps.End.the-variants as ends
-use Rattle.walk_steps.specs.cycle.Code.{packed, stepsFrom, due2, due5, due9, due7, due11, toTry, askLink, askDc, askDomain, askHost, tooLong, domainRequest, kindAt, linkAt, questionAt, calledAt, turnAt, stepsBy, afterMatch}
+use Rattle.walk_steps.specs.cycle.Code.{packed, stepsFrom, due2, due5, due9, due7, due11, toTry, askLink, askDc, askDomain, askHost, tooLong, domainRequest, kindOfCase, linkAt, questionOfCase, calledAt, turnAt, stepsBy, afterMatch}
 use Rattle.walk_steps.proofs.steps.HeldLaws.{none-held, key-held, key-fits, longest-held}
 use Rattle.walk_steps.proofs.cycle.MoveLaws.{goes-stops, replaces-long, replaces-made, step5-hit, step7-hit, step9-hit}
 
@@ -69,20 +69,20 @@ module _ (refs doms : List ℕ) (size clock i : ℕ) (hit : Bool) (path : List �
   by-long = refl
 
   by-link : stepsBy refs doms size clock askLink i hit path left ≡ stepsFrom left refs doms clock (coreOf path size hit) (asks (linkAt (coreOf path size hit) refs i))
-  unfolding stepsBy turnAt stepsFrom turned calledAt questionAt choose
+  unfolding stepsBy turnAt stepsFrom turned calledAt questionOfCase choose
   by-link = refl
 
   by-dc : stepsBy refs doms size clock askDc i hit path left ≡ stepsFrom left refs doms clock (coreOf path size hit) (asks (domainRequest Dc (coreOf path size hit) i))
-  unfolding stepsBy turnAt stepsFrom turned calledAt questionAt kindAt choose
+  unfolding stepsBy turnAt stepsFrom turned calledAt questionOfCase kindOfCase choose
   by-dc = refl
 
   by-domain : stepsBy refs doms size clock askDomain i hit path left
       ≡ stepsFrom left refs doms clock (coreOf path size hit) (asks (domainRequest (choose (isSysvol path) Sysvol Root) (coreOf path size hit) i))
-  unfolding stepsBy turnAt stepsFrom turned calledAt questionAt kindAt choose
+  unfolding stepsBy turnAt stepsFrom turned calledAt questionOfCase kindOfCase choose
   by-domain = refl
 
   by-host : stepsBy refs doms size clock askHost i hit path left ≡ stepsFrom left refs doms clock (coreOf path size hit) (asks (step6Host (coreOf path size hit)))
-  unfolding stepsBy turnAt stepsFrom turned calledAt questionAt choose
+  unfolding stepsBy turnAt stepsFrom turned calledAt questionOfCase choose
   by-host = refl
 
 -- step 2

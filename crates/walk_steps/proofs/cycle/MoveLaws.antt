@@ -43,7 +43,7 @@ use Rattle.walk_steps.specs.declared.steps.End.the-variants.{LimitReache
 use Rattle.walk_steps.specs.declared.steps.End.the-variants as ends
 use Rattle.walk_steps.specs.declared.steps.Next.the-variants.{Asks, Ends}
 use Rattle.walk_steps.specs.declared.steps.Rested.{Rested}
-use Rattle.walk_steps.specs.cycle.Code.{Packed, joined, packed, movedTo, Usable}
+use Rattle.walk_steps.specs.cycle.Code.{Packed, restedWith, packed, movedTo, Usable}
 
 -- a question put: no move is left, its path tried is too long, or it waits
 module _ (w : Core) (q : Question) where
@@ -86,7 +86,7 @@ module _ (len : ℕ) (texts : List ℕ) (s : Standing len texts) where
 
   -- an end
   pub packed-end : (e : End) (status left size : ℕ) (hit : Bool) {r : Rested} → r ≡ endedAt e status len left hit
-      → joined r texts ≡ packed (rests (coreOf (take len texts) size hit) left (ended e status []))
+      → restedWith r texts ≡ packed (rests (coreOf (take len texts) size hit) left (ended e status []))
   unfolding packed rests restedOf nextOf triedOf endedAt
   packed-end e status left size hit h =
       λ j.
@@ -97,7 +97,7 @@ module _ (len : ℕ) (texts : List ℕ) (s : Standing len texts) where
 
   -- a question without a path tried
   pub packed-asked : (left size : ℕ) (hit : Bool) (q : Question) {r : Rested} → q .tried ≡ [] → r ≡ restedOf (asking left (coreOf (take len texts) size hit) q)
-      → joined r texts ≡ packed (asking left (coreOf (take len texts) size hit) q)
+      → restedWith r texts ≡ packed (asking left (coreOf (take len texts) size hit) q)
   unfolding packed
   packed-asked left size hit q t h =
       λ j.
@@ -108,7 +108,7 @@ module _ (len : ℕ) (texts : List ℕ) (s : Standing len texts) where
 
   -- the limit, before any question
   pub limit-rests : (left : ℕ) (hit : Bool) (size : ℕ) (q : Question) {r : Rested} → left ≡ 0 → r ≡ endedAt LimitReached 0 len left hit
-      → joined r texts ≡ packed (asking left (coreOf (take len texts) size hit) q)
+      → restedWith r texts ≡ packed (asking left (coreOf (take len texts) size hit) q)
   limit-rests left hit size q h e =
       packed-end LimitReached 0 left size hit e ∙ ap packed (sym (asking-limit (coreOf (take len texts) size hit) q left h))
 
@@ -159,16 +159,16 @@ module _ (refs texts : List ℕ) (len i : ℕ) (s : Standing len texts) (u : Usa
     new8 = replaced (targetPath j (entryAt referrals i refs)) (length (entryAt referrals i refs .prefix)) (take len texts)
 
     pub step8-long : {r : Rested} → g ≡ TooLong → r ≡ endedAt ends.TooLong 0 len left hit
-        → (size : ℕ) → joined r o ≡ packed (asking left (coreOf (take len texts) size hit) (step8 (coreOf (take len texts) size hit) (entryAt referrals i refs) j began))
+        → (size : ℕ) → restedWith r o ≡ packed (asking left (coreOf (take len texts) size hit) (step8 (coreOf (take len texts) size hit) (entryAt referrals i refs) j began))
     unfolding step8 new8
     step8-long h r size =
         let x : 256 < length new8 = written-long 256 new8 (sym f ∙ h) in
-        (λ k. joined (r k) (put-long new8 x m k))
+        (λ k. restedWith (r k) (put-long new8 x m k))
         ∙ (packed-end len texts s ends.TooLong 0 left size hit refl
         ∙ ap packed (sym (asking-long (coreOf (take len texts) size hit) (step8 (coreOf (take len texts) size hit) (entryAt referrals i refs) j began) left some x)))
 
     pub step8-put : (n : ℕ) → g ≡ Units n → {p : List ℕ} → p ≡ entryAt referrals i refs .prefix → (size : ℕ)
-        → joined (record { next = Asks (record { kind = Io; entry = length p; party = j; began = began; size = 0; covered = false }); path = len; tried = n; left = left - 1; hit = hit }) o
+        → restedWith (record { next = Asks (record { kind = Io; entry = length p; party = j; began = began; size = 0; uncovered = false }); path = len; tried = n; left = left - 1; hit = hit }) o
         ≡ packed (asking left (coreOf (take len texts) size hit) (step8 (coreOf (take len texts) size hit) (entryAt referrals i refs) j began))
     unfolding step8 packed rests restedOf nextOf triedOf askingOf new8
     step8-put n h b size =
@@ -178,7 +178,7 @@ module _ (refs texts : List ℕ) (len i : ℕ) (s : Standing len texts) (u : Usa
         (λ k.
         record {
           rested = record {
-            next = Asks (record { kind = Io; entry = length (b k); party = j; began = began; size = 0; covered = false });
+            next = Asks (record { kind = Io; entry = length (b k); party = j; began = began; size = 0; uncovered = false });
             path = sym (standing-path len texts s) k;
             tried = x .0 k;
             left = left - 1;

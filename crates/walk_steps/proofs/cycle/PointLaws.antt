@@ -37,7 +37,7 @@ use Rattle.walk_steps.specs.declared.steps.End.the-variants.{LimitReache
 use Rattle.walk_steps.specs.declared.steps.End.the-variants as ends
 use Rattle.walk_steps.specs.declared.steps.Asking.{Asking}
 use Rattle.walk_steps.specs.declared.steps.Rested.{Rested}
-use Rattle.walk_steps.specs.cycle.Code.{Packed, joined, packed, stepsFrom, calledAfter, movedTo, Ready, Usable, due2, due5, due9, due7, due11, toTry, askLink, askDc, askDomain, askHost, tooLong, nowhere, noDc, whatOf, placeIn, hitIn, unitsOf, leftOf, Parts, domainRequest, kindAt, linkAt, questionAt, calledAt, turnAt, stepsBy, stepsAt, Point, Halted, Follows, SameRest, FoundAt, DcAt, Sought, afterMatch, Matched, replacedAt}
+use Rattle.walk_steps.specs.cycle.Code.{Packed, restedWith, packed, stepsFrom, calledAfter, movedTo, Ready, Usable, due2, due5, due9, due7, due11, toTry, askLink, askDc, askDomain, askHost, tooLong, nowhere, noDc, whatOf, placeIn, hitIn, unitsOf, leftOf, Parts, domainRequest, kindOfCase, linkAt, questionOfCase, calledAt, turnAt, stepsBy, stepsAt, Point, Halted, SameSteps, SameRest, FoundAt, DcAt, Sought, afterMatch, Matched, replacedAt}
 use Rattle.walk_steps.proofs.steps.HeldLaws.{longest-fits, longest-good, longest-matches}
 use Rattle.walk_steps.proofs.steps.StepLaws.{asked-as}
 use Rattle.walk_steps.proofs.cycle.MoveLaws.{new-good, goes-asks, packed-asked, packed-end, goes-stops, replaces-limit}
@@ -203,13 +203,13 @@ pub own-parts : (n k : ℕ) → whatOf n ≡ k → Parts k (placeIn n) (hitIn n)
 own-parts n k h = record { its-case = h; its-place = refl; its-hit = refl; its-units = refl; its-left = refl }
 
 -- a step without a move
-pub rests-on : (refs doms texts : List ℕ) (clock n : ℕ) {m r : ℕ} {after : List ℕ} → Follows refs doms clock texts n m → SameRest refs doms clock m texts r after → SameRest refs doms clock n texts r after
+pub rests-on : (refs doms texts : List ℕ) (clock n : ℕ) {m r : ℕ} {after : List ℕ} → SameSteps refs doms clock texts n m → SameRest refs doms clock m texts r after → SameRest refs doms clock n texts r after
 rests-on refs doms texts clock n f t = record { same = λ size. t .same size ∙ f .same size; halted = t .halted }
 
-pub follows-on : (refs doms texts : List ℕ) (clock n : ℕ) {m r : ℕ} → Follows refs doms clock texts n m → Follows refs doms clock texts m r → Follows refs doms clock texts n r
+pub follows-on : (refs doms texts : List ℕ) (clock n : ℕ) {m r : ℕ} → SameSteps refs doms clock texts n m → SameSteps refs doms clock texts m r → SameSteps refs doms clock texts n r
 follows-on refs doms texts clock n f t = record { same = λ size. t .same size ∙ f .same size; point = t .point; left = t .left ∙ f .left }
 
-pub halts-after : (refs doms texts : List ℕ) (clock n : ℕ) {r : ℕ} → Follows refs doms clock texts n r → due11 < whatOf r → SameRest refs doms clock n texts r texts
+pub halts-after : (refs doms texts : List ℕ) (clock n : ℕ) {r : ℕ} → SameSteps refs doms clock texts n r → due11 < whatOf r → SameRest refs doms clock n texts r texts
 halts-after refs doms texts clock n f h = record {
   same = f .same;
   halted = record { point = f .point; rests = omega arith; last = λ z. absurd (omega arith) };
@@ -220,7 +220,7 @@ halts-here refs doms texts clock n p h l = record { same = λ size. refl; halted
 
 module _ (refs doms texts : List ℕ) (clock n : ℕ) (p : Point refs texts n) (k : ℕ) (w : whatOf n ≡ k) {what i : ℕ} {hit : Bool} {r : ℕ} (q : Parts what i hit (unitsOf n) (leftOf n) r) where
   follows : ((size : ℕ) → stepsBy refs doms size clock what i hit (take (unitsOf n) texts) (leftOf n) ≡ stepsBy refs doms size clock k (placeIn n) (hitIn n) (take (unitsOf n) texts) (leftOf n))
-      → (due7 ≤ what → what ≤ toTry → Usable refs (take (unitsOf n) texts) i) → (what ≡ askLink → i < placeCount refs) → Follows refs doms clock texts n r
+      → (due7 ≤ what → what ≤ toTry → Usable refs (take (unitsOf n) texts) i) → (what ≡ askLink → i < placeCount refs) → SameSteps refs doms clock texts n r
   follows e u f = record {
     same = λ size. at-parts q refs doms texts size clock ∙ (e size ∙ sym (at-parts (own-parts n k w) refs doms texts size clock));
     point = parts-point q refs texts (p .counted) (p .ready) u f;
@@ -247,10 +247,10 @@ module _ (refs doms texts : List ℕ) (clock n : ℕ) (p : Point refs texts n) (
       let y : found < 32 = place-few refs found (p .ready .order) z in
       (z, omega arith)
 
-  pub looked-next : {r : ℕ} → Matched refs clock n found r → Follows refs doms clock texts n r × ((due2 < whatOf r) × (whatOf r ≤ due7))
+  pub looked-next : {r : ℕ} → Matched refs clock n found r → SameSteps refs doms clock texts n r × ((due2 < whatOf r) × (whatOf r ≤ due7))
   looked-next {r} m = go (told (eqb found nowhere))
     where
-      go : (eqb found nowhere ≡ true) ⊎ (eqb found nowhere ≡ false) → Follows refs doms clock texts n r × ((due2 < whatOf r) × (whatOf r ≤ due7))
+      go : (eqb found nowhere ≡ true) ⊎ (eqb found nowhere ≡ false) → SameSteps refs doms clock texts n r × ((due2 < whatOf r) × (whatOf r ≤ due7))
       go (inl t) =
           let h : found ≡ nowhere = eqb-true found nowhere t in
           let q = m .missed h in (
@@ -279,7 +279,7 @@ module _ (refs doms texts : List ℕ) (n : ℕ) (p : Point refs texts n) (w : wh
   dc-few a b = here5 .few a b
 
   module _ {r : ℕ} where
-    pub asks-host : found ≡ nowhere → Parts askHost 0 (hitIn n) (unitsOf n) (leftOf n) r → ((clock : ℕ) → Follows refs doms clock texts n r) × (due11 < whatOf r)
+    pub asks-host : found ≡ nowhere → Parts askHost 0 (hitIn n) (unitsOf n) (leftOf n) r → ((clock : ℕ) → SameSteps refs doms clock texts n r) × (due11 < whatOf r)
     asks-host h q = (
       λ clock. follows refs doms texts clock n p due5 w q
           (λ size. five-host refs doms size clock (placeIn n) (hitIn n) (take (unitsOf n) texts) (leftOf n) (here5 .host h size (hitIn n)))
@@ -287,7 +287,7 @@ module _ (refs doms texts : List ℕ) (n : ℕ) (p : Point refs texts n) (w : wh
       omega (arith, q .its-case),
     )
 
-    pub asks-dcs : found ≡ noDc → Parts askDc 0 (hitIn n) (unitsOf n) (leftOf n) r → ((clock : ℕ) → Follows refs doms clock texts n r) × (due11 < whatOf r)
+    pub asks-dcs : found ≡ noDc → Parts askDc 0 (hitIn n) (unitsOf n) (leftOf n) r → ((clock : ℕ) → SameSteps refs doms clock texts n r) × (due11 < whatOf r)
     asks-dcs h q = (
       λ clock. follows refs doms texts clock n p due5 w q
           (λ size. five-without refs doms size clock (placeIn n) (hitIn n) (take (unitsOf n) texts) (leftOf n) (here5 .without h size (hitIn n)))
@@ -295,7 +295,7 @@ module _ (refs doms texts : List ℕ) (n : ℕ) (p : Point refs texts n) (w : wh
       omega (arith, q .its-case),
     )
 
-    pub asks-domain : (found ≡ nowhere → ⊥) → (found ≡ noDc → ⊥) → Parts askDomain found (hitIn n) (unitsOf n) (leftOf n) r → ((clock : ℕ) → Follows refs doms clock texts n r) × (due11 < whatOf r)
+    pub asks-domain : (found ≡ nowhere → ⊥) → (found ≡ noDc → ⊥) → Parts askDomain found (hitIn n) (unitsOf n) (leftOf n) r → ((clock : ℕ) → SameSteps refs doms clock texts n r) × (due11 < whatOf r)
     asks-domain a b q = (
       λ clock. follows refs doms texts clock n p due5 w q
           (λ size. five-dc refs doms size clock (placeIn n) (hitIn n) (take (unitsOf n) texts) (leftOf n) found (here5 .dc a b size (hitIn n)))
@@ -314,7 +314,7 @@ module _ (refs doms texts : List ℕ) (n : ℕ) (p : Point refs texts n) (w : wh
   pub root-few : (found ≡ nowhere → ⊥) → found < 65536
   root-few h = let z : found < 32 = place-few refs found (p .ready .order) (fits9 h) in omega arith
 
-  pub asks-link : {r : ℕ} → (found ≡ nowhere → ⊥) → Parts askLink found (hitIn n) (unitsOf n) (leftOf n) r → ((clock : ℕ) → Follows refs doms clock texts n r) × (due11 < whatOf r)
+  pub asks-link : {r : ℕ} → (found ≡ nowhere → ⊥) → Parts askLink found (hitIn n) (unitsOf n) (leftOf n) r → ((clock : ℕ) → SameSteps refs doms clock texts n r) × (due11 < whatOf r)
   asks-link h q = (
     λ clock. follows refs doms texts clock n p due9 w q
         (λ size. nine-at refs doms size clock (placeIn n) (hitIn n) (take (unitsOf n) texts) (leftOf n) found (here9 .there h))
@@ -323,7 +323,7 @@ module _ (refs doms texts : List ℕ) (n : ℕ) (p : Point refs texts n) (w : wh
   )
 
   module _ {m : ℕ} (h : found ≡ nowhere) (q : Parts due5 0 (hitIn n) (unitsOf n) (leftOf n) m) where
-    without-root : (clock : ℕ) → Follows refs doms clock texts n m
+    without-root : (clock : ℕ) → SameSteps refs doms clock texts n m
     without-root clock =
         follows refs doms texts clock n p due9 w q
         (λ size. nine-none refs doms size clock (placeIn n) (hitIn n) (take (unitsOf n) texts) (leftOf n) (here9 .none h))
@@ -332,7 +332,7 @@ module _ (refs doms texts : List ℕ) (n : ℕ) (p : Point refs texts n) (w : wh
     pub without-point : Point refs texts m × (whatOf m ≡ due5)
     without-point = (without-root 0 .point, q .its-case)
 
-    pub without-next : {r : ℕ} → ((clock : ℕ) → Follows refs doms clock texts m r) × (due11 < whatOf r) → ((clock : ℕ) → Follows refs doms clock texts n r) × (due11 < whatOf r)
+    pub without-next : {r : ℕ} → ((clock : ℕ) → SameSteps refs doms clock texts m r) × (due11 < whatOf r) → ((clock : ℕ) → SameSteps refs doms clock texts n r) × (due11 < whatOf r)
     without-next t = (λ clock. follows-on refs doms texts clock n (without-root clock) (t .0 clock), t .1)
 
 -- steps 7 and 4
@@ -363,7 +363,7 @@ module _ (refs doms texts : List ℕ) (clock n : ℕ) (p : Point refs texts n) (
       tries-other t s u = tries7 (λ size. four-other refs doms size clock (placeIn n) (hitIn n) (take (unitsOf n) texts) (leftOf n) t s u)
 
     pub turns : Parts due11 i (hitIn n) (unitsOf n) (leftOf n) r → entryAt referrals (placeIn n) refs .settings .root ≡ false → isSysvol (take (unitsOf n) texts) ≡ false
-        → entryAt referrals (placeIn n) refs .settings .interlink ≡ true → Follows refs doms clock texts n r
+        → entryAt referrals (placeIn n) refs .settings .interlink ≡ true → SameSteps refs doms clock texts n r
     turns q t s u =
         follows refs doms texts clock n p due7 w (subst (λ (j : ℕ). Parts due11 j (hitIn n) (unitsOf n) (leftOf n) r) b q)
         (λ size. four-interlink refs doms size clock (placeIn n) (hitIn n) (take (unitsOf n) texts) (leftOf n) t s u)
@@ -475,31 +475,31 @@ module _ (refs texts : List ℕ) (size n : ℕ) (t : Halted refs texts n) {u : �
       ∙ (ap packed (sym (goes-asks (leftOf n) (cachesOf refs doms) clock (coreOf (take u texts) size h) (step3 (coreOf (take u texts) size h) (entryAt referrals q refs))))
       ∙ (sym (by-try refs doms size clock q h (take u texts) (leftOf n)) ∙ sym (at-parts (parts-there b w) refs doms texts size clock)))
 
-  pub rest-limit : {r : Rested} → whatOf n ≡ due11 → r ≡ endedAt LimitReached 0 u (leftOf n) h → (doms : List ℕ) (clock : ℕ) → joined r texts ≡ stepsAt refs doms size clock n texts
+  pub rest-limit : {r : Rested} → whatOf n ≡ due11 → r ≡ endedAt LimitReached 0 u (leftOf n) h → (doms : List ℕ) (clock : ℕ) → restedWith r texts ≡ stepsAt refs doms size clock n texts
   unfolding stepsFrom
   rest-limit w e doms clock =
       packed-end u texts stands-there LimitReached 0 (leftOf n) size h e
       ∙ (ap packed (sym (replaces-limit (cachesOf refs doms) clock (coreOf (take u texts) size h) (step11 (coreOf (take u texts) size h) (entryAt referrals (placeIn n) refs)) (leftOf n) (t .last w)))
       ∙ (sym (by11 refs doms size clock (placeIn n) h (take u texts) (leftOf n)) ∙ sym (at-parts (parts-there refl w) refs doms texts size clock)))
 
-  pub rest-long : {r : Rested} → whatOf n ≡ tooLong → r ≡ endedAt ends.TooLong 0 u (leftOf n) h → (doms : List ℕ) (clock : ℕ) → joined r texts ≡ stepsAt refs doms size clock n texts
+  pub rest-long : {r : Rested} → whatOf n ≡ tooLong → r ≡ endedAt ends.TooLong 0 u (leftOf n) h → (doms : List ℕ) (clock : ℕ) → restedWith r texts ≡ stepsAt refs doms size clock n texts
   unfolding stepsFrom
   rest-long w e doms clock =
       packed-end u texts stands-there ends.TooLong 0 (leftOf n) size h e
       ∙ (ap packed (sym (goes-stops (leftOf n) (cachesOf refs doms) clock (coreOf (take u texts) size h) ends.TooLong 0 []))
       ∙ (sym (by-long refs doms size clock (placeIn n) h (take u texts) (leftOf n)) ∙ sym (at-parts (parts-there refl w) refs doms texts size clock)))
 
-  untried : (w : Core) (i what : ℕ) → questionAt refs w i what .tried ≡ []
-  unfolding questionAt linkRequest step6Host domainRequest
+  untried : (w : Core) (i what : ℕ) → questionOfCase refs w i what .tried ≡ []
+  unfolding questionOfCase linkRequest step6Host domainRequest
   untried w i what = go (told (eqb what askLink)) (told (eqb what askHost))
     where
-      go : (eqb what askLink ≡ true) ⊎ (eqb what askLink ≡ false) → (eqb what askHost ≡ true) ⊎ (eqb what askHost ≡ false) → questionAt refs w i what .tried ≡ []
+      go : (eqb what askLink ≡ true) ⊎ (eqb what askLink ≡ false) → (eqb what askHost ≡ true) ⊎ (eqb what askHost ≡ false) → questionOfCase refs w i what .tried ≡ []
       go (inl x) y = ap (λ (q : Question). q .tried) (choose-yes (linkAt w refs i) _ x)
       go (inr x) (inl y) = ap (λ (q : Question). q .tried) (choose-no (linkAt w refs i) _ x ∙ choose-yes (step6Host w) _ y)
       go (inr x) (inr y) = ap (λ (q : Question). q .tried) (choose-no (linkAt w refs i) _ x ∙ choose-no (step6Host w) _ y)
 
   by-asked : (doms : List ℕ) (clock q what left : ℕ) (path : List ℕ) → due11 < what → (what ≡ toTry → ⊥) → (what ≡ tooLong → ⊥)
-      → stepsBy refs doms size clock what q h path left ≡ stepsFrom left refs doms clock (coreOf path size h) (asks (questionAt refs (coreOf path size h) q what))
+      → stepsBy refs doms size clock what q h path left ≡ stepsFrom left refs doms clock (coreOf path size h) (asks (questionOfCase refs (coreOf path size h) q what))
   unfolding stepsBy stepsFrom turnAt turned calledAt
   by-asked doms clock q what left path l x y =
       ap (λ s. packed (turned left clock s)) (choose-no _ _ (ne-eqb what due2 (λ z. omega arith)))
@@ -510,33 +510,33 @@ module _ (refs texts : List ℕ) (size n : ℕ) (t : Halted refs texts n) {u : �
       ∙ (choose-no _ _ (ne-eqb what due11 (λ z. omega arith)) ∙ (choose-no _ _ (ne-eqb what toTry x) ∙ choose-no _ _ (ne-eqb what tooLong y))))))
 
   pub rest-asked : {q : ℕ} {g : Asking} {r : Rested} → q ≡ placeIn n → (whatOf n ≡ toTry → ⊥) → (whatOf n ≡ due11 → ⊥) → (whatOf n ≡ tooLong → ⊥)
-      → ((b : Bool) → g ≡ askingOf (questionAt refs (coreOf (take u texts) size b) q (whatOf n))) → length (take u texts) ≡ u → r ≡ askedAt g u (leftOf n) h
-      → (doms : List ℕ) (clock : ℕ) → joined r texts ≡ stepsAt refs doms size clock n texts
+      → ((b : Bool) → g ≡ askingOf (questionOfCase refs (coreOf (take u texts) size b) q (whatOf n))) → length (take u texts) ≡ u → r ≡ askedAt g u (leftOf n) h
+      → (doms : List ℕ) (clock : ℕ) → restedWith r texts ≡ stepsAt refs doms size clock n texts
   unfolding stepsFrom
   rest-asked {q} {g} b x y z e l f doms clock =
-      packed-asked u texts stands-there (leftOf n) size h (questionAt refs (coreOf (take u texts) size h) q (whatOf n)) (untried (coreOf (take u texts) size h) q (whatOf n))
-      (asked-as (leftOf n) (coreOf (take u texts) size h) (questionAt refs (coreOf (take u texts) size h) q (whatOf n)) g f (e h) (sym l) (untried (coreOf (take u texts) size h) q (whatOf n)))
-      ∙ (ap packed (sym (goes-asks (leftOf n) (cachesOf refs doms) clock (coreOf (take u texts) size h) (questionAt refs (coreOf (take u texts) size h) q (whatOf n))))
+      packed-asked u texts stands-there (leftOf n) size h (questionOfCase refs (coreOf (take u texts) size h) q (whatOf n)) (untried (coreOf (take u texts) size h) q (whatOf n))
+      (asked-as (leftOf n) (coreOf (take u texts) size h) (questionOfCase refs (coreOf (take u texts) size h) q (whatOf n)) g f (e h) (sym l) (untried (coreOf (take u texts) size h) q (whatOf n)))
+      ∙ (ap packed (sym (goes-asks (leftOf n) (cachesOf refs doms) clock (coreOf (take u texts) size h) (questionOfCase refs (coreOf (take u texts) size h) q (whatOf n))))
       ∙ (sym (by-asked doms clock q (whatOf n) (leftOf n) (take u texts) (let k : due7 < whatOf n = t .rests in omega arith) x z)
       ∙ sym (at-parts (parts-there b refl) refs doms texts size clock)))
 
 -- the question at a point
 module _ (refs path : List ℕ) (size i what : ℕ) where
   pub question-link : {p : List ℕ} {h : ℕ} → what ≡ askLink → p ≡ entryAt referrals i refs .prefix → h ≡ entryAt referrals i refs .hint
-      → (hit : Bool) → record { kind = Link; entry = length p; party = h; began = h; size = size; covered = false } ≡ askingOf (questionAt refs (coreOf path size hit) i what)
-  unfolding questionAt askingOf linkRequest
+      → (hit : Bool) → record { kind = Link; entry = length p; party = h; began = h; size = size; uncovered = false } ≡ askingOf (questionOfCase refs (coreOf path size hit) i what)
+  unfolding questionOfCase askingOf linkRequest
   question-link w a b hit =
-      (λ j. record { kind = Link; entry = length (a j); party = b j; began = b j; size = size; covered = false })
+      (λ j. record { kind = Link; entry = length (a j); party = b j; began = b j; size = size; uncovered = false })
       ∙ ap askingOf (sym (choose-yes (linkAt (coreOf path size hit) refs i) _ (eq-eqb what askLink w)))
 
   module _ (x : what ≡ askLink → ⊥) where
-    pub question-host : what ≡ askHost → (hit : Bool) → record { kind = Root; entry = 0; party = 0; began = 0; size = size; covered = false } ≡ askingOf (questionAt refs (coreOf path size hit) i what)
-    unfolding questionAt askingOf step6Host
+    pub question-host : what ≡ askHost → (hit : Bool) → record { kind = Root; entry = 0; party = 0; began = 0; size = size; uncovered = false } ≡ askingOf (questionOfCase refs (coreOf path size hit) i what)
+    unfolding questionOfCase askingOf step6Host
     question-host w hit =
         ap askingOf (sym (choose-no (linkAt (coreOf path size hit) refs i) _ (ne-eqb what askLink x) ∙ choose-yes (step6Host (coreOf path size hit)) _ (eq-eqb what askHost w)))
 
-    pub question-domain : {k : Kind} {g : Asking} → (what ≡ askHost → ⊥) → k ≡ kindAt what path → g ≡ domainAsking k path i size → (hit : Bool) → g ≡ askingOf (questionAt refs (coreOf path size hit) i what)
-    unfolding questionAt askingOf domainAsking domainRequest
+    pub question-domain : {k : Kind} {g : Asking} → (what ≡ askHost → ⊥) → k ≡ kindOfCase what path → g ≡ domainAsking k path i size → (hit : Bool) → g ≡ askingOf (questionOfCase refs (coreOf path size hit) i what)
+    unfolding questionOfCase askingOf domainAsking domainRequest
     question-domain y e f hit =
         f
         ∙ (ap (λ (k : Kind). domainAsking k path i size) e
@@ -544,17 +544,17 @@ module _ (refs path : List ℕ) (size i what : ℕ) where
 
 -- the kind of a request to a domain
 module _ (what : ℕ) (path : List ℕ) where
-  pub kind-dc : what ≡ askDc → Dc ≡ kindAt what path
-  unfolding kindAt
+  pub kind-dc : what ≡ askDc → Dc ≡ kindOfCase what path
+  unfolding kindOfCase
   kind-dc w = sym (choose-yes Dc _ (eq-eqb what askDc w))
 
   module _ (x : what ≡ askDc → ⊥) {b : Bool} (e : b ≡ isSysvol path) where
-    pub kind-sysvol : b ≡ true → Sysvol ≡ kindAt what path
-    unfolding kindAt
+    pub kind-sysvol : b ≡ true → Sysvol ≡ kindOfCase what path
+    unfolding kindOfCase
     kind-sysvol h = sym (choose-no Dc _ (ne-eqb what askDc x) ∙ choose-yes Sysvol Root (sym e ∙ h))
 
-    pub kind-root : b ≡ false → Root ≡ kindAt what path
-    unfolding kindAt
+    pub kind-root : b ≡ false → Root ≡ kindOfCase what path
+    unfolding kindOfCase
     kind-root h = sym (choose-no Dc _ (ne-eqb what askDc x) ∙ choose-no Sysvol Root (sym e ∙ h))
 
 -- the functions that crates above call

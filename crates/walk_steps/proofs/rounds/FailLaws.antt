@@ -8,7 +8,8 @@ use lib.Dec.{eqb, ltb}
 use borrow.Author.Tests.{eq-eqb, ne-eqb, ltb-true}
 use Rattle.laws.proofs.Choices.{choose-yes, choose-no, and-right}
 use Rattle.unc.specs.names.Paths.{firstOf}
-use Rattle.walk_steps.specs.steps.Steps.{Caches, Core, Question, Called, ends, asks, nextPlace, onward, partyCount, domainInUse, referralInUse, step6, linkRequest, doubled, failedHost, failed, referralFails, bufferOverflow, pathNotFound, mostSize}
+use Rattle.reply_read.specs.referral.Request.{mostSize}
+use Rattle.walk_steps.specs.steps.Steps.{Caches, Core, Question, Called, ends, asks, nextPlace, onward, partyCount, domainInUse, referralInUse, step6, linkRequest, doubled, failedHost, failed, referralFails, bufferOverflow, pathNotFound}
 use Rattle.walk_steps.specs.steps.Held.{cachesOf, questionOf}
 use Rattle.walk_steps.specs.steps.Code.{calledOf}
 use Rattle.walk_steps.specs.declared.steps.Kind.{Kind}
@@ -33,10 +34,10 @@ module _ (status size : ℕ) where
   again-below e h = ltb-true size mostSize (and-right (eqb status bufferOverflow) _ (sym e ∙ h))
 
 pub called-doubled : (q : Asking) {size : ℕ} → size ≡ min (2 * q .size) 57344
-    → calledOf (Asks (record { kind = q .kind; entry = q .entry; party = q .party; began = q .began; size = size; covered = q .covered })) ≡ asks (doubled (questionOf q []))
+    → calledOf (Asks (record { kind = q .kind; entry = q .entry; party = q .party; began = q .began; size = size; uncovered = q .uncovered })) ≡ asks (doubled (questionOf q []))
 unfolding calledOf doubled questionOf
 called-doubled q h =
-    λ j. asks (record { kind = q .kind; entry = q .entry; party = q .party; began = q .began; size = h j; tried = []; covered = q .covered })
+    λ j. asks (record { kind = q .kind; entry = q .entry; party = q .party; began = q .began; size = h j; tried = []; uncovered = q .uncovered })
 
 -- the next party, or the round is exhausted
 module _ {n m : ℕ} (q : Question) {next : ℕ} (e : next ≡ nextPlace m (q .party)) (k : m ≡ n) (ask : ℕ → Question) (a : Called) where
@@ -69,10 +70,10 @@ module _ (w : Core) (q : Asking) {n m next : ℕ} (e : next ≡ nextPlace m (q .
   dc-exhausted h = onward-end (questionOf q []) e k (λ place. step6 w place (q .began)) (ends NoDc pathNotFound) h
 
   pub dc-next : {end : ℕ} → (next ≡ q .began → ⊥) → end ≡ length (firstOf 1 (w .path))
-      → calledOf (Asks (record { kind = Root; entry = end; party = next; began = q .began; size = w .size; covered = false })) ≡ failedDc n w (questionOf q [])
+      → calledOf (Asks (record { kind = Root; entry = end; party = next; began = q .began; size = w .size; uncovered = false })) ≡ failedDc n w (questionOf q [])
   unfolding failedDc questionOf step6 calledOf
   dc-next h f =
-      (λ j. asks (record { kind = Root; entry = f j; party = next; began = q .began; size = w .size; tried = []; covered = false }))
+      (λ j. asks (record { kind = Root; entry = f j; party = next; began = q .began; size = w .size; tried = []; uncovered = false }))
       ∙ onward-next (questionOf q []) e k (λ place. step6 w place (q .began)) (ends NoDc pathNotFound) h
 
   -- over targets
@@ -80,13 +81,13 @@ module _ (w : Core) (q : Asking) {n m next : ℕ} (e : next ≡ nextPlace m (q .
     pub link-exhausted : next ≡ q .began → calledOf (Ends Failed status) ≡ failedLink n w (questionOf q []) status
     unfolding failedLink questionOf calledOf
     link-exhausted h =
-        onward-end (questionOf q []) e k (λ place. linkRequest w (q .entry) place (q .began) (q .covered)) (ends Failed status) h
+        onward-end (questionOf q []) e k (λ place. linkRequest w (q .entry) place (q .began) (q .uncovered)) (ends Failed status) h
 
     pub link-next : (next ≡ q .began → ⊥)
-        → calledOf (Asks (record { kind = Link; entry = q .entry; party = next; began = q .began; size = w .size; covered = q .covered })) ≡ failedLink n w (questionOf q []) status
+        → calledOf (Asks (record { kind = Link; entry = q .entry; party = next; began = q .began; size = w .size; uncovered = q .uncovered })) ≡ failedLink n w (questionOf q []) status
     unfolding failedLink questionOf linkRequest calledOf
     link-next h =
-        onward-next (questionOf q []) e k (λ place. linkRequest w (q .entry) place (q .began) (q .covered)) (ends Failed status) h
+        onward-next (questionOf q []) e k (λ place. linkRequest w (q .entry) place (q .began) (q .uncovered)) (ends Failed status) h
 
 -- any root request
 module _ {x : Called} (n : ℕ) (w : Core) (q : Asking) (status : ℕ) where
@@ -103,7 +104,7 @@ module _ (refs doms : List ℕ) (w : Core) (q : Asking) (status : ℕ) where
   failing : Kind → Called
   failing k =
       failed (cachesOf refs doms) w
-      (record { kind = k; entry = q .entry; party = q .party; began = q .began; size = q .size; tried = []; covered = q .covered })
+      (record { kind = k; entry = q .entry; party = q .party; began = q .began; size = q .size; tried = []; uncovered = q .uncovered })
       status
 
   kinded : {k : Kind} → q .kind ≡ k → failing k ≡ failed (cachesOf refs doms) w (questionOf q []) status

@@ -51,7 +51,7 @@ unfolding failed failedHost step6 linkRequest
 failed-untried c w q status = go (q .kind)
   where
     go : (k : Kind)
-        → Untried (failed c w (record { kind = k; entry = q .entry; party = q .party; began = q .began; size = q .size; tried = q .tried; covered = q .covered }) status)
+        → Untried (failed c w (record { kind = k; entry = q .entry; party = q .party; began = q .began; size = q .size; tried = q .tried; uncovered = q .uncovered }) status)
     go Dc = ended-bare NoDc status
     go Sysvol = ended-bare NoDc status
     go Io = ended-bare Failed status
@@ -60,7 +60,7 @@ failed-untried c w q status = go (q .kind)
         (chosen Untried (w .hit) (ended-bare Failed status) (ended-bare NotDfs 0))
         (onward-either Untried _ _ (λ place. step6 w place (q .began)) (ends NoDc pathNotFound) (λ place. asked-bare _ refl) (ended-bare NoDc pathNotFound))
     go Link =
-        onward-either Untried _ _ (λ place. linkRequest w (q .entry) place (q .began) (q .covered)) (ends Failed status) (λ place. asked-bare _ refl)
+        onward-either Untried _ _ (λ place. linkRequest w (q .entry) place (q .began) (q .uncovered)) (ends Failed status) (λ place. asked-bare _ refl)
         (ended-bare Failed status)
 
 pub quiet-fails : (c : Caches) (w : Core) (q : Question) (status : ℕ) → Quiet (referralFails c w q status)

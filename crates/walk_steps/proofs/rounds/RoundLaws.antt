@@ -116,7 +116,7 @@ in-use-same c path size more hit other q tried others = go (q .kind)
   where
     at : Kind → ℕ → Bool → List ℕ → Bool
     at k s h t =
-        inUse c (coreOf path s h) (record { kind = k; entry = q .entry; party = q .party; began = q .began; size = q .size; tried = t; covered = q .covered })
+        inUse c (coreOf path s h) (record { kind = k; entry = q .entry; party = q .party; began = q .began; size = q .size; tried = t; uncovered = q .uncovered })
 
     go : (k : Kind) → at k size hit tried ≡ at k more other others
     go Dc = refl
@@ -130,7 +130,7 @@ module _ (refs doms path : List ℕ) (q : Asking) where
   asked : Kind → Bool
   asked k =
       inUse (cachesOf refs doms) (coreOf path 0 true)
-      (record { kind = k; entry = q .entry; party = q .party; began = q .began; size = q .size; tried = []; covered = q .covered })
+      (record { kind = k; entry = q .entry; party = q .party; began = q .began; size = q .size; tried = []; uncovered = q .uncovered })
 
   kinded : {k : Kind} → q .kind ≡ k → inUse (cachesOf refs doms) (coreOf path 0 true) (questionOf q []) ≡ asked k
   unfolding questionOf asked

@@ -27,7 +27,7 @@ use Rattle.cache_lookup.specs.declared.Found.{Found}
 use Rattle.cache_lookup.specs.declared.Found.the-variants.{At, Nothing}
 use Rattle.walk_steps.specs.steps.Steps.{Core, Question, waits, ended, rests, asking}
 use Rattle.walk_steps.specs.steps.Held.{askingOf, nextOf, triedOf}
-use Rattle.walk_steps.specs.steps.Code.{restedOf, endedAt, askedAt, restAt, domainAsking, rootAt, rootIn}
+use Rattle.walk_steps.specs.steps.Code.{restedOf, endedAt, askedAt, restedAt, domainAsking, rootAt, rootIn}
 use Rattle.walk_steps.specs.declared.steps.Kind.{Kind}
 use Rattle.walk_steps.specs.declared.steps.End.{End}
 use Rattle.walk_steps.specs.declared.steps.End.the-variants.{LimitReached, TooLong}
@@ -49,13 +49,13 @@ module _ (q : Asking) (path left : ℕ) (hit : Bool) where
 
 -- the rest at a next move
 module _ {r : Rested} (next : Next) (path left : ℕ) (hit : Bool) where
-  pub rests-asked : (q : Asking) → next ≡ Asks q → r ≡ askedAt q path left hit → r ≡ restAt next path left hit
-  unfolding restAt
-  rests-asked q h e = e ∙ sym (ap (λ (n : Next). restAt n path left hit) h)
+  pub rests-asked : (q : Asking) → next ≡ Asks q → r ≡ askedAt q path left hit → r ≡ restedAt next path left hit
+  unfolding restedAt
+  rests-asked q h e = e ∙ sym (ap (λ (n : Next). restedAt n path left hit) h)
 
-  pub rests-ended : (e : End) (status : ℕ) → next ≡ Ends e status → r ≡ endedAt e status path left hit → r ≡ restAt next path left hit
-  unfolding restAt
-  rests-ended e status h f = f ∙ sym (ap (λ (n : Next). restAt n path left hit) h)
+  pub rests-ended : (e : End) (status : ℕ) → next ≡ Ends e status → r ≡ endedAt e status path left hit → r ≡ restedAt next path left hit
+  unfolding restedAt
+  rests-ended e status h f = f ∙ sym (ap (λ (n : Next). restedAt n path left hit) h)
 
 -- it is what the steps do with a question that has no path tried
 pub asked-rests : (left : ℕ) (w : Core) (q : Question) → q .tried ≡ [] → askedAt (askingOf q) (length (w .path)) left (w .hit) ≡ restedOf (asking left w q)
@@ -123,9 +123,9 @@ pub first-part : (path : List ℕ) (ps : List (Place Referral)) {n : ℕ} {f : F
 first-part path ps e h = h ∙ ((λ j. withKey referrals (take (e j) path) ps) ∙ ap (λ (x : List ℕ). withKey referrals x ps) (spans 2 path .begin))
 
 pub domain-asking : (kind : Kind) (path : List ℕ) (party size : ℕ) {n : ℕ} → n ≡ length (firstOf 1 path)
-    → record { kind = kind; entry = n; party = party; began = party; size = size; covered = false } ≡ domainAsking kind path party size
+    → record { kind = kind; entry = n; party = party; began = party; size = size; uncovered = false } ≡ domainAsking kind path party size
 unfolding domainAsking
-domain-asking kind path party size e = λ j. record { kind = kind; entry = e j; party = party; began = party; size = size; covered = false }
+domain-asking kind path party size e = λ j. record { kind = kind; entry = e j; party = party; began = party; size = size; uncovered = false }
 
 -- numbers that fit a unit
 pub prefix-within : (i : ℕ) (raw : List ℕ) → length (entryAt referrals i raw .prefix) ≤ 256

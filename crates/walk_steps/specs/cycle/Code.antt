@@ -32,8 +32,8 @@ pub record Packed : Type 0 where
   pub rested : Rested
   pub texts : List ℕ
 
-abbrev pub joined : Rested → List ℕ → Packed
-joined r texts = record { rested = r; texts = texts }
+abbrev pub restedWith : Rested → List ℕ → Packed
+restedWith r texts = record { rested = r; texts = texts }
 
 unfoldable pub packed : Resting → Packed
 packed x = record { rested = restedOf x; texts = textsOf (x .core .path) (triedOf (x .rest)) }
@@ -126,18 +126,18 @@ pub record Parts (what i : ℕ) (hit : Bool) (len left n : ℕ) : Type 0 where
 -- The questions that try no path: a request that names the domain, by its kind and its DC; and all.
 unfoldable pub domainRequest : Kind → Core → ℕ → Question
 domainRequest kind w i =
-    record { kind = kind; entry = length (firstOf 1 (w .path)); party = i; began = i; size = w .size; tried = []; covered = false }
+    record { kind = kind; entry = length (firstOf 1 (w .path)); party = i; began = i; size = w .size; tried = []; uncovered = false }
 
-unfoldable pub kindAt : ℕ → List ℕ → Kind
-kindAt what path = choose (eqb what askDc) Dc (choose (isSysvol path) Sysvol Root)
+unfoldable pub kindOfCase : ℕ → List ℕ → Kind
+kindOfCase what path = choose (eqb what askDc) Dc (choose (isSysvol path) Sysvol Root)
 
 abbrev pub linkAt : Core → List ℕ → ℕ → Question
 linkAt w refs i =
     linkRequest w (length (entryAt referrals i refs .prefix)) (entryAt referrals i refs .hint) (entryAt referrals i refs .hint) false
 
-unfoldable pub questionAt : List ℕ → Core → ℕ → ℕ → Question
-questionAt refs w i what =
-    choose (eqb what askLink) (linkAt w refs i) (choose (eqb what askHost) (step6Host w) (domainRequest (kindAt what (w .path)) w i))
+unfoldable pub questionOfCase : List ℕ → Core → ℕ → ℕ → Question
+questionOfCase refs w i what =
+    choose (eqb what askLink) (linkAt w refs i) (choose (eqb what askHost) (step6Host w) (domainRequest (kindOfCase what (w .path)) w i))
 
 -- What a case calls for; step 2 brings a hit besides.
 unfoldable pub calledAt : List ℕ → List ℕ → Core → ℕ → ℕ → Called
@@ -147,7 +147,7 @@ calledAt refs doms w i what =
     (choose (eqb what due7) (step7 w (entryAt referrals i refs))
     (choose (eqb what due11) (replaces (step11 w (entryAt referrals i refs)))
     (choose (eqb what toTry) (asks (step3 w (entryAt referrals i refs)))
-    (choose (eqb what tooLong) (stops TooLong 0 []) (asks (questionAt refs w i what)))))))
+    (choose (eqb what tooLong) (stops TooLong 0 []) (asks (questionOfCase refs w i what)))))))
 
 unfoldable pub turnAt : List ℕ → List ℕ → ℕ → Core → ℕ → ℕ → Turn
 turnAt refs doms clock w i what =
@@ -176,7 +176,7 @@ pub record Halted (refs texts : List ℕ) (n : ℕ) : Type 0 where
   pub last : whatOf n ≡ due11 → leftOf n ≡ 0
 
 -- a step without a move: the steps come to the same rest from point r as from point n
-pub record Follows (refs doms : List ℕ) (clock : ℕ) (texts : List ℕ) (n r : ℕ) : Type 0 where
+pub record SameSteps (refs doms : List ℕ) (clock : ℕ) (texts : List ℕ) (n r : ℕ) : Type 0 where
   pub same : (size : ℕ) → stepsAt refs doms size clock r texts ≡ stepsAt refs doms size clock n texts
   pub point : Point refs texts r
   pub left : leftOf r ≡ leftOf n

@@ -8,7 +8,8 @@ use Rattle.laws.specs.Choice.{choose}
 use Rattle.unc.specs.names.Paths.{components}
 use Rattle.cache.specs.order.Memory.{referrals, domains, decode}
 use Rattle.cache_store.specs.entry_after_reply.Stored.{prefixed}
-use Rattle.walk_steps.specs.steps.Steps.{Core, Question, Called, stops, ends, asks, replaces, Resting, ended, rests, asking, dcCount, targetCount, domainNamed, isThere, onward, step6, linkRequest, failedHost, bufferOverflow, mostSize, pathNotFound}
+use Rattle.reply_read.specs.referral.Request.{mostSize}
+use Rattle.walk_steps.specs.steps.Steps.{Core, Question, Called, stops, ends, asks, replaces, Resting, ended, rests, asking, dcCount, targetCount, domainNamed, isThere, onward, step6, linkRequest, failedHost, bufferOverflow, pathNotFound}
 use Rattle.walk_steps.specs.declared.steps.End.the-variants.{LimitReached, NoDc, Failed}
 
 -- where the steps rest at an end or a question; failures call for nothing else
@@ -43,4 +44,4 @@ unfoldable pub failedRoot : ℕ → Core → Question → ℕ → Called
 failedRoot n w q status = choose (eqb (q .entry) 0) (failedHost w status) (failedDc n w q)
 
 unfoldable pub failedLink : ℕ → Core → Question → ℕ → Called
-failedLink n w q status = onward n q (λ place. linkRequest w (q .entry) place (q .began) (q .covered)) (ends Failed status)
+failedLink n w q status = onward n q (λ place. linkRequest w (q .entry) place (q .began) (q .uncovered)) (ends Failed status)

@@ -41,9 +41,9 @@ askedAt q path left hit =
     choose (eqb left 0) (endedAt LimitReached 0 path left hit) (record { next = Asks q; path = path; tried = 0; left = left - 1; hit = hit })
 
 -- where the steps rest at a next move that tries no path
-unfoldable pub restAt : Next → ℕ → ℕ → Bool → Rested
-restAt (Asks q) path left hit = askedAt q path left hit
-restAt (Ends e status) path left hit = endedAt e status path left hit
+unfoldable pub restedAt : Next → ℕ → ℕ → Bool → Rested
+restedAt (Asks q) path left hit = askedAt q path left hit
+restedAt (Ends e status) path left hit = endedAt e status path left hit
 
 -- what a next move is, called for
 unfoldable pub calledOf : Next → Called
@@ -57,7 +57,7 @@ coreAt g texts = coreOf (take (g .len) texts) (g .size) (g .hit)
 -- a request that names the domain of the path's first component
 unfoldable pub domainAsking : Kind → List ℕ → ℕ → ℕ → Asking
 domainAsking kind path party size =
-    record { kind = kind; entry = length (firstOf 1 path); party = party; began = party; size = size; covered = false }
+    record { kind = kind; entry = length (firstOf 1 path); party = party; began = party; size = size; uncovered = false }
 
 -- the root entry that step 9 asks
 unfoldable pub rootAt : List ℕ → Found → Found

@@ -18,7 +18,7 @@ coreOf path size hit = record { path = path; size = size; hit = hit }
 
 -- a question, its path tried apart
 unfoldable pub askingOf : Question → Asking
-askingOf q = record { kind = q .kind; entry = q .entry; party = q .party; began = q .began; size = q .size; covered = q .covered }
+askingOf q = record { kind = q .kind; entry = q .entry; party = q .party; began = q .began; size = q .size; uncovered = q .uncovered }
 
 -- the next move of a walk at rest
 unfoldable pub nextOf : Rest → Next
@@ -39,5 +39,5 @@ questionOf q tried = record {
   began = q .began;
   size = q .size;
   tried = tried;
-  covered = q .covered;
+  uncovered = q .uncovered;
 }

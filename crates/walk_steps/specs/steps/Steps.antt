@@ -26,6 +26,7 @@ use Rattle.cache.specs.order.Memory.{referrals, domains}
 use Rattle.cache_lookup.specs.Lookup.{longestMatch, withKey, expired, targetPath, targetHinted, dcHinted}
 use Rattle.cache_lookup.specs.declared.Found.{Found}
 use Rattle.cache_lookup.specs.declared.Found.the-variants.{At, Nothing}
+use Rattle.reply_read.specs.referral.Request.{mostSize}
 use Rattle.reply_read.specs.referral.Replies as replies
 use Rattle.reply_read.specs.referral.Replies.{malformed, nothing, says, readReferral}
 use Rattle.reply_read.specs.name_lists.NameLists.{readDcs}
@@ -60,7 +61,7 @@ endNumber Gone = 27
 
 -- A question of a kind (`ask=` of the program `walk`: dc, root, link, sysvol, io). `entry` is how many units of the path name the entry in use: a domain (dc, root, sysvol) or a prefix (link, io); 0 for a
 -- root request to a host. `party` is the place of the DC or target asked, `began` the place where its round began, `size` the size asked,
--- `tried` the path of an I/O try; `covered` says that a link request came of PATH_NOT_COVERED.
+-- `tried` the path of an I/O try; `uncovered` says that a link request came of PATH_NOT_COVERED.
 pub record Question : Type 0 where
   pub kind : Kind
   pub entry : ℕ
@@ -68,7 +69,7 @@ pub record Question : Type 0 where
   pub began : ℕ
   pub size : ℕ
   pub tried : List ℕ
-  pub covered : Bool
+  pub uncovered : Bool
 
 -- What the steps call for: an end with its status and the path tried (end 20 has one), a question, or step 11's new path.
 pub data Called : Type 0 where
@@ -119,7 +120,7 @@ step8 w e place began = record {
   began = began;
   size = 0;
   tried = replaced (targetPath place e) (length (e .prefix)) (w .path);
-  covered = false;
+  uncovered = false;
 }
 
 unfoldable pub step3 : Core → Referral → Question
@@ -140,20 +141,20 @@ step7 w e = choose (e .settings .root) (asks (step3 w e)) (step4 w e)
 -- Step 6, through a domain: a root request to one of its DCs, in a round that began at `began`. The name of the domain is the path's first component.
 unfoldable pub step6 : Core → ℕ → ℕ → Question
 step6 w place began =
-    record { kind = Root; entry = length (firstOf 1 (w .path)); party = place; began = began; size = w .size; tried = []; covered = false }
+    record { kind = Root; entry = length (firstOf 1 (w .path)); party = place; began = began; size = w .size; tried = []; uncovered = false }
 
 -- Step 6, with the first component as the host's name.
 unfoldable pub step6Host : Core → Question
-step6Host w = record { kind = Root; entry = 0; party = 0; began = 0; size = w .size; tried = []; covered = false }
+step6Host w = record { kind = Root; entry = 0; party = 0; began = 0; size = w .size; tried = []; uncovered = false }
 
 -- Step 10: a SYSVOL request to the DC hinted at.
 unfoldable pub step10 : Core → Domain → Question
 step10 w d =
-    record { kind = Sysvol; entry = length (firstOf 1 (w .path)); party = d .hint; began = d .hint; size = w .size; tried = []; covered = false }
+    record { kind = Sysvol; entry = length (firstOf 1 (w .path)); party = d .hint; began = d .hint; size = w .size; tried = []; uncovered = false }
 
 -- Step 5.2: a domain. Without a DC a DC request to the bootstrap DC; then SYSVOL and NETLOGON go to step 10, any other path to step 6.
 unfoldable pub dcRequest : Core → Question
-dcRequest w = record { kind = Dc; entry = length (firstOf 1 (w .path)); party = 0; began = 0; size = w .size; tried = []; covered = false }
+dcRequest w = record { kind = Dc; entry = length (firstOf 1 (w .path)); party = 0; began = 0; size = w .size; tried = []; uncovered = false }
 
 unfoldable pub step5Domain : Core → Domain → Question
 step5Domain w d =
@@ -170,8 +171,8 @@ step5 ds w = step5With w (domainNamed (getD (components (w .path)) 0 []) ds)
 
 -- Step 9: an expired link is asked for at the targets of the root entry of exactly the first two components; without one, step 5.
 unfoldable pub linkRequest : Core → ℕ → ℕ → ℕ → Bool → Question
-linkRequest w entry place began covered =
-    record { kind = Link; entry = entry; party = place; began = began; size = w .size; tried = []; covered = covered }
+linkRequest w entry place began uncovered =
+    record { kind = Link; entry = entry; party = place; began = began; size = w .size; tried = []; uncovered = uncovered }
 
 unfoldable pub step9With : Caches → Core → Option Referral → Question
 step9With c w none = step5 (c .domains) w
@@ -276,9 +277,6 @@ unfoldable pub onward : ℕ → Question → (ℕ → Question) → Called → C
 onward n q ask exhausted = choose (eqb (nextPlace n (q .party)) (q .began)) exhausted (asks (ask (nextPlace n (q .party))))
 
 -- A referral that fails (severity 2 or 3). 0x80000005 first asks the same party again with the size doubled, at most 57,344.
-abbrev pub mostSize : ℕ
-mostSize = 57344
-
 unfoldable pub doubled : Question → Question
 doubled q = record {
   kind = q .kind;
@@ -287,7 +285,7 @@ doubled q = record {
   began = q .began;
   size = min (2 * q .size) mostSize;
   tried = q .tried;
-  covered = q .covered;
+  uncovered = q .uncovered;
 }
 
 -- "SYSVOL and DC requests try one party; its failure ends 22 with its status. DCs exhausted: end 22 with 0xC000003A. Targets exhausted: end 23 with
@@ -305,7 +303,7 @@ failed c w q status = failing (q .kind)
         choose (eqb (q .entry) 0) (failedHost w status)
         (onward (partyCount c w q) q (λ place. step6 w place (q .began)) (step13 pathNotFound))
     failing Link =
-        onward (partyCount c w q) q (λ place. linkRequest w (q .entry) place (q .began) (q .covered)) (step14 status)
+        onward (partyCount c w q) q (λ place. linkRequest w (q .entry) place (q .began) (q .uncovered)) (step14 status)
     -- cannot come: an I/O try has an answer of its own
     failing Io = step14 status
 
@@ -368,8 +366,8 @@ dcAnswer c w (says names) =
     record { caches = dcsIn c w names; core = withHit true w; called = asks (step5 (dcsIn c w names .domains) (withHit true w)) }
 
 -- Step 8.1.2, after PATH_NOT_COVERED: "a reply of kind root, or a prefix no longer than that in use, ends 23 with 0xC0000257 and stores nothing".
-unfoldable pub coversNothing : Question → replies.Referral → Bool
-coversNothing q r = q .covered && (r .root || leb (length (r .prefix)) (q .entry))
+unfoldable pub coversNothing : Question → replies.ReferralReply → Bool
+coversNothing q r = q .uncovered && (r .root || leb (length (r .prefix)) (q .entry))
 
 -- A root, link or SYSVOL reply that is stored: the hint of the party that answered, then the entry. The entry just stored is the one in use:
 -- SYSVOL goes to step 3, root and link replies to step 3 or 4 by their kind.
@@ -381,7 +379,7 @@ afterStore Sysvol w e = asks (step3 w e)
 afterStore Dc w e = step7 w e
 afterStore Io w e = step7 w e
 
-unfoldable pub storedTurn : Caches → Core → Question → replies.Referral → ℕ → Turn
+unfoldable pub storedTurn : Caches → Core → Question → replies.ReferralReply → ℕ → Turn
 storedTurn c w q r clock =
     record {
       caches = withReferrals (stored r (isInterlink r (c .domains)) clock (c .referrals)) c;
@@ -389,7 +387,7 @@ storedTurn c w q r clock =
       called = afterStore (q .kind) w (storedEntry (prefixed (r .prefix) (c .referrals)) r (isInterlink r (c .domains)) clock);
     }
 
-unfoldable pub referralAnswer : Caches → Core → Question → ℕ → replies.Reply replies.Referral → Turn
+unfoldable pub referralAnswer : Caches → Core → Question → ℕ → replies.Reply replies.ReferralReply → Turn
 referralAnswer c w q clock malformed = record { caches = c; core = w; called = ends Malformed 0 }
 referralAnswer c w q clock nothing = record { caches = c; core = w; called = ends (emptyEnd (q .kind)) pathNotFound }
 referralAnswer c w q clock (says r) =

@@ -11,19 +11,19 @@ use Rattle.cache_lookup.specs.Code.{entryAt}
 use Rattle.walk_steps.specs.walk_texts.Code.{Standing}
 use Rattle.walk_steps.specs.steps.Steps.{Core, Called, asks, ends, goes, turned, withHit, step5, afterStore}
 use Rattle.walk_steps.specs.steps.Held.{cachesOf, coreOf}
-use Rattle.walk_steps.specs.steps.Code.{coreAt, restAt}
+use Rattle.walk_steps.specs.steps.Code.{coreAt, restedAt}
 use Rattle.walk_steps.specs.declared.steps.Kind.{Kind}
 use Rattle.walk_steps.specs.declared.steps.Kind.the-variants.{Dc, Root, Link, Sysvol, Io}
 use Rattle.walk_steps.specs.declared.steps.End.{End}
 use Rattle.walk_steps.specs.declared.steps.Next.the-variants as next
 use Rattle.walk_steps.specs.declared.steps.Progress.{Progress}
 use Rattle.walk_steps.specs.declared.steps.Rested.{Rested}
-use Rattle.walk_steps.specs.cycle.Code.{Packed, joined, packed, calledAfter}
+use Rattle.walk_steps.specs.cycle.Code.{Packed, restedWith, packed, calledAfter}
 use Rattle.walk_steps.proofs.cycle.MoveLaws.{packed-end, goes-stops}
 use Rattle.walk_store.specs.declared.party_hint.Hinted.{Hinted}
 use Rattle.walk_store.specs.declared.reply_taken.Taken.{Taken}
 use Rattle.walk_store.specs.declared.reply_taken.Taken.the-variants.{Ends, Dcs, Entry}
-use Rattle.walk_store.specs.party_hint.Code.{Lent, lent, unhinted}
+use Rattle.walk_store.specs.party_hint.Code.{Lent, lentCaches, unhinted}
 use Rattle.walk_store.specs.reply_taken.Code.{takenTurn, putBack}
 use Rattle.walk_store.specs.after_reply.Code.{isForSysvol}
 
@@ -65,8 +65,8 @@ module _ (refs doms rooms : List ℕ) (g : Progress) (kind : Kind) (t : Taken) w
   as-taken : {x : Taken} → t ≡ x → packed (turned (g .left) (g .clock) (takenTurn (coreAt g rooms) kind x refs doms)) ≡ rest
   as-taken h = ap (λ (x : Taken). packed (turned (g .left) (g .clock) (takenTurn (coreAt g rooms) kind x refs doms))) (sym h)
 
-  pub on-ends : Standing (g .len) rooms → (e : End) (status : ℕ) {r : Rested} → t ≡ Ends e status → r ≡ restAt (next.Ends e status) (g .len) (g .left) (g .hit) → joined r rooms ≡ rest
-  unfolding turned takenTurn restAt
+  pub on-ends : Standing (g .len) rooms → (e : End) (status : ℕ) {r : Rested} → t ≡ Ends e status → r ≡ restedAt (next.Ends e status) (g .len) (g .left) (g .hit) → restedWith r rooms ≡ rest
+  unfolding turned takenTurn restedAt
   on-ends s e status h k =
       packed-end (g .len) rooms s e status (g .left) (g .size) (g .hit) k
       ∙ (ap packed (sym (goes-stops (g .left) (cachesOf refs doms) (g .clock) (coreAt g rooms) e status [])) ∙ as-taken h)
@@ -93,13 +93,13 @@ module _ (t : Taken) (saved refs doms : List ℕ) where
   as-put : {x : Taken} → t ≡ x → putBack x saved refs doms ≡ putBack t saved refs doms
   as-put h = ap (λ (x : Taken). putBack x saved refs doms) (sym h)
 
-  pub back-ends : {e : End} {status : ℕ} → t ≡ Ends e status → lent refs doms ≡ putBack t saved refs doms
+  pub back-ends : {e : End} {status : ℕ} → t ≡ Ends e status → lentCaches refs doms ≡ putBack t saved refs doms
   unfolding putBack
   back-ends h = as-put h
 
-  pub back-dcs : {i : ℕ} {m : List ℕ} → t ≡ Dcs i → m ≡ changed i (λ q. saved) doms → lent refs m ≡ putBack t saved refs doms
+  pub back-dcs : {i : ℕ} {m : List ℕ} → t ≡ Dcs i → m ≡ changed i (λ q. saved) doms → lentCaches refs m ≡ putBack t saved refs doms
   unfolding putBack
-  back-dcs h e = (λ j. lent refs (e j)) ∙ as-put h
+  back-dcs h e = (λ j. lentCaches refs (e j)) ∙ as-put h
 
   pub back-entry : {i : ℕ} {a : Hinted} {m : List ℕ} {x : Lent} → t ≡ Entry i a → m ≡ changed i (λ q. saved) refs → x ≡ unhinted a m doms → x ≡ putBack t saved refs doms
   unfolding putBack

@@ -26,7 +26,7 @@ use Rattle.walk_steps.specs.declared.steps.Kind.the-variants.{Dc, Root, Link, S
 use Rattle.walk_steps.specs.declared.steps.End.{End}
 use Rattle.walk_steps.specs.declared.steps.End.the-variants.{TooLong}
 use Rattle.walk_steps.specs.declared.steps.Rested.{Rested}
-use Rattle.walk_steps.specs.cycle.Code.{Packed, joined, packed}
+use Rattle.walk_steps.specs.cycle.Code.{Packed, restedWith, packed}
 use Rattle.walk_steps.specs.question_request.Questions.{requestName, nameFits, restFits}
 use Rattle.walk_steps.specs.question_request.Code.{nextUnits, named}
 use Rattle.walk_steps.proofs.question_request.NameLaws.{rest-fits}
@@ -73,7 +73,7 @@ kept-goes (suc n) c clock w (replaces p) h = go (told (leb (length p) pathUnits)
     go (inr t) f = subst (Kept (suc n) w) (sym (choose-no _ _ t)) (kept-same (suc n) w (ended TooLong 0 []) h)
 
 -- a rest, by its numbers and its rooms
-module _ (x : Resting) (r : Rested) (rooms : List ℕ) (e : joined r rooms ≡ packed x) where
+module _ (x : Resting) (r : Rested) (rooms : List ℕ) (e : restedWith r rooms ≡ packed x) where
   pub rested-is : r ≡ restedOf x
   unfolding packed
   rested-is = ap (λ (p : Packed). p .rested) e

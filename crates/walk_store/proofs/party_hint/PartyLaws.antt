@@ -30,7 +30,7 @@ use Rattle.walk_store.specs.declared.party_hint.Hinted.{Hinted}
 use Rattle.walk_store.specs.declared.party_hint.Hinted.the-variants.{Unset, Target, Dc}
 use Rattle.walk_store.specs.declared.party_hint.HintOf.{HintOf}
 use Rattle.walk_store.specs.declared.party_hint.HintOf.the-variants.{Nobody, Targets, Dcs}
-use Rattle.walk_store.specs.party_hint.Code.{whoseOf, Lent, lent, unhinted, Unhintable, Hinting, Using}
+use Rattle.walk_store.specs.party_hint.Code.{whoseOf, Lent, lentCaches, unhinted, Unhintable, Hinting, Using}
 use Rattle.walk_store.proofs.party_hint.HintLaws.{target-held, target-order, target-fits, target-below, target-back, dc-held, dc-order, dc-fits, dc-below, dc-back}
 
 -- whose hint it is
@@ -140,7 +140,7 @@ module _ (refs path : List ℕ) (q : Asking) (order : inOrder referrals refs ≡
       unfolding unhinted cachesOf
       target-set size hit o = record {
         caches = (λ j. record { referrals = target-held refs i (q .party) order link-fits link-below a j; domains = decode domains doms }) ∙ set-is size hit;
-        back = λ j. lent (target-back refs i (q .party) order link-fits link-below a x refl j) doms;
+        back = λ j. lentCaches (target-back refs i (q .party) order link-fits link-below a x refl j) doms;
         refs-order = target-order refs i (q .party) order link-fits link-below a;
         doms-order = o;
         able = target-able;
@@ -184,7 +184,7 @@ module _ (doms path : List ℕ) (q : Asking) (order : inOrder domains doms ≡ t
       unfolding unhinted cachesOf
       dc-set size hit o = record {
         caches = (λ j. record { referrals = decode referrals refs; domains = dc-held doms i (q .party) order through-fits through-below a j }) ∙ through-is size hit;
-        back = λ j. lent refs (dc-back doms i (q .party) order through-fits through-below a x refl j);
+        back = λ j. lentCaches refs (dc-back doms i (q .party) order through-fits through-below a x refl j);
         refs-order = o;
         doms-order = dc-order doms i (q .party) order through-fits through-below a;
         able = dc-able;
@@ -193,7 +193,7 @@ module _ (doms path : List ℕ) (q : Asking) (order : inOrder domains doms ≡ t
 -- the hint, by the kind of the question
 module _ (c : Caches) (w : Core) (q : Asking) where
   asked : Kind → Question
-  asked k = record { kind = k; entry = q .entry; party = q .party; began = q .began; size = q .size; tried = []; covered = q .covered }
+  asked k = record { kind = k; entry = q .entry; party = q .party; began = q .began; size = q .size; tried = []; uncovered = q .uncovered }
 
   hint-kinded : {k : Kind} → q .kind ≡ k → hintSet c w (asked k) ≡ hintSet c w (questionOf q [])
   unfolding questionOf asked
@@ -300,14 +300,14 @@ module _ (refs doms path : List ℕ) (q : Asking) (u : Using refs doms path q) {
 
 -- the hint taken back
 module _ (h : Hinted) (refs doms : List ℕ) where
-  pub back-none : h ≡ Unset → lent refs doms ≡ unhinted h refs doms
+  pub back-none : h ≡ Unset → lentCaches refs doms ≡ unhinted h refs doms
   unfolding unhinted
   back-none e = ap (λ (k : Hinted). unhinted k refs doms) (sym e)
 
-  pub back-target : {i old : ℕ} {m : List ℕ} → h ≡ Target i old → m ≡ encode referrals (targetHinted i old (decode referrals refs)) → lent m doms ≡ unhinted h refs doms
+  pub back-target : {i old : ℕ} {m : List ℕ} → h ≡ Target i old → m ≡ encode referrals (targetHinted i old (decode referrals refs)) → lentCaches m doms ≡ unhinted h refs doms
   unfolding unhinted
-  back-target e a = (λ j. lent (a j) doms) ∙ ap (λ (k : Hinted). unhinted k refs doms) (sym e)
+  back-target e a = (λ j. lentCaches (a j) doms) ∙ ap (λ (k : Hinted). unhinted k refs doms) (sym e)
 
-  pub back-dc : {i old : ℕ} {m : List ℕ} → h ≡ Dc i old → m ≡ encode domains (dcHinted i old (decode domains doms)) → lent refs m ≡ unhinted h refs doms
+  pub back-dc : {i old : ℕ} {m : List ℕ} → h ≡ Dc i old → m ≡ encode domains (dcHinted i old (decode domains doms)) → lentCaches refs m ≡ unhinted h refs doms
   unfolding unhinted
-  back-dc e a = (λ j. lent refs (a j)) ∙ ap (λ (k : Hinted). unhinted k refs doms) (sym e)
+  back-dc e a = (λ j. lentCaches refs (a j)) ∙ ap (λ (k : Hinted). unhinted k refs doms) (sym e)

@@ -111,7 +111,7 @@ first-shut [] h = refl
 first-shut (t ∷ ts) h = ap not (h t ts refl)
 
 -- the entry that the reply makes is good
-fresh-good : (asked : List ℕ) (x : replies.Referral) → Sound asked x → every pathGood (x .targets) ≡ true → goodReferral (fresh x false 0) ≡ true
+fresh-good : (asked : List ℕ) (x : replies.ReferralReply) → Sound asked x → every pathGood (x .targets) ≡ true → goodReferral (fresh x false 0) ≡ true
 unfolding fresh goodPrefix
 fresh-good asked x s g =
     good-referral _

@@ -56,7 +56,7 @@ use Rattle.walk_store.specs.declared.reply_taken.Said.{Said}
 use Rattle.walk_store.specs.declared.reply_taken.Said.the-variants.{Stops, Stores}
 use Rattle.walk_store.specs.declared.reply_taken.Awaited.{Awaited}
 use Rattle.walk_store.specs.declared.reply_taken.Awaited.the-variants as awaited
-use Rattle.walk_store.specs.party_hint.Code.{Lent, lent, unhinted, Unhintable, Hinting, Using}
+use Rattle.walk_store.specs.party_hint.Code.{Lent, lentCaches, unhinted, Unhintable, Hinting, Using}
 use Rattle.walk_store.specs.reply_taken.Code.{awaitedBy, NamedIn, coversNoMore, saidOf, savedIn, takenTurn, putBack, CanPutBack, TakenIn}
 use Rattle.walk_store.proofs.reply_taken.PlaceLaws.{place-inside, more-stored, more-order, entry-there, more-fits, more-usable, more-back, dcs-decoded, dcs-order, dcs-inside, dcs-back}
 use Rattle.walk_store.proofs.reply_taken.SaidLaws.{first-whole, said-storable, said-matches}
@@ -85,14 +85,14 @@ module _ (k : Kind) where
 
 -- step 8.1.2, by numbers
 module _ (q : Asking) (root : Bool) (units : ℕ) where
-  pub cover-off : not (q .covered) ≡ true → false ≡ coversNoMore q root units
+  pub cover-off : not (q .uncovered) ≡ true → false ≡ coversNoMore q root units
   unfolding coversNoMore
-  cover-off h = sym (ap (λ (b : Bool). b && (root || leb units (q .entry))) (not-true (q .covered) h))
+  cover-off h = sym (ap (λ (b : Bool). b && (root || leb units (q .entry))) (not-true (q .uncovered) h))
 
-  module _ (h : not (q .covered) ≡ false) where
+  module _ (h : not (q .uncovered) ≡ false) where
     cover-on : (root || leb units (q .entry)) ≡ coversNoMore q root units
     unfolding coversNoMore
-    cover-on = sym (ap (λ (b : Bool). b && (root || leb units (q .entry))) (not-false (q .covered) h))
+    cover-on = sym (ap (λ (b : Bool). b && (root || leb units (q .entry))) (not-false (q .uncovered) h))
 
     pub cover-root : root ≡ true → true ≡ coversNoMore q root units
     cover-root g = sym (ap (λ (b : Bool). b || leb units (q .entry)) g) ∙ cover-on
@@ -183,7 +183,7 @@ hint-in (Entry i h) = h
 abbrev pub Takes : Core → Kind → List ℕ → List ℕ → List ℕ → Taken → List ℕ → List ℕ → List ℕ → List ℕ → Turn → Type 0
 Takes w k path refs doms t saved after more then turn =
     (takenTurn w k t more then ≡ turn)
-    × ((length saved ≡ 2336 → putBack t after more then ≡ lent refs doms) × TakenIn (length saved) t after path more then)
+    × ((length saved ≡ 2336 → putBack t after more then ≡ lentCaches refs doms) × TakenIn (length saved) t after path more then)
 
 -- nothing is stored
 pub ends-taken : (w : Core) (k : Kind) (path refs doms saved : List ℕ) (e : End) (status : ℕ) {turn : Turn} → inOrder referrals refs ≡ true → inOrder domains doms ≡ true
@@ -252,7 +252,7 @@ module _ (refs doms path : List ℕ) (size clock : ℕ) (hit : Bool) (q : Asking
     place-back : length saved ≡ 2336 → changed place (λ q. after) last ≡ more
     place-back n = more-back more order reply f s link clock path m p e (v ∙ saved-is place more saved n)
 
-    entry-back : length saved ≡ 2336 → putBack (Entry place h) after last then ≡ lent refs doms
+    entry-back : length saved ≡ 2336 → putBack (Entry place h) after last then ≡ lentCaches refs doms
     unfolding putBack
     entry-back n = ap (λ (x : List ℕ). unhinted h x then) (place-back n) ∙ a size hit .back
 
@@ -295,7 +295,7 @@ module _ (refs doms path : List ℕ) (size clock : ℕ) (hit : Bool) (q : Asking
     (d : denoted reply f ≡ readReferral (q .size) (take name path) reply) {x : Said} (y : x ≡ saidOf q (f .answer) (f .root) (f .prefix .units)) where
   cover-is : coversNoMore q (f .root) (f .prefix .units) ≡ coversNothing (questionOf q []) (referralShown reply f)
   unfolding coversNoMore coversNothing questionOf referralShown
-  cover-is = λ j. q .covered && (f .root || leb (sym (length-spanned reply (f .prefix)) j) (q .entry))
+  cover-is = λ j. q .uncovered && (f .root || leb (sym (length-spanned reply (f .prefix)) j) (q .entry))
 
   abbrev turn : Turn
   turn = referralAnswer (cachesOf refs doms) (coreOf path size hit) (questionOf q []) clock (readReferral (q .size) (take name path) reply)
@@ -426,7 +426,7 @@ module _ (refs doms path : List ℕ) (size : ℕ) (hit : Bool) (q : Asking) (u :
         dcs-taken = (
           dcs-turn,
           (
-            λ n. (λ j. lent refs (dcs-back doms i (domain-at i z) reply f storable m (v ∙ saved-is i doms saved n) j)),
+            λ n. (λ j. lentCaches refs (dcs-back doms i (domain-at i z) reply f storable m (v ∙ saved-is i doms saved n) j)),
             record {
               refs-order = u .refs-order;
               doms-order = dcs-order doms i (domain-at i z) reply f storable m;
@@ -443,13 +443,13 @@ module _ (refs doms path : List ℕ) (size : ℕ) (hit : Bool) (q : Asking) (u :
 -- by the kind of the question
 module _ (c : Caches) (path : List ℕ) (size : ℕ) (hit : Bool) (q : Asking) (reply : List ℕ) (clock : ℕ) where
   of : Kind → Question
-  of k = record { kind = k; entry = q .entry; party = q .party; began = q .began; size = q .size; tried = []; covered = q .covered }
+  of k = record { kind = k; entry = q .entry; party = q .party; began = q .began; size = q .size; tried = []; uncovered = q .uncovered }
 
   by-kind : {k : Kind} → q .kind ≡ k → referralSucceeds c (coreOf path size hit) (of k) reply clock ≡ referralSucceeds c (coreOf path size hit) (questionOf q []) reply clock
   unfolding questionOf of
   by-kind h = ap (λ (k : Kind). referralSucceeds c (coreOf path size hit) (of k) reply clock) (sym h)
 
-  of-kind : {k : Kind} (x : replies.Reply replies.Referral) → q .kind ≡ k
+  of-kind : {k : Kind} (x : replies.Reply replies.ReferralReply) → q .kind ≡ k
       → referralAnswer c (coreOf path size hit) (questionOf q []) clock x ≡ referralAnswer c (coreOf path size hit) (of k) clock x
   unfolding questionOf of
   of-kind x h = ap (λ (k : Kind). referralAnswer c (coreOf path size hit) (of k) clock x) h

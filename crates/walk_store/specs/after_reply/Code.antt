@@ -12,7 +12,7 @@ use Rattle.walk_steps.specs.declared.steps.Kind.{Kind}
 use Rattle.walk_steps.specs.declared.steps.Kind.the-variants.{Dc, Root, Link, Sysvol, Io}
 use Rattle.walk_steps.specs.declared.steps.Progress.{Progress}
 use Rattle.walk_steps.specs.declared.steps.Rested.{Rested}
-use Rattle.walk_steps.specs.cycle.Code.{Packed, joined, packed, Ready, Usable}
+use Rattle.walk_steps.specs.cycle.Code.{Packed, restedWith, packed, Ready, Usable}
 use Rattle.walk_steps.specs.question_request.Questions.{restFits}
 use Rattle.walk_store.specs.declared.party_hint.Hinted.{Hinted}
 use Rattle.walk_store.specs.declared.reply_taken.Taken.{Taken}
@@ -38,7 +38,7 @@ pub record Leaving : Type 0 where
   pub doms : List ℕ
 
 abbrev pub leftBy : Rested → List ℕ → List ℕ → List ℕ → Leaving
-leftBy r rooms refs doms = record { rest = joined r rooms; refs = refs; doms = doms }
+leftBy r rooms refs doms = record { rest = restedWith r rooms; refs = refs; doms = doms }
 
 -- what a turn leaves: both caches as it has them, or as they were where the request that then waits does not fit the buffer
 unfoldable pub leaves : Progress → List ℕ → List ℕ → Turn → Leaving

@@ -35,14 +35,14 @@ pub record Lent : Type 0 where
   pub refs : List ℕ
   pub doms : List ℕ
 
-abbrev pub lent : List ℕ → List ℕ → Lent
-lent refs doms = record { refs = refs; doms = doms }
+abbrev pub lentCaches : List ℕ → List ℕ → Lent
+lentCaches refs doms = record { refs = refs; doms = doms }
 
 -- both caches with the hint as it was
 unfoldable pub unhinted : Hinted → List ℕ → List ℕ → Lent
-unhinted Unset refs doms = lent refs doms
-unhinted (Target i old) refs doms = lent (encode referrals (targetHinted i old (decode referrals refs))) doms
-unhinted (Dc i old) refs doms = lent refs (encode domains (dcHinted i old (decode domains doms)))
+unhinted Unset refs doms = lentCaches refs doms
+unhinted (Target i old) refs doms = lentCaches (encode referrals (targetHinted i old (decode referrals refs))) doms
+unhinted (Dc i old) refs doms = lentCaches refs (encode domains (dcHinted i old (decode domains doms)))
 
 -- the hint can be set so again
 pub record Unhintable (h : Hinted) (refs doms : List ℕ) : Type 0 where
@@ -53,7 +53,7 @@ pub record Unhintable (h : Hinted) (refs doms : List ℕ) : Type 0 where
 -- a hint was set: the caches are then these, in order, and it can be taken back
 pub record Hinting (refs doms : List ℕ) (h : Hinted) (more then : List ℕ) (c : Caches) : Type 0 where
   pub caches : cachesOf more then ≡ c
-  pub back : unhinted h more then ≡ lent refs doms
+  pub back : unhinted h more then ≡ lentCaches refs doms
   pub refs-order : inOrder referrals more ≡ true
   pub doms-order : inOrder domains then ≡ true
   pub able : Unhintable h more then

@@ -28,7 +28,7 @@ use Rattle.walk_store.specs.declared.reply_taken.Said.{Said}
 use Rattle.walk_store.specs.declared.reply_taken.Said.the-variants.{Stops, Stores}
 use Rattle.walk_store.specs.declared.reply_taken.Awaited.{Awaited}
 use Rattle.walk_store.specs.declared.reply_taken.Awaited.the-variants.{DcNames, Referral, NoReply}
-use Rattle.walk_store.specs.party_hint.Code.{Lent, lent, unhinted, Unhintable}
+use Rattle.walk_store.specs.party_hint.Code.{Lent, lentCaches, unhinted, Unhintable}
 
 -- the reply that is read, by the kind of the question
 unfoldable pub awaitedBy : Kind → List ℕ → Awaited
@@ -45,7 +45,7 @@ pub record NamedIn (name : ℕ) (path : List ℕ) : Type 0 where
 
 -- step 8.1.2, by numbers
 unfoldable pub coversNoMore : Asking → Bool → ℕ → Bool
-coversNoMore q root units = q .covered && (root || leb units (q .entry))
+coversNoMore q root units = q .uncovered && (root || leb units (q .entry))
 
 -- what a root, link or SYSVOL reply calls for
 unfoldable pub saidOf : Asking → Answer → Bool → ℕ → Said
@@ -67,8 +67,8 @@ takenTurn w kind (Entry i h) refs doms =
 
 -- both caches as they were before
 unfoldable pub putBack : Taken → List ℕ → List ℕ → List ℕ → Lent
-putBack (Ends e status) saved refs doms = lent refs doms
-putBack (Dcs i) saved refs doms = lent refs (changed i (λ q. saved) doms)
+putBack (Ends e status) saved refs doms = lentCaches refs doms
+putBack (Dcs i) saved refs doms = lentCaches refs (changed i (λ q. saved) doms)
 putBack (Entry i h) saved refs doms = unhinted h (changed i (λ q. saved) refs) doms
 
 -- the saved place and the hint can be put back

@@ -34,7 +34,7 @@ use denote.Triple.Table.{entered, cited}
 use denote.Triple.Walked.{says, Stays, stay-none, stay-none-slice, walkOf, goes-none, goes-none-slice, Walks, ends-at, walked, walk-meets}
 use denote.Exit.{yes}
 use denote.Triple.Clauses.{ensured, lasts}
-use Rattle.reply_bytes.specs.texts.Bytes.{textAt}
+use Rattle.reply_bytes.specs.texts.Bytes.{textFrom}
 use Rattle.reply_bytes.specs.texts.Code.{textEnd}
 use Rattle.reply_bytes.specs.declared.texts.Read.{Read}
 use Rattle.reply_bytes.proofs.texts.Read as S
@@ -65,7 +65,7 @@ module _ {M : Type 1} (𝓤 : URA M) (H : Heap 𝓤) (A : Atoms 𝓤) (W : Given
   at = (spelt s ∷ [], (vint w64 n ∷ [], tt))
 
   abbrev found : Read
-  found = textEnd n 0 (textAt (now s) n)
+  found = textEnd n 0 (textFrom (now s) n)
 
   abbrev Post : Val → SProp 𝓤
   Post = walkOf 𝓤 H A here.ended stayed (here.clauses 𝓤 H A mem run) .post (((κ, tt), (q, tt), tt, (s, (n, tt)), at), tt)

@@ -32,7 +32,7 @@ use denote.Triple.Table.{entered, cited}
 use denote.Triple.Walked.{says, Stays, stay-none, walkOf, goes-none, Walks, ends-at, walked, walk-meets}
 use denote.Exit.{yes}
 use denote.Triple.Clauses.{ensured, lasts}
-use Rattle.reply_bytes.specs.texts.Bytes.{textAt}
+use Rattle.reply_bytes.specs.texts.Bytes.{textFrom}
 use Rattle.reply_bytes.specs.texts.Code.{textEnd}
 use Rattle.reply_bytes.specs.declared.texts.Read.{Read}
 use Rattle.reply_bytes.proofs.texts.Read as S
@@ -67,7 +67,7 @@ module _ {M : Type 1} (𝓤 : URA M) (H : Heap 𝓤) (A : Atoms 𝓤) (W : Given
   mach = T′.lowered d
 
   abbrev found : Read
-  found = textEnd (d .at) 0 (textAt (now (d .src)) (d .at))
+  found = textEnd (d .at) 0 (textFrom (now (d .src)) (d .at))
 
   abbrev Post : Val → SProp 𝓤
   Post = walkOf 𝓤 H A here.ended stayed (here.clauses 𝓤 H A mem run) .post (((κ, tt), (q, tt), tt, (d, tt), (mach ∷ [], tt)), tt)

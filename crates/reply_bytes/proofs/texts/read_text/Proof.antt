@@ -4,7 +4,7 @@ use Prim.Native.Nat.{_≤_, _-_}
 use lib.ListN.{length}
 use mathlib.Core.Path.{_≡_, refl, sym, _∙_}
 use native.Mathlib.Omega.{arith}
-use Rattle.reply_bytes.specs.texts.Bytes.{textAt}
+use Rattle.reply_bytes.specs.texts.Bytes.{textFrom}
 use Rattle.reply_bytes.specs.texts.Code.{textEnd}
 use Rattle.reply_bytes.proofs.texts.UnitLaws.{text-over, text-half, text-zero, text-more}
 use borrow.Author.Needs.{needs}
@@ -12,7 +12,7 @@ use Rattle.reply_bytes.proofs.texts.read_text.Statement.{statement}
 use Rattle.reply_bytes.proofs.texts.read_text.Tie as tie
 
 abbrev Inv-loop : tie.InvT-loop
-Inv-loop r at i₀ n₀ i n = (n ≤ i) × (textEnd at 0 (textAt r at) ≡ textEnd at n (textAt r i))
+Inv-loop r at i₀ n₀ i n = (n ≤ i) × (textEnd at 0 (textFrom r at) ≡ textEnd at n (textFrom r i))
 
 abbrev μ-loop : tie.MeasureT-loop
 μ-loop r at i₀ n₀ i n = length r - i

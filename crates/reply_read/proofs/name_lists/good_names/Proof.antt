@@ -6,7 +6,7 @@ use native.Mathlib.Omega.{arith}
 use Rattle.reply_read.specs.name_lists.NameLists.{dcOf}
 use Rattle.laws.specs.Lists.{every}
 use mathlib.Core.List.{map}
-use Rattle.reply_bytes.specs.texts.Bytes.{textAt}
+use Rattle.reply_bytes.specs.texts.Bytes.{textFrom}
 use Rattle.reply_read.specs.name_lists.NameLists.{bytesPast, textsAt}
 use Rattle.reply_read.specs.referral.Replies.{isRead}
 use Rattle.reply_read.proofs.name_lists.ListLaws.{dc-bad, dc-good, dc-next, names-hit, names-miss, names-end, names-start}
@@ -44,7 +44,7 @@ loop-again c =
     let l = c .before .before .before .before .before .loop in
     let e = c .before .next .given .1 in
     let d = c .before .before .before .dc-at .ensures in
-    (search needs, l .inv .1 ∙ names-hit (now (a .r)) (a .n) (l .i) (l .at) _ (dc-good (now (a .r)) _ _ e (d .0)) (dc-next (now (a .r)) _ _ e (l .at + bytesPast (textAt (now (a .r)) (l .at))) (d .1)) (omega arith))
+    (search needs, l .inv .1 ∙ names-hit (now (a .r)) (a .n) (l .i) (l .at) _ (dc-good (now (a .r)) _ _ e (d .0)) (dc-next (now (a .r)) _ _ e (l .at + bytesPast (textFrom (now (a .r)) (l .at))) (d .1)) (omega arith))
 
 returns-2 : tie.Need-returns-2 Inv-loop μ-loop
 returns-2 c = sym (c .before .loop .inv .1 ∙ names-end (now (c .before .before .before .args .r)) (c .before .before .before .args .n) (c .before .loop .i) (c .before .loop .at) (omega arith))

@@ -9,7 +9,7 @@ use Rattle.reply_read.specs.name_lists.NameLists.{dcOf}
 use Rattle.laws.specs.Lists.{every}
 use mathlib.Core.Bool.{true}
 use mathlib.Core.List.{map, _++_}
-use Rattle.reply_bytes.specs.texts.Bytes.{textAt}
+use Rattle.reply_bytes.specs.texts.Bytes.{textFrom}
 use Rattle.reply_read.specs.name_lists.NameLists.{bytesPast, textsAt}
 use Rattle.reply_read.specs.referral.Replies.{isRead}
 use Rattle.reply_read.specs.referral.Code.{isInside, unitsRead}
@@ -65,7 +65,7 @@ loop-again c =
     let e = c .before .name .given .1 in
     let d = c .before .before .before .dc-at .ensures in
     let g = dc-good r _ _ e (d .0) in
-    let i = l .at + bytesPast (textAt r (l .at)) in
+    let i = l .at + bytesPast (textFrom r (l .at)) in
     let z = dc-next r _ _ e i (d .1) in
     (omega arith, (length-set (l .kept) (l .i) _ ∙ l .inv .1 .0, (sym (names-hit r (a .n) (l .i) (l .at) _ g z (omega arith)) ∙ l .inv .1 .1 .0, (name-next r (a .n) (l .i) (l .at) _ g z (l .kept) (l .inv .1 .1 .1 .0) (omega (arith, l .inv .1 .0)) (omega arith) (omega arith), span-next r (l .kept) (l .i) _ (l .inv .1 .1 .1 .1) (dc-inside r _ _ e i (d .1))))))
 

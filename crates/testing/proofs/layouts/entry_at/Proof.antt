@@ -8,7 +8,7 @@ use native.Mathlib.Omega.{arith}
 use Rattle.laws.specs.Lists.{every}
 use Rattle.reply_read.specs.referral.Replies.{referralCount, starts, entries}
 use Rattle.reply_read.proofs.referral.EntryLaws.{entries-start}
-use Rattle.reply_read.specs.name_lists.NameLists.{goodDomain}
+use Rattle.reply_read.specs.name_lists.NameLists.{goodDomainName}
 use Rattle.reply_read.proofs.name_lists.SaysLaws.{left-fits, left-next}
 use Rattle.testing.proofs.layouts.WireLaws.{entry-first, entry-next, entry-here}
 use borrow.Author.Needs.{needs}
@@ -16,13 +16,13 @@ use Rattle.testing.proofs.layouts.entry_at.Statement.{statement}
 use Rattle.testing.proofs.layouts.entry_at.Tie as tie
 
 abbrev Inv-loop : tie.InvT-loop
-Inv-loop r i e₀ j₀ e j = (j ≤ i) × ((every (goodDomain r) (starts (referralCount r - j) e r) ≡ true) × (getD (entries r) i 0 ≡ getD (starts (referralCount r - j) e r) (i - j) 0))
+Inv-loop r i e₀ j₀ e j = (j ≤ i) × ((every (goodDomainName r) (starts (referralCount r - j) e r) ≡ true) × (getD (entries r) i 0 ≡ getD (starts (referralCount r - j) e r) (i - j) 0))
 
 abbrev μ-loop : tie.MeasureT-loop
 μ-loop r i e₀ j₀ e j = i - j
 
 loop-holds : tie.Need-loop-holds Inv-loop μ-loop
-loop-holds c = (search needs, (sym (entries-start (goodDomain (now (c .before .args .r))) (now (c .before .args .r)) refl) ∙ c .before .pre .good, entry-first (now (c .before .args .r)) (c .before .args .i)))
+loop-holds c = (search needs, (sym (entries-start (goodDomainName (now (c .before .args .r))) (now (c .before .args .r)) refl) ∙ c .before .pre .good, entry-first (now (c .before .args .r)) (c .before .args .i)))
 
 next-entry-requires : tie.Need-next-entry-requires Inv-loop μ-loop
 next-entry-requires c κs =

@@ -1,11 +1,10 @@
 // The steps that call each other: lookup, domain, link and interlink. Moves left and step rank fall. They hand on a point of the steps as
 // one number (specs/cycle/Code.antt), and the rest is made of the last one.
 ghost use mathlib.Core.Path.{_≡_};
-ghost use mathlib.Core.Bool.{Bool, true, false, _&&_};
+ghost use mathlib.Core.Bool.{Bool, true, false};
 ghost use mathlib.Core.List.{List};
 ghost use Prim.Native.Nat.{ℕ, _≤_, _<_};
 ghost use lib.ListN.{length, take};
-ghost use lib.Dec.{eqb};
 ghost use Rattle.unc.specs.names.Code.{writtenWithin};
 ghost use Rattle.unc.specs.names.Paths.{isSysvol, replaced};
 ghost use Rattle.walk_steps.specs.walk_texts.Code.{Standing, withTried};
@@ -291,16 +290,8 @@ fn step11(refs: &[u16], texts: &mut [u16], n: u64) -> Written
     Written::Units(len)
 }
 
-// Step 7 at a root.
-fn at_root(refs: &[u16], n: u64) -> bool
-    requires { ⌜ (whatOf n ≡ due7 → placeIn n < placeCount (now refs)) ⌝ }
-    ensures { λ r. ⌜ r ≡ (eqb (whatOf n) due7 && entryAt referrals (placeIn n) (now (refs .entry)) .settings .root) ⌝ }
-{
-    if n % PLACE == DUE7 {
-        return cache_lookup::is_root(refs, place(n));
-    }
-    false
-}
+// The four members. The compiler makes one frame of them, 128 bytes a move (docs/DECISIONS.md 74): so they hand on a number that each
+// takes apart again, and look up through `sought`.
 
 // Step 2, and on by what it found.
 fn lookup(refs: &[u16], doms: &[u16], texts: &mut [u16], n: u64, clock: u32) -> u64
@@ -319,8 +310,10 @@ fn domain(refs: &[u16], doms: &[u16], texts: &mut [u16], n: u64, clock: u32) -> 
     if n % PLACE == DUE5 {
         return step5(refs, doms, texts, n);
     }
-    if at_root(refs, n) {
-        return case_at(n, TRY, place(n));
+    if n % PLACE == DUE7 {
+        if cache_lookup::is_root(refs, place(n)) {
+            return case_at(n, TRY, place(n));
+        }
     }
     link(refs, doms, texts, n, clock)
 }

@@ -1,6 +1,6 @@
 -- Laws of the points of the steps.
 use mathlib.Core.Path.{_≡_, refl, sym, ap, _∙_, subst}
-use mathlib.Core.Bool.{Bool, true, false, _&&_}
+use mathlib.Core.Bool.{Bool, true, false}
 use mathlib.Core.List.{List, []}
 use mathlib.Core.Logic.{_⊎_, inl, inr}
 use Prim.Native.Nat.{ℕ, _+_, _*_, _-_, _/_, _%_, _≤_, _<_}
@@ -9,7 +9,7 @@ use lib.ListN.{length, take}
 use lib.Dec.{eqb}
 use borrow.Author.Tests.{le-leb, lt-leb, eq-eqb, ne-eqb, eqb-true}
 use Rattle.laws.specs.Choice.{choose}
-use Rattle.laws.proofs.Choices.{choose-yes, choose-no, and-left, and-right}
+use Rattle.laws.proofs.Choices.{choose-yes, choose-no}
 use Rattle.laws.proofs.Tests.{not-both}
 use Rattle.laws.proofs.Orders.{told}
 use Rattle.unc.specs.names.Code.{writtenWithin}
@@ -46,6 +46,51 @@ use Rattle.walk_steps.proofs.cycle.CaseLaws.{by2, by5, by7, by11, by-tr
 -- a cache in order has 32 places at most
 pub place-few : (refs : List ℕ) (i : ℕ) → inOrder referrals refs ≡ true → i < placeCount refs → i < 32
 place-few refs i h u = omega (arith, cache-told referrals (decode referrals refs) (order-good referrals refs h) .most, length-decode referrals refs)
+
+-- the cases as they are named to case_at and point, and places
+pub try-few : toTry < 16
+try-few = omega arith
+
+pub turn-few : due11 < 16
+turn-few = omega arith
+
+pub long-few : tooLong < 16
+long-few = omega arith
+
+pub look-few : due2 < 16
+look-few = omega arith
+
+pub link-few : askLink < 16
+link-few = omega arith
+
+pub domain-few : askDomain < 16
+domain-few = omega arith
+
+pub first-few : 0 < 65536
+first-few = omega arith
+
+pub place-in-few : (n : ℕ) {i : ℕ} → i ≡ placeIn n → i < 65536
+place-in-few n a = omega arith
+
+pub fewer : (n : ℕ) → leftOf n < 65536 → leftOf n - 1 < 65536
+fewer n a = omega arith
+
+pub past5 : (n : ℕ) → (whatOf n ≡ due5 → ⊥) → due2 < whatOf n → due5 < whatOf n
+past5 n a b = omega arith
+
+pub is-due7 : (n : ℕ) → (whatOf n ≡ due9 → ⊥) → due5 < whatOf n → whatOf n ≤ due7 → whatOf n ≡ due7
+is-due7 n a b c = omega arith
+
+pub either-way : {A B C : Type 0} → (A → C) → (B → C) → A ⊎ B → C
+either-way f g (inl a) = f a
+either-way f g (inr b) = g b
+
+-- the measure: the rank falls, or the moves left
+pub rank-falls : (n m k : ℕ) {t : ℕ} → 4 * leftOf n + (k + 1) ≡ t → leftOf m ≡ leftOf n → 4 * leftOf m + k < t
+rank-falls n m k a b = omega arith
+
+pub moves-fall : (n m : ℕ) {t : ℕ} → 4 * leftOf n + 0 ≡ t → (leftOf n ≡ 0 → ⊥) → leftOf m ≡ leftOf n - 1 → 4 * leftOf m + 3 < t
+moves-fall n m a b c = omega arith
 
 -- the parts of a number
 module _ (what i len left : ℕ) (a : what < 16) (b : i < 65536) (c : len ≤ 256) where
@@ -161,23 +206,9 @@ pub matched-there : (refs : List ℕ) (clock n found : ℕ) {w r : ℕ} → (fou
     → Parts w found true (unitsOf n) (leftOf n) r → Matched refs clock n found r
 matched-there refs clock n found {w} {r} h e q = record { missed = λ z. absurd (h z); matching = λ z. subst (λ (k : ℕ). Parts k found true (unitsOf n) (leftOf n) r) e q }
 
--- step 7 at a root
-pub root-not : (refs : List ℕ) (n : ℕ) → (whatOf n ≡ due7 → ⊥) → false ≡ (eqb (whatOf n) due7 && entryAt referrals (placeIn n) refs .settings .root)
-root-not refs n w = sym (ap (λ (x : Bool). x && entryAt referrals (placeIn n) refs .settings .root) (ne-eqb (whatOf n) due7 w))
-
-module _ (refs : List ℕ) (n : ℕ) {b : Bool} where
-  pub root-is : {i : ℕ} → whatOf n ≡ due7 → i ≡ placeIn n → b ≡ entryAt referrals i refs .settings .root → b ≡ (eqb (whatOf n) due7 && entryAt referrals (placeIn n) refs .settings .root)
-  root-is w a e = e ∙ (ap (λ (k : ℕ). entryAt referrals k refs .settings .root) a ∙ sym (ap (λ (x : Bool). x && entryAt referrals (placeIn n) refs .settings .root) (eq-eqb (whatOf n) due7 w)))
-
-  module _ (e : b ≡ (eqb (whatOf n) due7 && entryAt referrals (placeIn n) refs .settings .root)) where
-    pub root-case : b ≡ true → whatOf n ≡ due7
-    root-case h = eqb-true (whatOf n) due7 (and-left _ _ (sym e ∙ h))
-
-    pub root-entry : b ≡ true → entryAt referrals (placeIn n) refs .settings .root ≡ true
-    root-entry h = and-right (eqb (whatOf n) due7) _ (sym e ∙ h)
-
-    pub no-root : b ≡ false → whatOf n ≡ due7 → entryAt referrals (placeIn n) refs .settings .root ≡ false
-    no-root h w = sym (ap (λ (x : Bool). x && entryAt referrals (placeIn n) refs .settings .root) (eq-eqb (whatOf n) due7 w)) ∙ (sym e ∙ h)
+-- what is read of the entry at a point's place
+pub root-read : (refs : List ℕ) (n : ℕ) {i : ℕ} {b v : Bool} → i ≡ placeIn n → b ≡ entryAt referrals i refs .settings .root → b ≡ v → entryAt referrals (placeIn n) refs .settings .root ≡ v
+root-read refs n a e h = ap (λ (k : ℕ). entryAt referrals k refs .settings .root) (sym a) ∙ (sym e ∙ h)
 
 pub interlink-is : (refs : List ℕ) (n : ℕ) {i : ℕ} {b v : Bool} → i ≡ placeIn n → b ≡ entryAt referrals i refs .settings .interlink → b ≡ v → entryAt referrals (placeIn n) refs .settings .interlink ≡ v
 interlink-is refs n a e h = ap (λ (k : ℕ). entryAt referrals k refs .settings .interlink) (sym a) ∙ (sym e ∙ h)
@@ -339,6 +370,9 @@ module _ (refs doms texts : List ℕ) (n : ℕ) (p : Point refs texts n) (w : wh
 module _ (refs doms texts : List ℕ) (clock n : ℕ) (p : Point refs texts n) (w : whatOf n ≡ due7) where
   pub usable7 : Usable refs (take (unitsOf n) texts) (placeIn n)
   usable7 = p .usable (omega arith) (omega arith)
+
+  pub fits7 : {i : ℕ} → i ≡ placeIn n → i < placeCount refs
+  fits7 a = let z : placeIn n < placeCount refs = usable7 .fits in omega arith
 
   module _ {i r : ℕ} (b : i ≡ placeIn n) where
     module _ (q : Parts toTry i (hitIn n) (unitsOf n) (leftOf n) r) where

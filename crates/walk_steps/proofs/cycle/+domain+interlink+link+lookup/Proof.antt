@@ -1,8 +1,7 @@
-use Rattle.walk_steps.proofs.cycle.PointLaws.{match-fits, looked-next, rests-on, halts-after, usable7, root-case, root-entry, no-root, tries-root, tries-sysvol, tries-other, interlink-is, turns, halts-here, long-halts, len-few, next-point, next-halts}
+use Rattle.walk_steps.proofs.cycle.PointLaws.{match-fits, looked-next, rests-on, halts-after, fits7, fewer, rank-falls, moves-fall, past5, is-due7, try-few, turn-few, long-few, look-few, first-few, place-in-few, root-read, either-way, tries-root, tries-sysvol, tries-other, interlink-is, turns, halts-here, long-halts, len-few, next-point, next-halts}
+use mathlib.Core.Path.{refl, sym, _∙_}
 use borrow.Author.Needs.{needs}
 use borrow.Author.Tests.{not-true, not-false}
-use native.Mathlib.Omega.{arith}
-use mathlib.Core.Path.{sym, _∙_}
 use denote.Ref.{now}
 use Prim.Native.Nat.{ℕ, _+_, _*_, _/_, _<_}
 use borrow.Fn.Kinds.{In}
@@ -20,7 +19,7 @@ use Rattle.walk_steps.proofs.cycle.lookup.Reads as lookup
 use Rattle.walk_steps.proofs.cycle.lookup.Kinds as lookup-kinds
 use Rattle.walk_steps.proofs.cycle.+domain+interlink+link+lookup.Lts-lookup as lookup-lts
 use Rattle.cache_lookup.proofs.is_interlink.Reads as is-interlink-reads
-use Rattle.walk_steps.proofs.cycle.at_root.Reads as at-root-reads
+use Rattle.cache_lookup.proofs.is_root.Reads as is-root-reads
 use Rattle.walk_steps.proofs.cycle.case_at.Reads as case-at-reads
 use Rattle.walk_steps.proofs.cycle.for_sysvol.Reads as for-sysvol-reads
 use Rattle.walk_steps.proofs.cycle.had_hit.Reads as had-hit-reads
@@ -75,10 +74,10 @@ abbrev domain-claims : ℕ → domain-lts.Claims
 domain-claims t = (
   step5-reads.Asked,
   step5-reads.Learnt,
-  at-root-reads.Asked,
-  at-root-reads.Learnt,
   place-reads.Asked,
   place-reads.Learnt,
+  is-root-reads.Asked,
+  is-root-reads.Learnt,
   case-at-reads.Asked,
   case-at-reads.Learnt,
   link-below t,
@@ -134,20 +133,23 @@ domain-same-length t c = search needs
 domain-returns : (t : ℕ) → domain-lts.Need-returns (domain-claims t) (domain-at t) domain.Post
 domain-returns t c = halts-after (now (c .before .before .before .before .before .before .args .refs)) (now (c .before .before .before .before .before .before .args .doms)) (now (c .before .before .before .before .before .before .args .texts)) (c .before .before .before .before .before .before .args .clock) (c .before .before .before .before .before .before .args .n) (c .step5 .ensures .0 (c .before .before .before .before .before .before .args .clock)) (c .step5 .ensures .1)
 
-domain-at-root-requires : (t : ℕ) → domain-lts.Need-at-root-requires (domain-claims t) (domain-at t) domain.Post
-domain-at-root-requires t c κs = λ h. usable7 (now (c .before .before .before .before .args .refs)) (now (c .before .before .before .before .args .doms)) (now (c .before .before .before .before .args .texts)) (c .before .before .before .before .args .clock) (c .before .before .before .before .args .n) (c .before .before .before .before .pre .1 .0) h .fits
-
 domain-place-requires : (t : ℕ) → domain-lts.Need-place-requires (domain-claims t) (domain-at t) domain.Post
 domain-place-requires t c κs = search needs
 
+domain-is-root-requires : (t : ℕ) → domain-lts.Need-is-root-requires (domain-claims t) (domain-at t) domain.Post
+domain-is-root-requires t c κs = fits7 (now (c .before .before .before .before .before .before .args .refs)) (now (c .before .before .before .before .before .before .args .doms)) (now (c .before .before .before .before .before .before .args .texts)) (c .before .before .before .before .before .before .args .clock) (c .before .before .before .before .before .before .args .n) (c .before .before .before .before .before .before .pre .1 .0) (c .before .if2 .taken) (c .place .ensures)
+
+domain-place-requires-2 : (t : ℕ) → domain-lts.Need-place-requires-2 (domain-claims t) (domain-at t) domain.Post
+domain-place-requires-2 t c κs = search needs
+
 domain-case-at-requires : (t : ℕ) → domain-lts.Need-case-at-requires (domain-claims t) (domain-at t) domain.Post
-domain-case-at-requires t c κs = (omega arith, (omega (arith, c .place .ensures), (c .before .before .before .before .before .before .before .pre .1 .0) .counted))
+domain-case-at-requires t c κs = (try-few, (place-in-few (c .before .before .before .before .before .before .before .before .before .args .n) (c .place2 .ensures), (c .before .before .before .before .before .before .before .before .before .pre .1 .0) .counted))
 
 domain-returns-2 : (t : ℕ) → domain-lts.Need-returns-2 (domain-claims t) (domain-at t) domain.Post
-domain-returns-2 t c = tries-root (now (c .before .before .before .before .before .before .before .before .args .refs)) (now (c .before .before .before .before .before .before .before .before .args .doms)) (now (c .before .before .before .before .before .before .before .before .args .texts)) (c .before .before .before .before .before .before .before .before .args .clock) (c .before .before .before .before .before .before .before .before .args .n) (c .before .before .before .before .before .before .before .before .pre .1 .0) (root-case (now (c .before .before .before .before .before .before .before .before .args .refs)) (c .before .before .before .before .before .before .before .before .args .n) (c .before .before .before .at-root .ensures) (c .before .before .if2 .taken)) (c .before .place .ensures) (c .case-at .ensures) (root-entry (now (c .before .before .before .before .before .before .before .before .args .refs)) (c .before .before .before .before .before .before .before .before .args .n) (c .before .before .before .at-root .ensures) (c .before .before .if2 .taken))
+domain-returns-2 t c = tries-root (now (c .before .before .before .before .before .before .before .before .before .before .args .refs)) (now (c .before .before .before .before .before .before .before .before .before .before .args .doms)) (now (c .before .before .before .before .before .before .before .before .before .before .args .texts)) (c .before .before .before .before .before .before .before .before .before .before .args .clock) (c .before .before .before .before .before .before .before .before .before .before .args .n) (c .before .before .before .before .before .before .before .before .before .before .pre .1 .0) (c .before .before .before .before .before .if2 .taken) (c .before .place2 .ensures) (c .case-at .ensures) (root-read (now (c .before .before .before .before .before .before .before .before .before .before .args .refs)) (c .before .before .before .before .before .before .before .before .before .before .args .n) (c .before .before .before .before .place .ensures) (c .before .before .before .is-root .ensures) (c .before .before .if3 .taken))
 
 domain-link-requires : (t : ℕ) → domain-lts.Need-link-requires (domain-claims t) (domain-at t) domain.Post
-domain-link-requires t c κs = (omega arith, ((c .before .before .before .before .before .before .before .pre .1 .0), (let y1 = c .before .before .before .if1 .left in let y2 = c .before .before .before .before .before .before .before .pre .1 .1 .0 in omega arith, (c .before .before .before .before .before .before .before .pre .1 .1 .1, no-root (now (c .before .before .before .before .before .before .before .args .refs)) (c .before .before .before .before .before .before .before .args .n) (c .before .before .at-root .ensures) (c .before .if2 .left)))))
+domain-link-requires t c κs = (rank-falls (c .before .before .before .before .before .before .args .n) (c .before .before .before .before .before .before .args .n) 1 (c .before .before .before .before .before .before .pre .0) refl, ((c .before .before .before .before .before .before .pre .1 .0), (past5 (c .before .before .before .before .before .before .args .n) (c .before .before .if1 .left) (c .before .before .before .before .before .before .pre .1 .1 .0), (c .before .before .before .before .before .before .pre .1 .1 .1, λ w. either-way (λ h. root-read (now (c .before .before .before .before .before .before .args .refs)) (c .before .before .before .before .before .before .args .n) (h .1 .ensures) (h .2 .ensures) (h .3 .left)) (λ h. absurd (h .left w)) (c .before .if2 .came)))))
 
 domain-same-length-2 : (t : ℕ) → domain-lts.Need-same-length-2 (domain-claims t) (domain-at t) domain.Post
 domain-same-length-2 t c = search needs
@@ -168,7 +170,7 @@ interlink-enum-told : (t : ℕ) → interlink-lts.Need-enum-told (interlink-clai
 interlink-enum-told t c = search needs
 
 interlink-case-at-requires : (t : ℕ) → interlink-lts.Need-case-at-requires (interlink-claims t) (interlink-at t) interlink.Post
-interlink-case-at-requires t c κs = (omega arith, (omega arith, (c .before .before .before .before .before .before .before .before .before .before .pre .1 .0) .counted))
+interlink-case-at-requires t c κs = (long-few, (first-few, (c .before .before .before .before .before .before .before .before .before .before .pre .1 .0) .counted))
 
 interlink-same-length : (t : ℕ) → interlink-lts.Need-same-length (interlink-claims t) (interlink-at t) interlink.Post
 interlink-same-length t c = search needs
@@ -183,10 +185,10 @@ interlink-sub-point : (t : ℕ) → interlink-lts.Need-sub-point (interlink-clai
 interlink-sub-point t c = search needs
 
 interlink-point-requires : (t : ℕ) → interlink-lts.Need-point-requires (interlink-claims t) (interlink-at t) interlink.Post
-interlink-point-requires t c κs = (omega arith, (omega arith, (len-few (now (c .before .before .before .before .before .before .before .before .before .before .before .before .before .args .refs)) (now (c .before .before .before .before .before .before .before .before .before .before .before .before .before .args .texts)) (c .before .before .before .before .before .before .before .before .before .before .before .before .before .args .n) (c .before .before .before .before .before .before .before .before .before .before .before .before .before .pre .1 .0) (c .before .before .before .before .before .before .before .before .before .before .before .before .before .pre .1 .1) (now (c .before .before .before .before .before .before .before .before .before .before .before .before .before .args .doms)) (c .before .before .before .before .before .before .before .before .before .before .before .before .before .args .clock) (c .before .before .before .before .before .before .before .before .before .if1 .left) (c .before .before .before .before .before .before .before .step11 .ensures .0) (c .before .before .before .before .before .before .before .step11 .ensures .1) _ (c .before .before .before .len .given .1), omega (arith, (c .before .before .before .before .before .before .before .before .before .before .before .before .before .pre .1 .0) .counted))))
+interlink-point-requires t c κs = (look-few, (first-few, (len-few (now (c .before .before .before .before .before .before .before .before .before .before .before .before .before .args .refs)) (now (c .before .before .before .before .before .before .before .before .before .before .before .before .before .args .texts)) (c .before .before .before .before .before .before .before .before .before .before .before .before .before .args .n) (c .before .before .before .before .before .before .before .before .before .before .before .before .before .pre .1 .0) (c .before .before .before .before .before .before .before .before .before .before .before .before .before .pre .1 .1) (now (c .before .before .before .before .before .before .before .before .before .before .before .before .before .args .doms)) (c .before .before .before .before .before .before .before .before .before .before .before .before .before .args .clock) (c .before .before .before .before .before .before .before .before .before .if1 .left) (c .before .before .before .before .before .before .before .step11 .ensures .0) (c .before .before .before .before .before .before .before .step11 .ensures .1) _ (c .before .before .before .len .given .1), fewer (c .before .before .before .before .before .before .before .before .before .before .before .before .before .args .n) ((c .before .before .before .before .before .before .before .before .before .before .before .before .before .pre .1 .0) .counted))))
 
 interlink-lookup-requires : (t : ℕ) → interlink-lts.Need-lookup-requires (interlink-claims t) (interlink-at t) interlink.Post
-interlink-lookup-requires t c κs = (let z = c .point .ensures .its-left in let y = c .before .before .before .before .before .before .before .before .before .before .if1 .left in omega arith, (next-point (now (c .before .before .before .before .before .before .before .before .before .before .before .before .before .before .args .refs)) (now (c .before .before .before .before .before .before .before .before .before .before .before .before .before .before .args .texts)) (c .before .before .before .before .before .before .before .before .before .before .before .before .before .before .args .n) (c .before .before .before .before .before .before .before .before .before .before .before .before .before .before .pre .1 .0) (c .before .before .before .before .before .before .before .before .before .before .before .before .before .before .pre .1 .1) (now (c .before .before .before .before .before .before .before .before .before .before .before .before .before .before .args .doms)) (c .before .before .before .before .before .before .before .before .before .before .before .before .before .before .args .clock) (c .before .before .before .before .before .before .before .before .before .before .if1 .left) (c .before .before .before .before .before .before .before .before .step11 .ensures .0) (c .before .before .before .before .before .before .before .before .step11 .ensures .1) _ (c .before .before .before .before .len .given .1) (c .before .had-hit .ensures) (c .point .ensures), c .point .ensures .its-case))
+interlink-lookup-requires t c κs = (moves-fall (c .before .before .before .before .before .before .before .before .before .before .before .before .before .before .args .n) _ (c .before .before .before .before .before .before .before .before .before .before .before .before .before .before .pre .0) (c .before .before .before .before .before .before .before .before .before .before .if1 .left) (c .point .ensures .its-left), (next-point (now (c .before .before .before .before .before .before .before .before .before .before .before .before .before .before .args .refs)) (now (c .before .before .before .before .before .before .before .before .before .before .before .before .before .before .args .texts)) (c .before .before .before .before .before .before .before .before .before .before .before .before .before .before .args .n) (c .before .before .before .before .before .before .before .before .before .before .before .before .before .before .pre .1 .0) (c .before .before .before .before .before .before .before .before .before .before .before .before .before .before .pre .1 .1) (now (c .before .before .before .before .before .before .before .before .before .before .before .before .before .before .args .doms)) (c .before .before .before .before .before .before .before .before .before .before .before .before .before .before .args .clock) (c .before .before .before .before .before .before .before .before .before .before .if1 .left) (c .before .before .before .before .before .before .before .before .step11 .ensures .0) (c .before .before .before .before .before .before .before .before .step11 .ensures .1) _ (c .before .before .before .before .len .given .1) (c .before .had-hit .ensures) (c .point .ensures), c .point .ensures .its-case))
 
 interlink-same-length-2 : (t : ℕ) → interlink-lts.Need-same-length-2 (interlink-claims t) (interlink-at t) interlink.Post
 interlink-same-length-2 t c = search needs
@@ -210,46 +212,46 @@ link-place-requires : (t : ℕ) → link-lts.Need-place-requires (link-claims t)
 link-place-requires t c κs = search needs
 
 link-case-at-requires : (t : ℕ) → link-lts.Need-case-at-requires (link-claims t) (link-at t) link.Post
-link-case-at-requires t c κs = (omega arith, (omega (arith, c .place .ensures), (c .before .before .before .before .before .before .before .before .pre .1 .0) .counted))
+link-case-at-requires t c κs = (try-few, (place-in-few (c .before .before .before .before .before .before .before .before .args .n) (c .place .ensures), (c .before .before .before .before .before .before .before .before .pre .1 .0) .counted))
 
 link-same-length-2 : (t : ℕ) → link-lts.Need-same-length-2 (link-claims t) (link-at t) link.Post
 link-same-length-2 t c = search needs
 
 link-returns-2 : (t : ℕ) → link-lts.Need-returns-2 (link-claims t) (link-at t) link.Post
-link-returns-2 t c = tries-sysvol (now (c .before .before .before .before .before .before .before .before .before .args .refs)) (now (c .before .before .before .before .before .before .before .before .before .args .doms)) (now (c .before .before .before .before .before .before .before .before .before .args .texts)) (c .before .before .before .before .before .before .before .before .before .args .clock) (c .before .before .before .before .before .before .before .before .before .args .n) (c .before .before .before .before .before .before .before .before .before .pre .1 .0) (let y1 = c .before .before .before .before .before .if1 .left in let y2 = c .before .before .before .before .before .before .before .before .before .pre .1 .1 .0 in let y3 = c .before .before .before .before .before .before .before .before .before .pre .1 .1 .1 .0 in omega arith) (c .before .place .ensures) (c .case-at .ensures) (c .before .before .before .before .before .before .before .before .before .pre .1 .1 .1 .1 (let y1 = c .before .before .before .before .before .if1 .left in let y2 = c .before .before .before .before .before .before .before .before .before .pre .1 .1 .0 in let y3 = c .before .before .before .before .before .before .before .before .before .pre .1 .1 .1 .0 in omega arith)) (sym (c .before .before .before .for-sysvol .ensures) ∙ c .before .before .if2 .taken)
+link-returns-2 t c = tries-sysvol (now (c .before .before .before .before .before .before .before .before .before .args .refs)) (now (c .before .before .before .before .before .before .before .before .before .args .doms)) (now (c .before .before .before .before .before .before .before .before .before .args .texts)) (c .before .before .before .before .before .before .before .before .before .args .clock) (c .before .before .before .before .before .before .before .before .before .args .n) (c .before .before .before .before .before .before .before .before .before .pre .1 .0) (is-due7 (c .before .before .before .before .before .before .before .before .before .args .n) (c .before .before .before .before .before .if1 .left) (c .before .before .before .before .before .before .before .before .before .pre .1 .1 .0) (c .before .before .before .before .before .before .before .before .before .pre .1 .1 .1 .0)) (c .before .place .ensures) (c .case-at .ensures) (c .before .before .before .before .before .before .before .before .before .pre .1 .1 .1 .1 (is-due7 (c .before .before .before .before .before .before .before .before .before .args .n) (c .before .before .before .before .before .if1 .left) (c .before .before .before .before .before .before .before .before .before .pre .1 .1 .0) (c .before .before .before .before .before .before .before .before .before .pre .1 .1 .1 .0))) (sym (c .before .before .before .for-sysvol .ensures) ∙ c .before .before .if2 .taken)
 
 link-place-requires-2 : (t : ℕ) → link-lts.Need-place-requires-2 (link-claims t) (link-at t) link.Post
 link-place-requires-2 t c κs = search needs
 
 link-is-interlink-requires : (t : ℕ) → link-lts.Need-is-interlink-requires (link-claims t) (link-at t) link.Post
-link-is-interlink-requires t c κs = let z = usable7 (now (c .before .before .before .before .before .before .before .before .args .refs)) (now (c .before .before .before .before .before .before .before .before .args .doms)) (now (c .before .before .before .before .before .before .before .before .args .texts)) (c .before .before .before .before .before .before .before .before .args .clock) (c .before .before .before .before .before .before .before .before .args .n) (c .before .before .before .before .before .before .before .before .pre .1 .0) (let y1 = c .before .before .before .before .if1 .left in let y2 = c .before .before .before .before .before .before .before .before .pre .1 .1 .0 in let y3 = c .before .before .before .before .before .before .before .before .pre .1 .1 .1 .0 in omega arith) .fits in omega (arith, c .place2 .ensures)
+link-is-interlink-requires t c κs = fits7 (now (c .before .before .before .before .before .before .before .before .args .refs)) (now (c .before .before .before .before .before .before .before .before .args .doms)) (now (c .before .before .before .before .before .before .before .before .args .texts)) (c .before .before .before .before .before .before .before .before .args .clock) (c .before .before .before .before .before .before .before .before .args .n) (c .before .before .before .before .before .before .before .before .pre .1 .0) (is-due7 (c .before .before .before .before .before .before .before .before .args .n) (c .before .before .before .before .if1 .left) (c .before .before .before .before .before .before .before .before .pre .1 .1 .0) (c .before .before .before .before .before .before .before .before .pre .1 .1 .1 .0)) (c .place2 .ensures)
 
 link-place-requires-3 : (t : ℕ) → link-lts.Need-place-requires-3 (link-claims t) (link-at t) link.Post
 link-place-requires-3 t c κs = search needs
 
 link-case-at-requires-2 : (t : ℕ) → link-lts.Need-case-at-requires-2 (link-claims t) (link-at t) link.Post
-link-case-at-requires-2 t c κs = (omega arith, (omega (arith, c .place3 .ensures), (c .before .before .before .before .before .before .before .before .before .before .before .pre .1 .0) .counted))
+link-case-at-requires-2 t c κs = (try-few, (place-in-few (c .before .before .before .before .before .before .before .before .before .before .before .args .n) (c .place3 .ensures), (c .before .before .before .before .before .before .before .before .before .before .before .pre .1 .0) .counted))
 
 link-same-length-3 : (t : ℕ) → link-lts.Need-same-length-3 (link-claims t) (link-at t) link.Post
 link-same-length-3 t c = search needs
 
 link-returns-3 : (t : ℕ) → link-lts.Need-returns-3 (link-claims t) (link-at t) link.Post
-link-returns-3 t c = tries-other (now (c .before .before .before .before .before .before .before .before .before .before .before .before .args .refs)) (now (c .before .before .before .before .before .before .before .before .before .before .before .before .args .doms)) (now (c .before .before .before .before .before .before .before .before .before .before .before .before .args .texts)) (c .before .before .before .before .before .before .before .before .before .before .before .before .args .clock) (c .before .before .before .before .before .before .before .before .before .before .before .before .args .n) (c .before .before .before .before .before .before .before .before .before .before .before .before .pre .1 .0) (let y1 = c .before .before .before .before .before .before .before .before .if1 .left in let y2 = c .before .before .before .before .before .before .before .before .before .before .before .before .pre .1 .1 .0 in let y3 = c .before .before .before .before .before .before .before .before .before .before .before .before .pre .1 .1 .1 .0 in omega arith) (c .before .place3 .ensures) (c .case-at2 .ensures) (c .before .before .before .before .before .before .before .before .before .before .before .before .pre .1 .1 .1 .1 (let y1 = c .before .before .before .before .before .before .before .before .if1 .left in let y2 = c .before .before .before .before .before .before .before .before .before .before .before .before .pre .1 .1 .0 in let y3 = c .before .before .before .before .before .before .before .before .before .before .before .before .pre .1 .1 .1 .0 in omega arith)) (sym (c .before .before .before .before .before .before .for-sysvol .ensures) ∙ c .before .before .before .before .before .if2 .left) (interlink-is (now (c .before .before .before .before .before .before .before .before .before .before .before .before .args .refs)) (c .before .before .before .before .before .before .before .before .before .before .before .before .args .n) (c .before .before .before .before .place2 .ensures) (c .before .before .before .is-interlink .ensures) (not-true _ (c .before .before .if3 .taken)))
+link-returns-3 t c = tries-other (now (c .before .before .before .before .before .before .before .before .before .before .before .before .args .refs)) (now (c .before .before .before .before .before .before .before .before .before .before .before .before .args .doms)) (now (c .before .before .before .before .before .before .before .before .before .before .before .before .args .texts)) (c .before .before .before .before .before .before .before .before .before .before .before .before .args .clock) (c .before .before .before .before .before .before .before .before .before .before .before .before .args .n) (c .before .before .before .before .before .before .before .before .before .before .before .before .pre .1 .0) (is-due7 (c .before .before .before .before .before .before .before .before .before .before .before .before .args .n) (c .before .before .before .before .before .before .before .before .if1 .left) (c .before .before .before .before .before .before .before .before .before .before .before .before .pre .1 .1 .0) (c .before .before .before .before .before .before .before .before .before .before .before .before .pre .1 .1 .1 .0)) (c .before .place3 .ensures) (c .case-at2 .ensures) (c .before .before .before .before .before .before .before .before .before .before .before .before .pre .1 .1 .1 .1 (is-due7 (c .before .before .before .before .before .before .before .before .before .before .before .before .args .n) (c .before .before .before .before .before .before .before .before .if1 .left) (c .before .before .before .before .before .before .before .before .before .before .before .before .pre .1 .1 .0) (c .before .before .before .before .before .before .before .before .before .before .before .before .pre .1 .1 .1 .0))) (sym (c .before .before .before .before .before .before .for-sysvol .ensures) ∙ c .before .before .before .before .before .if2 .left) (interlink-is (now (c .before .before .before .before .before .before .before .before .before .before .before .before .args .refs)) (c .before .before .before .before .before .before .before .before .before .before .before .before .args .n) (c .before .before .before .before .place2 .ensures) (c .before .before .before .is-interlink .ensures) (not-true _ (c .before .before .if3 .taken)))
 
 link-place-requires-4 : (t : ℕ) → link-lts.Need-place-requires-4 (link-claims t) (link-at t) link.Post
 link-place-requires-4 t c κs = search needs
 
 link-case-at-requires-3 : (t : ℕ) → link-lts.Need-case-at-requires-3 (link-claims t) (link-at t) link.Post
-link-case-at-requires-3 t c κs = (omega arith, (omega (arith, c .place4 .ensures), (c .before .before .before .before .before .before .before .before .before .before .before .before .pre .1 .0) .counted))
+link-case-at-requires-3 t c κs = (turn-few, (place-in-few (c .before .before .before .before .before .before .before .before .before .before .before .before .args .n) (c .place4 .ensures), (c .before .before .before .before .before .before .before .before .before .before .before .before .pre .1 .0) .counted))
 
 link-interlink-requires : (t : ℕ) → link-lts.Need-interlink-requires (link-claims t) (link-at t) link.Post
-link-interlink-requires t c κs = (let z = c .case-at3 .ensures .its-left in omega arith, (turns (now (c .before .before .before .before .before .before .before .before .before .before .before .before .before .args .refs)) (now (c .before .before .before .before .before .before .before .before .before .before .before .before .before .args .doms)) (now (c .before .before .before .before .before .before .before .before .before .before .before .before .before .args .texts)) (c .before .before .before .before .before .before .before .before .before .before .before .before .before .args .clock) (c .before .before .before .before .before .before .before .before .before .before .before .before .before .args .n) (c .before .before .before .before .before .before .before .before .before .before .before .before .before .pre .1 .0) (let y1 = c .before .before .before .before .before .before .before .before .before .if1 .left in let y2 = c .before .before .before .before .before .before .before .before .before .before .before .before .before .pre .1 .1 .0 in let y3 = c .before .before .before .before .before .before .before .before .before .before .before .before .before .pre .1 .1 .1 .0 in omega arith) (c .before .place4 .ensures) (c .case-at3 .ensures) (c .before .before .before .before .before .before .before .before .before .before .before .before .before .pre .1 .1 .1 .1 (let y1 = c .before .before .before .before .before .before .before .before .before .if1 .left in let y2 = c .before .before .before .before .before .before .before .before .before .before .before .before .before .pre .1 .1 .0 in let y3 = c .before .before .before .before .before .before .before .before .before .before .before .before .before .pre .1 .1 .1 .0 in omega arith)) (sym (c .before .before .before .before .before .before .before .for-sysvol .ensures) ∙ c .before .before .before .before .before .before .if2 .left) (interlink-is (now (c .before .before .before .before .before .before .before .before .before .before .before .before .before .args .refs)) (c .before .before .before .before .before .before .before .before .before .before .before .before .before .args .n) (c .before .before .before .before .before .place2 .ensures) (c .before .before .before .before .is-interlink .ensures) (not-false _ (c .before .before .before .if3 .left))) .point, c .case-at3 .ensures .its-case))
+link-interlink-requires t c κs = (rank-falls (c .before .before .before .before .before .before .before .before .before .before .before .before .before .args .n) _ 0 (c .before .before .before .before .before .before .before .before .before .before .before .before .before .pre .0) (c .case-at3 .ensures .its-left), (turns (now (c .before .before .before .before .before .before .before .before .before .before .before .before .before .args .refs)) (now (c .before .before .before .before .before .before .before .before .before .before .before .before .before .args .doms)) (now (c .before .before .before .before .before .before .before .before .before .before .before .before .before .args .texts)) (c .before .before .before .before .before .before .before .before .before .before .before .before .before .args .clock) (c .before .before .before .before .before .before .before .before .before .before .before .before .before .args .n) (c .before .before .before .before .before .before .before .before .before .before .before .before .before .pre .1 .0) (is-due7 (c .before .before .before .before .before .before .before .before .before .before .before .before .before .args .n) (c .before .before .before .before .before .before .before .before .before .if1 .left) (c .before .before .before .before .before .before .before .before .before .before .before .before .before .pre .1 .1 .0) (c .before .before .before .before .before .before .before .before .before .before .before .before .before .pre .1 .1 .1 .0)) (c .before .place4 .ensures) (c .case-at3 .ensures) (c .before .before .before .before .before .before .before .before .before .before .before .before .before .pre .1 .1 .1 .1 (is-due7 (c .before .before .before .before .before .before .before .before .before .before .before .before .before .args .n) (c .before .before .before .before .before .before .before .before .before .if1 .left) (c .before .before .before .before .before .before .before .before .before .before .before .before .before .pre .1 .1 .0) (c .before .before .before .before .before .before .before .before .before .before .before .before .before .pre .1 .1 .1 .0))) (sym (c .before .before .before .before .before .before .before .for-sysvol .ensures) ∙ c .before .before .before .before .before .before .if2 .left) (interlink-is (now (c .before .before .before .before .before .before .before .before .before .before .before .before .before .args .refs)) (c .before .before .before .before .before .before .before .before .before .before .before .before .before .args .n) (c .before .before .before .before .before .place2 .ensures) (c .before .before .before .before .is-interlink .ensures) (not-false _ (c .before .before .before .if3 .left))) .point, c .case-at3 .ensures .its-case))
 
 link-same-length-4 : (t : ℕ) → link-lts.Need-same-length-4 (link-claims t) (link-at t) link.Post
 link-same-length-4 t c = search needs
 
 link-returns-4 : (t : ℕ) → link-lts.Need-returns-4 (link-claims t) (link-at t) link.Post
-link-returns-4 t c = rests-on (now (c .before .before .before .before .before .before .before .before .before .before .before .before .before .before .before .before .args .refs)) (now (c .before .before .before .before .before .before .before .before .before .before .before .before .before .before .before .before .args .doms)) (now (c .before .before .before .before .before .before .before .before .before .before .before .before .before .before .before .before .args .texts)) (c .before .before .before .before .before .before .before .before .before .before .before .before .before .before .before .before .args .clock) (c .before .before .before .before .before .before .before .before .before .before .before .before .before .before .before .before .args .n) (turns (now (c .before .before .before .before .before .before .before .before .before .before .before .before .before .before .before .before .args .refs)) (now (c .before .before .before .before .before .before .before .before .before .before .before .before .before .before .before .before .args .doms)) (now (c .before .before .before .before .before .before .before .before .before .before .before .before .before .before .before .before .args .texts)) (c .before .before .before .before .before .before .before .before .before .before .before .before .before .before .before .before .args .clock) (c .before .before .before .before .before .before .before .before .before .before .before .before .before .before .before .before .args .n) (c .before .before .before .before .before .before .before .before .before .before .before .before .before .before .before .before .pre .1 .0) (let y1 = c .before .before .before .before .before .before .before .before .before .before .before .before .if1 .left in let y2 = c .before .before .before .before .before .before .before .before .before .before .before .before .before .before .before .before .pre .1 .1 .0 in let y3 = c .before .before .before .before .before .before .before .before .before .before .before .before .before .before .before .before .pre .1 .1 .1 .0 in omega arith) (c .before .before .before .before .place4 .ensures) (c .before .before .before .case-at3 .ensures) (c .before .before .before .before .before .before .before .before .before .before .before .before .before .before .before .before .pre .1 .1 .1 .1 (let y1 = c .before .before .before .before .before .before .before .before .before .before .before .before .if1 .left in let y2 = c .before .before .before .before .before .before .before .before .before .before .before .before .before .before .before .before .pre .1 .1 .0 in let y3 = c .before .before .before .before .before .before .before .before .before .before .before .before .before .before .before .before .pre .1 .1 .1 .0 in omega arith)) (sym (c .before .before .before .before .before .before .before .before .before .before .for-sysvol .ensures) ∙ c .before .before .before .before .before .before .before .before .before .if2 .left) (interlink-is (now (c .before .before .before .before .before .before .before .before .before .before .before .before .before .before .before .before .args .refs)) (c .before .before .before .before .before .before .before .before .before .before .before .before .before .before .before .before .args .n) (c .before .before .before .before .before .before .before .before .place2 .ensures) (c .before .before .before .before .before .before .before .is-interlink .ensures) (not-false _ (c .before .before .before .before .before .before .if3 .left)))) (c .before .before .interlink .ensures)
+link-returns-4 t c = rests-on (now (c .before .before .before .before .before .before .before .before .before .before .before .before .before .before .before .before .args .refs)) (now (c .before .before .before .before .before .before .before .before .before .before .before .before .before .before .before .before .args .doms)) (now (c .before .before .before .before .before .before .before .before .before .before .before .before .before .before .before .before .args .texts)) (c .before .before .before .before .before .before .before .before .before .before .before .before .before .before .before .before .args .clock) (c .before .before .before .before .before .before .before .before .before .before .before .before .before .before .before .before .args .n) (turns (now (c .before .before .before .before .before .before .before .before .before .before .before .before .before .before .before .before .args .refs)) (now (c .before .before .before .before .before .before .before .before .before .before .before .before .before .before .before .before .args .doms)) (now (c .before .before .before .before .before .before .before .before .before .before .before .before .before .before .before .before .args .texts)) (c .before .before .before .before .before .before .before .before .before .before .before .before .before .before .before .before .args .clock) (c .before .before .before .before .before .before .before .before .before .before .before .before .before .before .before .before .args .n) (c .before .before .before .before .before .before .before .before .before .before .before .before .before .before .before .before .pre .1 .0) (is-due7 (c .before .before .before .before .before .before .before .before .before .before .before .before .before .before .before .before .args .n) (c .before .before .before .before .before .before .before .before .before .before .before .before .if1 .left) (c .before .before .before .before .before .before .before .before .before .before .before .before .before .before .before .before .pre .1 .1 .0) (c .before .before .before .before .before .before .before .before .before .before .before .before .before .before .before .before .pre .1 .1 .1 .0)) (c .before .before .before .before .place4 .ensures) (c .before .before .before .case-at3 .ensures) (c .before .before .before .before .before .before .before .before .before .before .before .before .before .before .before .before .pre .1 .1 .1 .1 (is-due7 (c .before .before .before .before .before .before .before .before .before .before .before .before .before .before .before .before .args .n) (c .before .before .before .before .before .before .before .before .before .before .before .before .if1 .left) (c .before .before .before .before .before .before .before .before .before .before .before .before .before .before .before .before .pre .1 .1 .0) (c .before .before .before .before .before .before .before .before .before .before .before .before .before .before .before .before .pre .1 .1 .1 .0))) (sym (c .before .before .before .before .before .before .before .before .before .before .for-sysvol .ensures) ∙ c .before .before .before .before .before .before .before .before .before .if2 .left) (interlink-is (now (c .before .before .before .before .before .before .before .before .before .before .before .before .before .before .before .before .args .refs)) (c .before .before .before .before .before .before .before .before .before .before .before .before .before .before .before .before .args .n) (c .before .before .before .before .before .before .before .before .place2 .ensures) (c .before .before .before .before .before .before .before .is-interlink .ensures) (not-false _ (c .before .before .before .before .before .before .if3 .left)))) (c .before .before .interlink .ensures)
 
 lookup-sought-requires : (t : ℕ) → lookup-lts.Need-sought-requires (lookup-claims t) (lookup-at t) lookup.Post
 lookup-sought-requires t c κs = (c .before .before .before .before .pre .1 .0) .ready
@@ -258,7 +260,7 @@ lookup-matched-requires : (t : ℕ) → lookup-lts.Need-matched-requires (lookup
 lookup-matched-requires t c κs = ((c .before .before .before .before .before .before .pre .1 .0) .counted, match-fits (now (c .before .before .before .before .before .before .args .refs)) (now (c .before .before .before .before .before .before .args .doms)) (now (c .before .before .before .before .before .before .args .texts)) (c .before .before .before .before .before .before .args .clock) (c .before .before .before .before .before .before .args .n) (c .before .before .before .before .before .before .pre .1 .0) (c .before .before .before .before .before .before .pre .1 .1) (c .before .sought .ensures))
 
 lookup-domain-requires : (t : ℕ) → lookup-lts.Need-domain-requires (lookup-claims t) (lookup-at t) lookup.Post
-lookup-domain-requires t c κs = (let z = looked-next (now (c .before .before .before .before .before .before .before .args .refs)) (now (c .before .before .before .before .before .before .before .args .doms)) (now (c .before .before .before .before .before .before .before .args .texts)) (c .before .before .before .before .before .before .before .args .clock) (c .before .before .before .before .before .before .before .args .n) (c .before .before .before .before .before .before .before .pre .1 .0) (c .before .before .before .before .before .before .before .pre .1 .1) (c .before .before .sought .ensures) (c .matched .ensures) .0 .left in omega arith, (looked-next (now (c .before .before .before .before .before .before .before .args .refs)) (now (c .before .before .before .before .before .before .before .args .doms)) (now (c .before .before .before .before .before .before .before .args .texts)) (c .before .before .before .before .before .before .before .args .clock) (c .before .before .before .before .before .before .before .args .n) (c .before .before .before .before .before .before .before .pre .1 .0) (c .before .before .before .before .before .before .before .pre .1 .1) (c .before .before .sought .ensures) (c .matched .ensures) .0 .point, looked-next (now (c .before .before .before .before .before .before .before .args .refs)) (now (c .before .before .before .before .before .before .before .args .doms)) (now (c .before .before .before .before .before .before .before .args .texts)) (c .before .before .before .before .before .before .before .args .clock) (c .before .before .before .before .before .before .before .args .n) (c .before .before .before .before .before .before .before .pre .1 .0) (c .before .before .before .before .before .before .before .pre .1 .1) (c .before .before .sought .ensures) (c .matched .ensures) .1))
+lookup-domain-requires t c κs = (rank-falls (c .before .before .before .before .before .before .before .args .n) _ 2 (c .before .before .before .before .before .before .before .pre .0) (looked-next (now (c .before .before .before .before .before .before .before .args .refs)) (now (c .before .before .before .before .before .before .before .args .doms)) (now (c .before .before .before .before .before .before .before .args .texts)) (c .before .before .before .before .before .before .before .args .clock) (c .before .before .before .before .before .before .before .args .n) (c .before .before .before .before .before .before .before .pre .1 .0) (c .before .before .before .before .before .before .before .pre .1 .1) (c .before .before .sought .ensures) (c .matched .ensures) .0 .left), (looked-next (now (c .before .before .before .before .before .before .before .args .refs)) (now (c .before .before .before .before .before .before .before .args .doms)) (now (c .before .before .before .before .before .before .before .args .texts)) (c .before .before .before .before .before .before .before .args .clock) (c .before .before .before .before .before .before .before .args .n) (c .before .before .before .before .before .before .before .pre .1 .0) (c .before .before .before .before .before .before .before .pre .1 .1) (c .before .before .sought .ensures) (c .matched .ensures) .0 .point, looked-next (now (c .before .before .before .before .before .before .before .args .refs)) (now (c .before .before .before .before .before .before .before .args .doms)) (now (c .before .before .before .before .before .before .before .args .texts)) (c .before .before .before .before .before .before .before .args .clock) (c .before .before .before .before .before .before .before .args .n) (c .before .before .before .before .before .before .before .pre .1 .0) (c .before .before .before .before .before .before .before .pre .1 .1) (c .before .before .sought .ensures) (c .matched .ensures) .1))
 
 lookup-same-length : (t : ℕ) → lookup-lts.Need-same-length (lookup-claims t) (lookup-at t) lookup.Post
 lookup-same-length t c = search needs
@@ -273,8 +275,9 @@ pub +domain+interlink+link+lookup-spec : {M : Type 1} → statement M
     (domain-step5-requires t)
     (domain-same-length t)
     (domain-returns t)
-    (domain-at-root-requires t)
     (domain-place-requires t)
+    (domain-is-root-requires t)
+    (domain-place-requires-2 t)
     (domain-case-at-requires t)
     (domain-returns-2 t)
     (domain-link-requires t)

@@ -1,5 +1,4 @@
-use Rattle.walk_steps.proofs.cycle.PointLaws.{dc-few, asks-host, asks-dcs, asks-domain}
-use native.Mathlib.Omega.{arith}
+use Rattle.walk_steps.proofs.cycle.PointLaws.{domain-few, dc-few, asks-host, asks-dcs, asks-domain}
 use denote.Ref.{now}
 use borrow.Author.Needs.{needs}
 use Rattle.walk_steps.proofs.cycle.step5.Statement.{statement}
@@ -12,7 +11,7 @@ returns-2 : tie.Need-returns-2
 returns-2 c = let p7 = c .before .before .before .before .before .before .before in asks-dcs (now (p7 .args .refs)) (now (p7 .args .doms)) (now (p7 .args .texts)) (p7 .args .n) (p7 .pre .0) (p7 .pre .1) (c .before .before .before .sought .ensures) (c .before .if2 .taken) (c .case-at2 .ensures)
 
 case-at-requires-3 : tie.Need-case-at-requires-3
-case-at-requires-3 c κs = (omega arith, (dc-few (now (c .before .before .before .before .before .before .args .refs)) (now (c .before .before .before .before .before .before .args .doms)) (now (c .before .before .before .before .before .before .args .texts)) (c .before .before .before .before .before .before .args .n) (c .before .before .before .before .before .before .pre .0) (c .before .before .before .before .before .before .pre .1) (c .before .before .sought .ensures) (c .before .if1 .left) (c .if2 .left), c .before .before .before .before .before .before .pre .0 .counted))
+case-at-requires-3 c κs = let p6 = c .before .before .before .before .before .before in (domain-few, (dc-few (now (p6 .args .refs)) (now (p6 .args .doms)) (now (p6 .args .texts)) (p6 .args .n) (p6 .pre .0) (p6 .pre .1) (c .before .before .sought .ensures) (c .before .if1 .left) (c .if2 .left), p6 .pre .0 .counted))
 
 returns-3 : tie.Need-returns-3
 returns-3 c = let p7 = c .before .before .before .before .before .before .before in asks-domain (now (p7 .args .refs)) (now (p7 .args .doms)) (now (p7 .args .texts)) (p7 .args .n) (p7 .pre .0) (p7 .pre .1) (c .before .before .before .sought .ensures) (c .before .before .if1 .left) (c .before .if2 .left) (c .case-at3 .ensures)

@@ -1,5 +1,4 @@
-use Rattle.walk_steps.proofs.cycle.PointLaws.{root-few, asks-link, without-point, without-next}
-use native.Mathlib.Omega.{arith}
+use Rattle.walk_steps.proofs.cycle.PointLaws.{link-few, root-few, asks-link, without-point, without-next}
 use denote.Ref.{now}
 use borrow.Author.Needs.{needs}
 use Rattle.walk_steps.proofs.cycle.step9.Statement.{statement}
@@ -12,7 +11,7 @@ returns : tie.Need-returns
 returns c = let p7 = c .before .before .before .before .before .before .before in without-next (now (p7 .args .refs)) (now (p7 .args .doms)) (now (p7 .args .texts)) (p7 .args .n) (p7 .pre .0) (p7 .pre .1) (c .before .before .before .sought .ensures) (c .before .before .if1 .taken) (c .before .case-at .ensures) (c .step5 .ensures)
 
 case-at-requires-2 : tie.Need-case-at-requires-2
-case-at-requires-2 c κs = (omega arith, (root-few (now (c .before .before .before .before .before .args .refs)) (now (c .before .before .before .before .before .args .doms)) (now (c .before .before .before .before .before .args .texts)) (c .before .before .before .before .before .args .n) (c .before .before .before .before .before .pre .0) (c .before .before .before .before .before .pre .1) (c .before .sought .ensures) (c .if1 .left), c .before .before .before .before .before .pre .0 .counted))
+case-at-requires-2 c κs = let p5 = c .before .before .before .before .before in (link-few, (root-few (now (p5 .args .refs)) (now (p5 .args .doms)) (now (p5 .args .texts)) (p5 .args .n) (p5 .pre .0) (p5 .pre .1) (c .before .sought .ensures) (c .if1 .left), p5 .pre .0 .counted))
 
 returns-2 : tie.Need-returns-2
 returns-2 c = let p6 = c .before .before .before .before .before .before in asks-link (now (p6 .args .refs)) (now (p6 .args .doms)) (now (p6 .args .texts)) (p6 .args .n) (p6 .pre .0) (p6 .pre .1) (c .before .before .sought .ensures) (c .before .if1 .left) (c .case-at2 .ensures)

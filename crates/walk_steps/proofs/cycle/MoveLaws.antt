@@ -34,7 +34,7 @@ use Rattle.cache.specs.order.Memory.{referrals, domains, decode}
 use Rattle.cache_lookup.specs.Code.{entryAt}
 use Rattle.cache_lookup.specs.Lookup.{targetPath}
 use Rattle.cache_store.specs.entry_after_reply.Stored.{prefixed}
-use Rattle.walk_steps.specs.steps.Steps.{Caches, Core, Question, stops, asks, replaces, Rest, Resting, waits, ended, rests, asking, goes, hitAt, withHit, withPath, step2, step3, step4, step5, step5With, step5Domain, step6, step6Host, step10, dcRequest, domainNamed, step7, step8, step9, step9With, step11, linkRequest}
+use Rattle.walk_steps.specs.steps.Steps.{Caches, Core, Question, stops, asks, replaces, Resting, waits, ended, rests, asking, goes, hitAt, withHit, withPath, step2, step3, step4, step5, step5With, step5Domain, step6, step6Host, step10, dcRequest, domainNamed, step7, step8, step9, step9With, step11, linkRequest}
 use Rattle.walk_steps.specs.steps.Held.{cachesOf, coreOf, askingOf, nextOf, triedOf}
 use Rattle.walk_steps.specs.steps.Code.{restedOf, endedAt}
 use Rattle.walk_steps.specs.declared.steps.Kind.the-variants.{Io}
@@ -226,25 +226,7 @@ pub hinted-try : (left : ℕ) (p : List ℕ) (hit : Bool) (i : ℕ) (refs : List
 unfolding step3
 hinted-try left p hit i refs e g size = e size ∙ ap (λ (k : ℕ). packed (asking left (coreOf p size hit) (step8 (coreOf p size hit) (entryAt referrals i refs) k k))) g
 
--- the size given plays no part in an I/O try
-pub tried-size : (left : ℕ) (p : List ℕ) (a z : ℕ) (hit : Bool) (e : Referral) (j b : ℕ)
-    → packed (asking left (coreOf p a hit) (step8 (coreOf p a hit) e j b)) ≡ packed (asking left (coreOf p z hit) (step8 (coreOf p z hit) e j b))
-unfolding packed asking rests restedOf nextOf triedOf step8
-tried-size zero p a z hit e j b = refl
-tried-size (suc n) p a z hit e j b = go (told (leb (length (replaced (targetPath j e) (length (e .prefix)) p)) pathUnits))
-  where
-    q : Question
-    q = step8 (coreOf p a hit) e j b
-
-    same : {x y : Resting} → (m : ℕ) (r : Rest) → x ≡ rests (coreOf p a hit) m r → y ≡ rests (coreOf p z hit) m r → packed x ≡ packed y
-    same m r f g = ap packed f ∙ sym (ap packed g)
-
-    go : (leb (length (q .tried)) pathUnits ≡ true) ⊎ (leb (length (q .tried)) pathUnits ≡ false)
-        → packed (choose (leb (length (q .tried)) pathUnits) (rests (coreOf p a hit) n (waits q)) (rests (coreOf p a hit) (suc n) (ended ends.TooLong 0 [])))
-        ≡ packed (choose (leb (length (q .tried)) pathUnits) (rests (coreOf p z hit) n (waits q)) (rests (coreOf p z hit) (suc n) (ended ends.TooLong 0 [])))
-    go (inl h) = same n (waits q) (choose-yes _ _ h) (choose-yes _ _ h)
-    go (inr h) = same (suc n) (ended ends.TooLong 0 []) (choose-no _ _ h) (choose-no _ _ h)
-
+-- what is called for
 pub goes-asks : (n : ℕ) (c : Caches) (clock : ℕ) (w : Core) (q : Question) → goes n c clock w (asks q) ≡ asking n w q
 unfolding goes
 goes-asks zero c clock w q = refl

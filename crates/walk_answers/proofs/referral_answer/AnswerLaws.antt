@@ -131,9 +131,9 @@ taken-caches w k (taken.Dcs i) refs doms = refl
 taken-caches w k (taken.Entry i h) refs doms = refl
 
 -- a reply that was taken
-module _ (refs doms rooms : List ℕ) (g : Progress) (q : Asking) (s : Succeeding refs doms rooms g q) (reply saved : List ℕ) (wide : g .room < 516 → length saved ≡ 2336)
+module _ (refs doms rooms : List ℕ) (g : Progress) (q : Asking) (s : Succeeding refs doms rooms g q) (reply : List ℕ) (units : ℕ) (wide : g .room < 516 → units ≡ 2336)
     {t : Taken} {after more then : List ℕ} (e : takenTurn (coreAt g rooms) (q .kind) t more then ≡ referralSucceeds (cachesOf refs doms) (coreAt g rooms) (questionOf q []) reply (g .clock))
-    (back : length saved ≡ 2336 → putBack t after more then ≡ lentCaches refs doms) (i : TakenIn (length saved) t after (take (g .len) rooms) more then) where
+    (back : units ≡ 2336 → putBack t after more then ≡ lent refs doms) (i : TakenIn units t after (take (g .len) rooms) more then) where
   pub going-on : GoingOn more rooms g t
   going-on = record { ready = record { order = i .refs-order; standing = s .standing; good = s .in-use .good }; usable = i .usable }
 
@@ -174,6 +174,10 @@ module _ (refs doms rooms : List ℕ) (g : Progress) (q : Asking) (s : Succeedin
             doms =
                 (sym (encode-decode domains then (i .doms-order)) ∙ (ap (λ (c : Caches). encode domains (c .domains)) caches-are ∙ sym (choose-yes _ doms (sym tested ∙ h)))) j;
           }
+
+      -- with a buffer that holds every request
+      pub wide-left : 516 ≤ g .room → leftBy r o more then ≡ leaves g refs doms turned-to
+      wide-left l = kept-left (rest-tested _ r o k (g .room) f ∙ always-fits (g .room) _ l rest-short)
 
       module _ (h : b ≡ false) where
         narrow : g .room < 516

@@ -133,7 +133,7 @@ taken-caches w k (taken.Entry i h) refs doms = refl
 -- a reply that was taken
 module _ (refs doms rooms : List ℕ) (g : Progress) (q : Asking) (s : Succeeding refs doms rooms g q) (reply : List ℕ) (units : ℕ) (wide : g .room < 516 → units ≡ 2336)
     {t : Taken} {after more then : List ℕ} (e : takenTurn (coreAt g rooms) (q .kind) t more then ≡ referralSucceeds (cachesOf refs doms) (coreAt g rooms) (questionOf q []) reply (g .clock))
-    (back : units ≡ 2336 → putBack t after more then ≡ lent refs doms) (i : TakenIn units t after (take (g .len) rooms) more then) where
+    (back : units ≡ 2336 → putBack t after more then ≡ lentCaches refs doms) (i : TakenIn units t after (take (g .len) rooms) more then) where
   pub going-on : GoingOn more rooms g t
   going-on = record { ready = record { order = i .refs-order; standing = s .standing; good = s .in-use .good }; usable = i .usable }
 

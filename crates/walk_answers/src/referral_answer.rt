@@ -1,7 +1,7 @@
 // The answer to a referral request: 27 first, then the status, then the reply.
 ghost use mathlib.Core.Path.{_≡_};
 ghost use mathlib.Core.List.{[]};
-ghost use Prim.Native.Nat.{_≤_};
+ghost use Prim.Native.Nat.{_≤_, _<_};
 ghost use Rattle.walk_steps.specs.steps.Steps.{referralSucceeds, referralAnswered};
 ghost use Rattle.walk_steps.specs.steps.Held.{cachesOf, questionOf};
 ghost use Rattle.walk_steps.specs.steps.Code.{coreAt};
@@ -45,7 +45,8 @@ fn reply_kept(
     walk_store::after_reply::rest_after(refs, doms, rooms, g, q, taken)
 }
 
-// The same with any buffer: both caches are put back where the request that then waits does not fit.
+// The same with a shorter buffer: both caches are put back where the request that then waits does not fit. It calls itself where that cannot
+// come, so that the compiler leaves it a function of its own: the saved place then stands in no other frame.
 fn reply_saved(
     refs: &mut [u16],
     doms: &mut [u16],
@@ -54,9 +55,12 @@ fn reply_saved(
     q: Asking,
     reply: &[u8],
 ) -> Rested
-    requires { ⌜ Succeeding (now refs) (now doms) (now rooms) g q ⌝ }
+    requires { ⌜ Succeeding (now refs) (now doms) (now rooms) g q × (g .room < 516) ⌝ }
     ensures { λ r. ⌜ leftBy r (now (rooms .exit)) (now (refs .exit)) (now (doms .exit)) ≡ leaves g (now (refs .entry)) (now (doms .entry)) (referralSucceeds (cachesOf (now (refs .entry)) (now (doms .entry))) (coreAt g (now (rooms .entry))) (questionOf q []) (now (reply .entry)) (g .clock)) ⌝ }
 {
+    if LONGEST <= g.room {
+        return reply_saved(refs, doms, rooms, g, q, reply);
+    }
     let len = g.len;
     let mut saved = [0; 2336];
     let taken = walk_store::reply_taken::take_reply(
@@ -90,10 +94,6 @@ fn succeeded(
 {
     if LONGEST <= g.room {
         return reply_kept(refs, doms, rooms, g, q, reply);
-    }
-    // Two calls, so that the compiler leaves `reply_saved` a function of its own: the saved place then stands in no other frame.
-    if q.uncovered {
-        return reply_saved(refs, doms, rooms, g, q, reply);
     }
     reply_saved(refs, doms, rooms, g, q, reply)
 }

@@ -263,16 +263,29 @@ fn step5(refs: &[u16], doms: &[u16], texts: &[u16], n: u64) -> u64
     case_at(n, ASK_DOMAIN, found as usize)
 }
 
-// Step 9: a request to the root entry's target; without a root entry step 5.
+// Step 9's root entry: a request to its target, or step 5 is due.
+fn root_asked(refs: &[u16], doms: &[u16], texts: &[u16], n: u64) -> u64
+    requires { ⌜ Point (now refs) (now texts) n × (whatOf n ≡ due9) ⌝ }
+    ensures { λ r. ⌜ ((clock : ℕ) → SameSteps (now (refs .entry)) (now (doms .entry)) clock (now (texts .entry)) n r) × ((whatOf r ≡ askLink → ⊥) → whatOf r ≡ due5) ⌝ }
+{
+    let found = sought(refs, doms, texts, n);
+    if found == NOWHERE {
+        return case_at(n, DUE5, 0);
+    }
+    case_at(n, ASK_LINK, found as usize)
+}
+
+// Step 9: a request to the root entry's target; without a root entry step 5. The two are called one after the other, and not the second
+// from the first, so that what they lend shares its room in the frame of a move.
 fn step9(refs: &[u16], doms: &[u16], texts: &[u16], n: u64) -> u64
     requires { ⌜ Point (now refs) (now texts) n × (whatOf n ≡ due9) ⌝ }
     ensures { λ r. ⌜ ((clock : ℕ) → SameSteps (now (refs .entry)) (now (doms .entry)) clock (now (texts .entry)) n r) × (due11 < whatOf r) ⌝ }
 {
-    let found = sought(refs, doms, texts, n);
-    if found == NOWHERE {
-        return step5(refs, doms, texts, case_at(n, DUE5, 0));
+    let m = root_asked(refs, doms, texts, n);
+    if m % PLACE == ASK_LINK {
+        return m;
     }
-    case_at(n, ASK_LINK, found as usize)
+    step5(refs, doms, texts, m)
 }
 
 // Step 11: the prefix of the path replaced by the target hinted at.

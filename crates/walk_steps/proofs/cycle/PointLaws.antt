@@ -345,26 +345,34 @@ module _ (refs doms texts : List ℕ) (n : ℕ) (p : Point refs texts n) (w : wh
   pub root-few : (found ≡ nowhere → ⊥) → found < 65536
   root-few h = let z : found < 32 = place-few refs found (p .ready .order) (fits9 h) in omega arith
 
-  pub asks-link : {r : ℕ} → (found ≡ nowhere → ⊥) → Parts askLink found (hitIn n) (unitsOf n) (leftOf n) r → ((clock : ℕ) → SameSteps refs doms clock texts n r) × (due11 < whatOf r)
+  pub asks-link : {r : ℕ} → (found ≡ nowhere → ⊥) → Parts askLink found (hitIn n) (unitsOf n) (leftOf n) r
+      → ((clock : ℕ) → SameSteps refs doms clock texts n r) × ((whatOf r ≡ askLink → ⊥) → whatOf r ≡ due5)
   asks-link h q = (
     λ clock. follows refs doms texts clock n p due9 w q
         (λ size. nine-at refs doms size clock (placeIn n) (hitIn n) (take (unitsOf n) texts) (leftOf n) found (here9 .there h))
         (λ a b. absurd (omega arith)) (λ a. fits9 h),
-    omega (arith, q .its-case),
+    λ z. absurd (z (q .its-case)),
   )
 
-  module _ {m : ℕ} (h : found ≡ nowhere) (q : Parts due5 0 (hitIn n) (unitsOf n) (leftOf n) m) where
-    without-root : (clock : ℕ) → SameSteps refs doms clock texts n m
-    without-root clock =
-        follows refs doms texts clock n p due9 w q
+  pub without-root : {m : ℕ} → found ≡ nowhere → Parts due5 0 (hitIn n) (unitsOf n) (leftOf n) m
+      → ((clock : ℕ) → SameSteps refs doms clock texts n m) × ((whatOf m ≡ askLink → ⊥) → whatOf m ≡ due5)
+  without-root h q = (
+    λ clock. follows refs doms texts clock n p due9 w q
         (λ size. nine-none refs doms size clock (placeIn n) (hitIn n) (take (unitsOf n) texts) (leftOf n) (here9 .none h))
-        (λ a b. absurd (omega arith)) (λ a. absurd (omega arith))
+        (λ a b. absurd (omega arith)) (λ a. absurd (omega arith)),
+    λ z. q .its-case,
+  )
 
-    pub without-point : Point refs texts m × (whatOf m ≡ due5)
-    without-point = (without-root 0 .point, q .its-case)
+-- on from step 9's root entry
+module _ (refs doms texts : List ℕ) (n : ℕ) {m : ℕ} (s : ((clock : ℕ) → SameSteps refs doms clock texts n m) × ((whatOf m ≡ askLink → ⊥) → whatOf m ≡ due5)) where
+  pub rests-asked : whatOf m ≡ askLink → ((clock : ℕ) → SameSteps refs doms clock texts n m) × (due11 < whatOf m)
+  rests-asked h = (s .0, omega arith)
 
-    pub without-next : {r : ℕ} → ((clock : ℕ) → SameSteps refs doms clock texts m r) × (due11 < whatOf r) → ((clock : ℕ) → SameSteps refs doms clock texts n r) × (due11 < whatOf r)
-    without-next t = (λ clock. follows-on refs doms texts clock n (without-root clock) (t .0 clock), t .1)
+  pub without-point : (whatOf m ≡ askLink → ⊥) → Point refs texts m × (whatOf m ≡ due5)
+  without-point h = (s .0 0 .point, s .1 h)
+
+  pub without-next : {r : ℕ} → ((clock : ℕ) → SameSteps refs doms clock texts m r) × (due11 < whatOf r) → ((clock : ℕ) → SameSteps refs doms clock texts n r) × (due11 < whatOf r)
+  without-next t = (λ clock. follows-on refs doms texts clock n (s .0 clock) (t .0 clock), t .1)
 
 -- steps 7 and 4
 module _ (refs doms texts : List ℕ) (clock n : ℕ) (p : Point refs texts n) (w : whatOf n ≡ due7) where

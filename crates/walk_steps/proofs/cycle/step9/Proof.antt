@@ -1,22 +1,17 @@
-use Rattle.walk_steps.proofs.cycle.PointLaws.{link-few, root-few, asks-link, without-point, without-next}
+use Rattle.walk_steps.proofs.cycle.PointLaws.{rests-asked, without-point, without-next}
 use denote.Ref.{now}
 use borrow.Author.Needs.{needs}
 use Rattle.walk_steps.proofs.cycle.step9.Statement.{statement}
 use Rattle.walk_steps.proofs.cycle.step9.Tie as tie
 
-step5-requires : tie.Need-step5-requires
-step5-requires c κs = let p6 = c .before .before .before .before .before .before in without-point (now (p6 .args .refs)) (now (p6 .args .doms)) (now (p6 .args .texts)) (p6 .args .n) (p6 .pre .0) (p6 .pre .1) (c .before .before .sought .ensures) (c .before .if1 .taken) (c .case-at .ensures)
-
 returns : tie.Need-returns
-returns c = let p7 = c .before .before .before .before .before .before .before in without-next (now (p7 .args .refs)) (now (p7 .args .doms)) (now (p7 .args .texts)) (p7 .args .n) (p7 .pre .0) (p7 .pre .1) (c .before .before .before .sought .ensures) (c .before .before .if1 .taken) (c .before .case-at .ensures) (c .step5 .ensures)
+returns c = let p5 = c .before .before .before .before .before in rests-asked (now (p5 .args .refs)) (now (p5 .args .doms)) (now (p5 .args .texts)) (p5 .args .n) (c .before .root-asked .ensures) (c .if1 .taken)
 
-case-at-requires-2 : tie.Need-case-at-requires-2
-case-at-requires-2 c κs = let p5 = c .before .before .before .before .before in (link-few, (root-few (now (p5 .args .refs)) (now (p5 .args .doms)) (now (p5 .args .texts)) (p5 .args .n) (p5 .pre .0) (p5 .pre .1) (c .before .sought .ensures) (c .if1 .left), p5 .pre .0 .counted))
+step5-requires : tie.Need-step5-requires
+step5-requires c κs = let p5 = c .before .before .before .before .before in without-point (now (p5 .args .refs)) (now (p5 .args .doms)) (now (p5 .args .texts)) (p5 .args .n) (c .before .root-asked .ensures) (c .if1 .left)
 
 returns-2 : tie.Need-returns-2
-returns-2 c = let p6 = c .before .before .before .before .before .before in asks-link (now (p6 .args .refs)) (now (p6 .args .doms)) (now (p6 .args .texts)) (p6 .args .n) (p6 .pre .0) (p6 .pre .1) (c .before .before .sought .ensures) (c .before .if1 .left) (c .case-at2 .ensures)
+returns-2 c = let p6 = c .before .before .before .before .before .before in without-next (now (p6 .args .refs)) (now (p6 .args .doms)) (now (p6 .args .texts)) (p6 .args .n) (c .before .before .root-asked .ensures) (c .step5 .ensures)
 
 pub step9-spec : {M : Type 1} → statement M
-step9-spec =
-    tie.close
-    (tie.spec (λ c κs. search needs) (λ c κs. search needs) step5-requires returns case-at-requires-2 returns-2)
+step9-spec = tie.close (tie.spec (λ c κs. search needs) returns step5-requires returns-2)

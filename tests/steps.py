@@ -127,7 +127,8 @@ use mathlib.Core.List.{List, [], _∷_}
 use Prim.Native.Nat.{ℕ, _-_}
 use lib.ListN.{getD}
 use Rattle.reply_read.specs.referral.Replies as replies
-use Rattle.cache.specs.order.Entries.{Target, Referral, Domain, Place, free, used}
+use Rattle.unc.specs.names.Paths.{Target}
+use Rattle.cache.specs.order.Entries.{Referral, Domain, Place, free, used}
 use Rattle.walk_steps.specs.steps.Steps.{Caches, Core, Question, Turn, Resting, Rest, waits, ended}
 use Rattle.walk_steps.specs.declared.steps.Kind.{Kind}
 use Rattle.walk_steps.specs.declared.steps.Kind.the-variants.{Dc, Root, Link, Sysvol, Io}

@@ -1,5 +1,4 @@
 -- Laws.
 pub mod RoundLaws
 pub mod FailLaws
-pub mod QuietLaws
 pub mod TableLaws

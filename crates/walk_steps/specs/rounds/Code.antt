@@ -9,14 +9,8 @@ use Rattle.unc.specs.names.Paths.{components}
 use Rattle.cache.specs.order.Memory.{referrals, domains, decode}
 use Rattle.cache_store.specs.entry_after_reply.Stored.{prefixed}
 use Rattle.reply_read.specs.referral.Request.{mostSize}
-use Rattle.walk_steps.specs.steps.Steps.{Core, Question, Called, stops, ends, asks, replaces, Resting, ended, rests, asking, dcCount, targetCount, domainNamed, isThere, onward, step6, linkRequest, failedHost, bufferOverflow, pathNotFound}
-use Rattle.walk_steps.specs.declared.steps.End.the-variants.{LimitReached, NoDc, Failed}
-
--- where the steps rest at an end or a question; failures call for nothing else
-unfoldable pub failureRests : ℕ → Core → Called → Resting
-failureRests left w (stops e status tried) = rests w left (ended e status tried)
-failureRests left w (asks q) = asking left w q
-failureRests left w (replaces p) = rests w left (ended LimitReached 0 [])
+use Rattle.walk_steps.specs.steps.Steps.{Core, Question, Called, ends, dcCount, targetCount, domainNamed, isThere, onward, step6, linkRequest, failedHost, bufferOverflow, pathNotFound}
+use Rattle.walk_steps.specs.declared.steps.End.the-variants.{NoDc, Failed}
 
 -- the domain of a path's first component, and how many DCs it has; how many targets the entry of a prefix has
 unfoldable pub domainThere : List ℕ → List ℕ → Bool

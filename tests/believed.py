@@ -165,12 +165,12 @@ def reached(tree, statements):
     """the definitions that are reached, each with the kind of statement and what names it; kinds in their order"""
     why = {}
     for first in KINDS:
-        todo = [(by, x) for kind, by, x in statements if kind == first]
-        while todo:
-            by, x = todo.pop()
+        waiting = [(by, x) for kind, by, x in statements if kind == first]
+        while waiting:
+            by, x = waiting.pop()
             if x not in why:
                 why[x] = first, by
-                todo += [(f'{x[0].path} {x[1]}', y) for y in tree.reaches(*x)]
+                waiting += [(f'{x[0].path} {x[1]}', y) for y in tree.reaches(*x)]
     return why
 
 

@@ -63,11 +63,11 @@ def needs(root):
     holds = {k: v for c in crates.values() for k, v in c.holds.items()}
     found = {}
     for name, crate in crates.items():
-        reached, todo = set(), {t for p in re.findall(r'(?<![\w:])(\w+(?:::\w+)+)', crate.code) for t in signs.get(p, ())}
-        todo |= {p.replace('crate::', name + '::', 1) for p in re.findall(r'(?m)^use ([\w:]+);', crate.code)}
-        while todo - reached:
-            reached |= todo
-            todo = {t for r in reached for t in holds.get(r, ())}
+        reached, waiting = set(), {t for p in re.findall(r'(?<![\w:])(\w+(?:::\w+)+)', crate.code) for t in signs.get(p, ())}
+        waiting |= {p.replace('crate::', name + '::', 1) for p in re.findall(r'(?m)^use ([\w:]+);', crate.code)}
+        while waiting - reached:
+            reached |= waiting
+            waiting = {t for r in reached for t in holds.get(r, ())}
         found[name] = crate.names | {t.split('::')[0] for t in reached if t in holds} - {name}
     return found
 

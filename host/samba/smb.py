@@ -31,14 +31,14 @@ def flagged(smb, flags):
 
 class Network:
     def __init__(self, user="guest", password="", domain=""):
-        self.credentials, self.sessions, self.asked, self.now, self.data = (user, password, domain), {}, [], 1000, None
+        self.credentials, self.connections, self.asked, self.now, self.data = (user, password, domain), {}, [], 1000, None
 
     def clock(self):
         return self.now
 
-    def session(self, server):
+    def connection(self, server):
         key = server.lower()
-        if key not in self.sessions:
+        if key not in self.connections:
             try:
                 socket.create_connection((server, 445), 5).close()  # impacket makes a text of what a socket says
                 connection = SMBConnection(server, server, sess_port=445, timeout=5)
@@ -49,14 +49,14 @@ class Network:
                 raise Lost(dfsc.IO_TIMEOUT)
             except OSError as e:
                 raise Lost(dfsc.status_of(e))
-            self.sessions[key] = connection.getSMBServer()
-        return self.sessions[key]
+            self.connections[key] = connection.getSMBServer()
+        return self.connections[key]
 
     def call(self, server, share, command, data, flags=0):
         """One request on a share: its status and its answer. A connection that died while it was idle is opened once more."""
         for attempt in (1, 2):
-            fresh = attempt == 2 or server.lower() not in self.sessions
-            smb = self.session(server)
+            fresh = attempt == 2 or server.lower() not in self.connections
+            smb = self.connection(server)
             try:
                 tree = smb.connectTree(share)
                 in_dfs = smb._Session["TreeConnectTable"][tree]["IsDfsShare"]
@@ -67,7 +67,7 @@ class Network:
             except (SessionError, smb3.SessionError) as e:
                 return (getattr(e, "getErrorCode", None) or e.get_error_code)(), None
             except (OSError, nmb.NetBIOSError, nmb.NetBIOSTimeout) as e:
-                del self.sessions[server.lower()]
+                del self.connections[server.lower()]
                 if fresh:
                     raise Lost(dfsc.IO_TIMEOUT if isinstance(e, (TimeoutError, nmb.NetBIOSTimeout)) else dfsc.NETWORK_NAME_DELETED)
 

@@ -5,7 +5,7 @@ use mathlib.Core.List.{List, [], ◌∷◌, map}
 use mathlib.Core.Logic.{◌⊎◌, inl, inr, ◌≢◌}
 use Prim.Native.Nat.{ℕ, zero, suc, ◌+◌, ◌%◌, ◌/◌, ◌≤◌, ◌<◌}
 use native.Mathlib.Omega.{arith}
-use lib.ListN.{length, get_or, set, length-set, length_map}
+use lib.ListN.{length, get_or, set, length-set, length-map}
 use lib.Seq.{get_or-set_other, set-get_or}
 use lib.Dec.{leb}
 use borrow.Author.Tests.{ne_eqb, leb-false}
@@ -122,7 +122,7 @@ module _ {E : Type 0} (k : Kind E) (f : E → E) (t : Tends k f) where
     -- every entry changed
     all_good : GoodCache k (map (on_entry f) (decode k raw))
     all_good =
-        let l : length (map (on_entry f) (decode k raw)) ≡ length (decode k raw) = length_map (decode k raw) (on_entry f) in
+        let l : length (map (on_entry f) (decode k raw)) ≡ length (decode k raw) = length-map (decode k raw) (on_entry f) in
         let least : 1 ≤ length (decode k raw) = held.least in
         let most : length (decode k raw) ≤ 32 = held.most in
         record {

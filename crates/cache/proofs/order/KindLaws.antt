@@ -6,7 +6,7 @@ use Prim.Native.Nat.{ℕ, zero, suc, ◌+◌, ◌-◌, ◌/◌, ◌%◌, ◌≤�
 use native.Mathlib.Nat.{add_assoc}
 use native.Mathlib.Numerals.{one-add}
 use native.Mathlib.Omega.{arith}
-use lib.ListN.{length, get_or, length_map}
+use lib.ListN.{length, get_or, length-map}
 use lib.Dec.{leb, eqb}
 use borrow.Author.Tests.{ne_eqb, leb-true, le-leb, ltb-true, lt-ltb}
 use Rattle.laws.specs.Choice.{choose}
@@ -165,9 +165,9 @@ module _ (e : Referral) (good : good_referral e ≡ true) where
   referral_shape =
       let f : length e.targets ≤ 8 = g.few in
       record {
-        few_texts = simp length_map (omega arith);
+        few_texts = simp length-map (omega arith);
         short = short_list good_prefix 256 prefix_short (e.prefix ∷ map (λ t. t.path) e.targets) (and_both g.prefixed (every_path e.targets g.each));
-        few_marks = simp length_map f;
+        few_marks = simp length-map f;
         few_settings = omega arith;
       }
 
@@ -195,7 +195,7 @@ module _ (e : Referral) (good : good_referral e ≡ true) where
   unfolding target_of referral_units flag_at
   target_back j h =
       let f : length e.targets ≤ 8 = g.few in
-      let p = text_back e.prefix (map (λ t. t.path) e.targets) e.hint _ _ referral_shape j (simp length_map h)
+      let p = text_back e.prefix (map (λ t. t.path) e.targets) e.hint _ _ referral_shape j (simp length-map h)
       ∙ get_d_map (λ t. t.path) e.targets j no_target [] h in
       let o = ap (λ (u : ℕ). eqb u 1) (written_mark _ _ _ _ referral_shape j (omega arith) ∙ get_d_map (λ t. flag_unit t.opens) e.targets j no_target 0 h)
       ∙ flag_back (get_or e.targets j no_target).opens in
@@ -204,7 +204,7 @@ module _ (e : Referral) (good : good_referral e ≡ true) where
   targets_back : listed (list_count (referral_units e)) (λ j. target_of j (referral_units e)) ≡ e.targets
   unfolding referral_units
   targets_back =
-      ap (λ (n : ℕ). listed n (λ j. target_of j (referral_units e))) (count_back _ _ _ _ _ referral_shape ∙ simp length_map)
+      ap (λ (n : ℕ). listed n (λ j. target_of j (referral_units e))) (count_back _ _ _ _ _ referral_shape ∙ simp length-map)
       ∙ (listed_same (length e.targets) (λ j. target_of j (referral_units e)) (λ j. get_or e.targets j no_target) target_back
       ∙ listed_get_d e.targets no_target)
 

@@ -4,7 +4,7 @@ use mathlib.Core.Bool.{true, false, ◌&&◌}
 use mathlib.Core.List.{List, [], ◌∷◌, map, flatten}
 use Prim.Native.Nat.{ℕ, suc, ◌*◌, ◌/◌, ◌≤◌, ◌<◌}
 use native.Mathlib.Omega.{arith}
-use lib.ListN.{length, get_or, drop, set, length_map, length-replicate, length-set}
+use lib.ListN.{length, get_or, drop, set, length-map, length-replicate, length-set}
 use lib.Dec.{leb, eqb}
 use borrow.Author.Tests.{eqb-true, eq-eqb, leb-true, le-leb}
 use Rattle.laws.specs.Lists.{every}
@@ -144,16 +144,16 @@ module _ {E : Type 0} (k : Kind E) (law : Lawful k) where
 
     long_pieces : (j : ℕ) → j < length (map (piece_of k) ps) → length (get_or (map (piece_of k) ps) j []) ≡ 2336
     long_pieces j h =
-        let u : j < length ps = simp length_map at h in
+        let u : j < length ps = simp length-map at h in
         ap length (piece_of_lem j u) ∙ length_piece (get_or ps j free) (every_at (good_place k) ps good j free u)
 
     pub length_encode : length (encode k ps) ≡ length ps * 2336
     unfolding encode
-    length_encode = length_flatten 2336 (map (piece_of k) ps) long_pieces ∙ simp length_map
+    length_encode = length_flatten 2336 (map (piece_of k) ps) long_pieces ∙ simp length-map
 
     pub place_encode : (i : ℕ) → i < length ps → place_at i (encode k ps) ≡ piece_of k (get_or ps i free)
     unfolding encode place_at
-    place_encode i h = part_flatten 2336 (map (piece_of k) ps) long_pieces i (simp length_map h) ∙ piece_of_lem i h
+    place_encode i h = part_flatten 2336 (map (piece_of k) ps) long_pieces i (simp length-map h) ∙ piece_of_lem i h
 
     pub count_encode : place_count (encode k ps) ≡ length ps
     count_encode = omega (arith, length_encode)

@@ -1,6 +1,6 @@
 -- Laws of "every unit is zero": the loop that joins the units by "or", and what it says of each unit.
 use mathlib.Core.Path.{◌≡◌, refl, sym, ◌∙◌}
-use mathlib.Core.Bool.{true, ◌&&◌, and_assoc, and_true}
+use mathlib.Core.Bool.{true, ◌&&◌, and_assoc, and-true}
 use mathlib.Core.List.{List, [], ◌∷◌}
 use Prim.Native.Nat.{ℕ, suc, ◌+◌, ◌-◌, ◌≤◌, ◌<◌}
 use native.Mathlib.Numerals.{add-one}
@@ -45,7 +45,7 @@ pub zero_end : (s : List ℕ) (i to any : ℕ) → to ≤ i → eqb any 0 ≡ (e
 unfolding zeros every
 zero_end s i to any h =
     let e : to - i ≡ 0 = omega arith in
-    rw (e, part_none i s) (sym (and_true (eqb any 0)))
+    rw (e, part_none i s) (sym (and-true (eqb any 0)))
 
 -- each unit of such a part is zero
 pub zero_at : (s : List ℕ) (n k i : ℕ) → zeros (part n k s) ≡ true → n + k ≤ length s → n ≤ i → i < n + k → get_or s i 0 ≡ 0

@@ -6,7 +6,7 @@ use Prim.Native.Nat.{ℕ, suc, ◌+◌, ◌-◌, ◌/◌, ◌%◌, ◌^◌, ◌�
 use native.Mathlib.Numerals.{add-one}
 use native.Mathlib.Omega.{arith}
 use lib.Dec.{eqb}
-use lib.ListN.{length, get_or, take, set, length_map}
+use lib.ListN.{length, get_or, take, set, length-map}
 use lib.Seq.{get_or-take, take_all, take-suc, take-suc-set, length-take-le}
 use borrow.Author.Tests.{leb-true}
 use Rattle.laws.specs.Choice.{choose}
@@ -60,8 +60,8 @@ kept_spans r ks n h f {a} {b} p q =
     subst (λ (l : List ℕ). Spans r l b n) (sym p)
     (subst (λ (l : List ℕ). Spans r (map text_start ks) l n) (sym q)
     (record {
-      begun = omega (arith, length_map ks text_start);
-      sized = omega (arith, length_map ks size_of);
+      begun = omega (arith, length-map ks text_start);
+      sized = omega (arith, length-map ks size_of);
       within = λ j l. subst (Inside r) (sym (span_kept ks j (omega arith))) (kept_inside_lem r ks n j no_kept h l f);
     }))
 
@@ -74,13 +74,13 @@ kept_names r (k ∷ ks) = ap (λ (l : List (List ℕ)). spanned r k.path ∷ l) 
 pub numbers_next : (f : Kept → ℕ) (ks : List Kept) (out : List ℕ) (n : ℕ) (z : Kept) → take n out ≡ take n (map f ks) → n < length out → n < length ks → {v : ℕ} → v ≡ f (get_or ks n z)
     → take (n + 1) (set out n v) ≡ take (n + 1) (map f ks)
 numbers_next f ks out n z h l k e =
-    let m : n < length (map f ks) = omega (arith, length_map ks f) in
+    let m : n < length (map f ks) = omega (arith, length-map ks f) in
     rw (add-one n)
     (take-suc-set out n _ l ∙ ((λ i. h i ++ (e ∙ sym (get_d_map f ks n z 0 k)) i ∷ []) ∙ sym (take-suc (map f ks) n 0 m)))
 
 pub numbers_all : (f : Kept → ℕ) (ks : List Kept) (out : List ℕ) (n : ℕ) → take n out ≡ take n (map f ks) → length out ≡ length ks → length ks ≤ n → out ≡ map f ks
 numbers_all f ks out n h l k =
-    sym (take_all n out (omega arith)) ∙ (h ∙ take_all n (map f ks) (omega (arith, length_map ks f)))
+    sym (take_all n out (omega arith)) ∙ (h ∙ take_all n (map f ks) (omega (arith, length-map ks f)))
 
 pub length_names : (r starts sizes : List ℕ) → length (names_at r starts sizes) ≡ length starts
 unfolding names_at
@@ -236,13 +236,13 @@ module _ (raw : List ℕ) (i start end : ℕ) (r : List ℕ) (ks : List Kept) (f
     (a : start ≤ end) (l : end ≤ list_count (place_at i raw)) (b : from ≤ to) (m : to ≤ length ks) where
   pub set_unlike : (end - start ≡ to - from → ⊥) → false ≡ same_targets (part start (end - start) (paths (held_targets i raw))) (part from (to - from) (map (given_path r) ks))
   set_unlike =
-      parts_unlike (paths (held_targets i raw)) (map (given_path r) ks) start end from to a (omega (arith, held_count raw i)) b (omega (arith, length_map ks (given_path r)))
+      parts_unlike (paths (held_targets i raw)) (map (given_path r) ks) start end from to a (omega (arith, held_count raw i)) b (omega (arith, length-map ks (given_path r)))
 
   pub set_matched : end - start ≡ to - from → to ≤ 8 → {p q : List ℕ} → p ≡ map text_start ks → q ≡ map size_of ks → {v : Bool}
       → v ≡ matched (part start (end - start) (paths (held_targets i raw))) (unmarked (marks_in (to - from) 255) (part from (to - from) (names_at r p q)))
       → v ≡ same_targets (part start (end - start) (paths (held_targets i raw))) (part from (to - from) (map (given_path r) ks))
   set_matched h few u w e =
-      parts_matched (paths (held_targets i raw)) (map (given_path r) ks) start end from to a (omega (arith, held_count raw i)) b (omega (arith, length_map ks (given_path r))) h (omega arith)
+      parts_matched (paths (held_targets i raw)) (map (given_path r) ks) start end from to a (omega (arith, held_count raw i)) b (omega (arith, length-map ks (given_path r))) h (omega arith)
       (e
       ∙ ap (λ (l : List (List ℕ)). matched (part start (end - start) (paths (held_targets i raw))) (unmarked (marks_in (to - from) 255) (part from (to - from) l)))
       ((λ j. names_at r (u j) (w j)) ∙ kept_names r ks))

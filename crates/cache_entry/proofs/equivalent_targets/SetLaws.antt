@@ -8,7 +8,7 @@ use native.Mathlib.Nat.{zero-add}
 use native.Mathlib.Numerals.{add-one}
 use native.Mathlib.Omega.{arith}
 use lib.Dec.{leb}
-use lib.ListN.{length, get_or, take, drop, length_map, length-drop, drop_of_length-le}
+use lib.ListN.{length, get_or, take, drop, length-map, length-drop, drop_of_length-le}
 use lib.Seq.{drop-cons, drop-drop, get_or-take, length-take-le}
 use borrow.Author.Tests.{eq-eqb, ne_eqb, le-leb, lt-leb}
 use Rattle.laws.specs.Choice.{choose}
@@ -34,7 +34,7 @@ first_part n xs = refl
 
 length_paths : (ts : List Target) → length (paths ts) ≡ length ts
 unfolding paths
-length_paths ts = length_map ts (λ t. t.path)
+length_paths ts = length-map ts (λ t. t.path)
 
 -- a target for a place that has none
 abbrev none : Target
@@ -94,7 +94,7 @@ module _ (raw : List ℕ) (i : ℕ) where
 module _ (ks : List Kept) (n e : ℕ) where
   given_long : n ≤ length ks → length (given_boundaries (take n ks)) ≡ n
   unfolding given_boundaries
-  given_long l = length_map (take n ks) (λ k. k.opens) ∙ length-take-le n ks l
+  given_long l = length-map (take n ks) (λ k. k.opens) ∙ length-take-le n ks l
 
   given_opens : (z : Kept) → e < n → n ≤ length ks → get_or (given_boundaries (take n ks)) e false ≡ (get_or ks e z).opens
   unfolding given_boundaries
@@ -179,7 +179,7 @@ module _ (r : List ℕ) (ks : List Kept) where
 
 module _ (r : List ℕ) (ks : List Kept) (n : ℕ) where
   given_count : n ≤ length ks → length (map (target_shown r) (take n ks)) ≡ n
-  given_count few = length_map (take n ks) (target_shown r) ∙ length-take-le n ks few
+  given_count few = length-map (take n ks) (target_shown r) ∙ length-take-le n ks few
 
   pub given_part : (b k : ℕ) → b + k ≤ n → part b k (paths (map (target_shown r) (take n ks))) ≡ part b k (map (given_path r) ks)
   given_part b k h =

@@ -4,7 +4,7 @@ use mathlib.Core.Bool.{Bool, true, false}
 use mathlib.Core.List.{List, [], ◌∷◌, ◌++◌, map}
 use Prim.Native.Nat.{ℕ, ◌+◌, ◌-◌, ◌*◌, ◌≤◌, ◌<◌}
 use native.Mathlib.Omega.{arith}
-use lib.ListN.{length, length_map, get_or, take, drop, length-drop, drop_of_length-le}
+use lib.ListN.{length, length-map, get_or, take, drop, length-drop, drop_of_length-le}
 use lib.Seq.{drop-cons, get_or-take, length-take-le}
 use lib.Dec.{leb}
 use borrow.Author.Tests.{leb-true, le-leb}
@@ -107,7 +107,7 @@ module _ {K : Type 0} (kept : List K) (count n : ℕ) (d : K) (long : count ≤ 
   shown_at f z = get_d_map f (take count kept) n d z (omega (arith, count_taken)) ∙ ap f (get_or-take count kept n d more)
 
 pub length_shown : {K A : Type 0} (f : K → A) (kept : List K) (count : ℕ) → count ≤ length kept → length (map f (take count kept)) ≡ count
-length_shown f kept count h = length_map (take count kept) f ∙ length-take-le count kept h
+length_shown f kept count h = length-map (take count kept) f ∙ length-take-le count kept h
 
 pub path_at_lem : (r : List ℕ) (kept : List Kept) (count n : ℕ) (d : Kept) (z : Target) → count ≤ length kept → n < count
     → spanned r (get_or kept n d).path ≡ (get_or (map (target_shown r) (take count kept)) n z).path

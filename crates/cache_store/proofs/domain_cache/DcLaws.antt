@@ -5,7 +5,7 @@ use mathlib.Core.List.{List, [], ◌∷◌, map}
 use mathlib.Core.Logic.{inl}
 use Prim.Native.Nat.{ℕ, ◌+◌, ◌≤◌, ◌<◌}
 use native.Mathlib.Omega.{arith}
-use lib.ListN.{length, get_or, take, set, length_map, length-take}
+use lib.ListN.{length, get_or, take, set, length-map, length-take}
 use lib.Seq.{get_or-set_other}
 use borrow.Author.Tests.{leb-true, le-leb}
 use Rattle.laws.specs.Lists.{every}
@@ -147,7 +147,7 @@ module _ (raw : List ℕ) (i : ℕ) (at : DomainAt i raw) (r : List ℕ) (f : Dc
 
   few : length names ≤ 8
   unfolding names
-  few = let n : f.count ≤ 8 = s.few in simp (length_map, length-take) (omega arith)
+  few = let n : f.count ≤ 8 = s.few in simp (length-map, length-take) (omega arith)
 
   good : good_domain (dcs_of entry names) ≡ true
   unfolding names

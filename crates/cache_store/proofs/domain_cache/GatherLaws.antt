@@ -4,7 +4,7 @@ use mathlib.Core.Bool.{true}
 use mathlib.Core.List.{List, ◌∷◌, ◌++◌, map}
 use Prim.Native.Nat.{ℕ, ◌+◌, ◌-◌, ◌*◌, ◌≤◌, ◌<◌}
 use native.Mathlib.Omega.{arith}
-use lib.ListN.{length, take, length_map, length-take}
+use lib.ListN.{length, take, length-map, length-take}
 use borrow.Author.Tests.{le-leb}
 use Rattle.laws.specs.Lists.{every}
 use Rattle.laws.proofs.Choices.{and_both}
@@ -53,7 +53,7 @@ module _ (r : List ℕ) (n : ℕ) (v : Names) (e i : ℕ) (g : Going r n v e i) 
   length_shown =
       let room : length v.kept ≡ 33 = g.fit.room in
       let few : v.count ≤ 33 = g.fit.few in
-      simp (length_map, length-take) (omega arith)
+      simp (length-map, length-take) (omega arith)
 
   module _ (h : i < n) where
     pub going_fits : (18 ≤ size_at r e) × (e + size_at r e ≤ length r)

@@ -6,7 +6,7 @@ use mathlib.Core.Logic.{inl}
 use Prim.Native.Nat.{ℕ, zero, suc, ◌+◌, ◌-◌, ◌*◌, ◌≤◌, ◌<◌}
 use native.Mathlib.Nat.{add_comm, suc-mul}
 use native.Mathlib.Omega.{arith}
-use lib.ListN.{length, get_or, take, set, replicate, length_map, length-replicate, length-append, replicate-append-replicate}
+use lib.ListN.{length, get_or, take, set, replicate, length-map, length-replicate, length-append, replicate-append-replicate}
 use lib.Seq.{take_all, length-take-le, set_at, set-get_or, get_or_at}
 use Rattle.laws.specs.Lists.{every, pasted}
 use Rattle.laws.proofs.Choices.{and_left, and_right, and_both}
@@ -80,7 +80,7 @@ module _ (c i : ℕ) (names : List (List ℕ)) (good : every good_name names ≡
 
   length_placed : length placed ≡ i
   unfolding placed
-  length_placed = length_map (take i names) _ ∙ length-take-le i names (omega arith)
+  length_placed = length-map (take i names) _ ∙ length-take-le i names (omega arith)
 
   free_from : domain_places c (take i names) ≡ placed ++ (free ∷ replicate (c - (i + 1)) free)
   unfolding domain_places placed
@@ -147,7 +147,7 @@ pub names_in_order : (c : ℕ) (ns : List (List ℕ)) → 1 ≤ c → c ≤ 32 �
     → in_order domains (encode domains (domain_places c ns)) ≡ true
 unfolding domain_places
 names_in_order c ns least most few good apart =
-    let l : length (domain_places c ns) ≡ c = simp (length-append, length_map, length-replicate) (omega arith) in
+    let l : length (domain_places c ns) ≡ c = simp (length-append, length-map, length-replicate) (omega arith) in
     encoded_in_order domains domains_lawful (domain_places c ns)
     (good_cache_lem domains (domain_places c ns) (record {
       least = omega arith;

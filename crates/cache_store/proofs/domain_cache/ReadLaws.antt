@@ -5,7 +5,7 @@ use mathlib.Core.List.{List, [], ◌∷◌, map}
 use mathlib.Core.Logic.{◌⊎◌, inl, inr}
 use Prim.Native.Nat.{ℕ, ◌≤◌, ◌<◌, min}
 use native.Mathlib.Omega.{arith}
-use lib.ListN.{length, length_map, length-take}
+use lib.ListN.{length, length-map, length-take}
 use lib.Seq.{take_all}
 use lib.Dec.{leb, eqb}
 use denote.Enum.Declared.{tag_of}
@@ -68,7 +68,7 @@ module _ (r : List ℕ) (v : Names) (g : Gathered r v) (raw : List ℕ) (right :
   counted =
       let room : length v.kept ≡ 33 = g.fit.room in
       let few : v.count ≤ 33 = g.fit.few in
-      let l : length (shown r v) ≡ v.count = simp (length_map, length-take) (omega arith) in
+      let l : length (shown r v) ≡ v.count = simp (length-map, length-take) (omega arith) in
       sym l ∙ (ap length g.are ∙ length-take 33 (once names))
 
   pub too_many : place_count raw < v.count

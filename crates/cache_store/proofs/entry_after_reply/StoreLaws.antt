@@ -4,7 +4,7 @@ use mathlib.Core.Bool.{Bool, true, false}
 use mathlib.Core.List.{List, [], ◌∷◌, map}
 use Prim.Native.Nat.{ℕ, ◌+◌, ◌≤◌, ◌<◌}
 use native.Mathlib.Omega.{arith}
-use lib.ListN.{length, take, length_map, length-take}
+use lib.ListN.{length, take, length-map, length-take}
 use Rattle.cache.specs.places.Layout.{place_count, place_at, root_unit}
 use Rattle.cache.specs.places.Code.{changed, put_settings}
 use Rattle.reply_bytes.specs.texts.Code.{spanned}
@@ -50,7 +50,7 @@ unfolding put_settings settings settings_units
 keeps_settled root interlink failback ttl taken = keeps_pasted root_unit (settings root interlink failback ttl taken) (omega arith)
 
 few_kept : (r : List ℕ) (ks : List Kept) (n : ℕ) → n ≤ 8 → 0 + length (map (target_shown r) (take n ks)) ≤ 8
-few_kept r ks n h = simp (length_map, length-take) (omega arith)
+few_kept r ks n h = simp (length-map, length-take) (omega arith)
 
 -- what the three steps leave in a place
 new_entry : (r : List ℕ) (f : ReferralFound) → Storable r f → (interlink : Bool) (clock : ℕ) (p : List ℕ)

@@ -1,7 +1,7 @@
 -- Demand 3, proved: `limit-only-cuts`.
 use mathlib.Core.Path.{◌≡◌, refl, sym, ap, ◌∙◌, subst}
 use mathlib.Core.Bool.{true, false, ◌&&◌}
-use mathlib.Core.List.{List, [], ◌∷◌, ◌++◌, map, append_assoc, map_append}
+use mathlib.Core.List.{List, [], ◌∷◌, ◌++◌, map, append_assoc, map-append}
 use mathlib.Core.Option.{Option, none, some}
 use mathlib.Core.Logic.{◌⊎◌, inl, inr}
 use Prim.Native.Nat.{ℕ, suc, ◌+◌, ◌-◌, ◌≤◌, ◌<◌}
@@ -138,7 +138,7 @@ never_24 (taken {t = t} x f) c g v e =
 -- a longer call begins with the moves of a shorter
 made_more : (c : Caches) (ms ns : List Move) → made_in c (ms ++ ns) ≡ made_in c ms ++ made_in c ns
 unfolding made_in
-made_more c ms ns = map_append _ ms ns
+made_more c ms ns = map-append _ ms ns
 
 record Begins (ms ns : List Made) : Type 0 where
   more : List Made

@@ -1,6 +1,6 @@
 -- Laws of prefix match.
 use mathlib.Core.Path.{◌≡◌, refl, sym, ap, ◌∙◌}
-use mathlib.Core.Bool.{Bool, true, false, ◌&&◌, and_assoc, and_true}
+use mathlib.Core.Bool.{Bool, true, false, ◌&&◌, and_assoc, and-true}
 use mathlib.Core.List.{List, [], ◌∷◌}
 use mathlib.Core.Logic.{◌⊎◌, inl, inr}
 use Prim.Native.Nat.{ℕ, ◌≤◌, ◌<◌}
@@ -80,7 +80,7 @@ module _ (p s : List ℕ) where
 
   pub matches_whole : length p ≡ length s → {r : Bool} → r ≡ same_name p s → r ≡ matches p s
   unfolding at_end_lem
-  matches_whole e h = h ∙ sym (matches_units p s ∙ rw (e, take-length, drop-length) (and_true _))
+  matches_whole e h = h ∙ sym (matches_units p s ∙ rw (e, take-length, drop-length) (and-true _))
 
   -- the whole path as a part of it
   pub matches_all : length p ≡ length s → {r : Bool} → r ≡ same_name p (take (length p) s) → r ≡ matches p s
@@ -88,7 +88,7 @@ module _ (p s : List ℕ) where
 
   pub matches_part : length p < length s → get_or s (length p) 0 ≡ 92 → {r : Bool} → r ≡ same_name p (take (length p) s) → r ≡ matches p s
   unfolding at_end_lem
-  matches_part h e f = f ∙ sym (matches_units p s ∙ rw (drop-cons s (length p) 0 h, eq-eqb _ _ e) (and_true _))
+  matches_part h e f = f ∙ sym (matches_units p s ∙ rw (drop-cons s (length p) 0 h, eq-eqb _ _ e) (and-true _))
 
   pub matches_beside : length p < length s → (get_or s (length p) 0 ≡ 92 → ⊥) → matches p s ≡ false
   unfolding at_end_lem

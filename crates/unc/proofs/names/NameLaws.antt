@@ -1,6 +1,6 @@
 -- Laws of equal units and equal names. Every crate above uses these laws, and not the text of `folded`.
 use mathlib.Core.Path.{◌≡◌, refl, sym, ap, ◌∙◌}
-use mathlib.Core.Bool.{Bool, true, false, not, true≢false, and_true}
+use mathlib.Core.Bool.{Bool, true, false, not, true≢false, and-true}
 use mathlib.Core.List.{List, [], ◌∷◌}
 use mathlib.Core.Logic.{◌⊎◌, inl, inr}
 use Prim.Native.Nat.{ℕ, suc, ◌+◌, ◌≤◌, ◌<◌}
@@ -154,5 +154,5 @@ pub dots_two : (s : List ℕ) → length s ≡ 2 → get_or s 0 0 ≡ 46 → eqb
 unfolding nothing_or_dots every
 dots_two [] h k = absurd (omega arith)
 dots_two (u ∷ []) h k = absurd (omega arith)
-dots_two (u ∷ (v ∷ [])) h k = rw (eq-eqb u 46 k) (sym (and_true (eqb v 46)))
+dots_two (u ∷ (v ∷ [])) h k = rw (eq-eqb u 46 k) (sym (and-true (eqb v 46)))
 dots_two (u ∷ (v ∷ (w ∷ s))) h k = absurd (omega arith)

@@ -276,14 +276,14 @@ module _ (units out : List ℕ) {n : ℕ} (e : n ≡ min 32 (length units)) {w :
   end_seen_lem h = seen_as k (h ∙ (λ j. end_call (a j) (head_rest units e j) out))
 
 -- the domain request
-module _ {v : Asked} {m : ℕ} (e : dom.askedNumber v ≡ m) where
+module _ {v : Asked} {m : ℕ} (e : dom.asked_number v ≡ m) where
   pub asked_bytes : (n : ℕ) → v ≡ Bytes n → 0 ≡ m
-  unfolding dom.askedNumber
-  asked_bytes n h = ap dom.askedNumber (sym h) ∙ e
+  unfolding dom.asked_number
+  asked_bytes n h = ap dom.asked_number (sym h) ∙ e
 
   pub asked_short : v ≡ TooShort → 10 ≡ m
-  unfolding dom.askedNumber
-  asked_short h = ap dom.askedNumber (sym h) ∙ e
+  unfolding dom.asked_number
+  asked_short h = ap dom.asked_number (sym h) ∙ e
 
 -- units that are not of the form are a walk out of form
 pub no_form : (units : List ℕ) → unpacked (take 32 units) ≡ NotOfForm → in_form (walk_in units) (drop 32 units) ≡ false

@@ -13,4 +13,4 @@ closed_units number w units = choose (eqb number 0) (pasted units 0 (packed_walk
 
 -- `dfsc_read`: the numbers of its answers
 abbrev pub read_refusal : Loaded → ℕ
-read_refusal answer = red.loadRefusal answer
+read_refusal answer = red.load_refusal answer

@@ -129,10 +129,10 @@ module _ (ps : List (Place Referral)) (good : good_cache referrals ps ≡ true) 
       ∙ kept_good referrals referrals_lawful ps good i e (target_hint_to h e) here (target_hint_good h e (place_good referrals referrals_lawful ps good i e here) u) refl
 
 -- what a reply says makes a good entry
-all_targets : (ts : List Target) → every said.goodTarget ts ≡ true → every good_target ts ≡ true
-unfolding every said.goodTarget good_target good_prefix
+all_targets : (ts : List Target) → every said.good_target ts ≡ true → every good_target ts ≡ true
+unfolding every said.good_target good_target good_prefix
 all_targets [] h = refl
-all_targets (t ∷ ts) h = and_both (and_left (said.goodTarget t) _ h) (all_targets ts (and_right (said.goodTarget t) _ h))
+all_targets (t ∷ ts) h = and_both (and_left (said.good_target t) _ h) (all_targets ts (and_right (said.good_target t) _ h))
 
 first_shuts : (ts : List Target) → ((t : Target) (us : List Target) → ts ≡ t ∷ us → t.opens ≡ false) → first_opens_none ts ≡ true
 unfolding first_opens_none

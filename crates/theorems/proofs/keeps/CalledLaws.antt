@@ -87,7 +87,7 @@ module _ (path : List ℕ) where
 pub replaced_good : (path : List ℕ) (e : Referral) (j : ℕ) → good_prefix path ≡ true → good_referral e ≡ true → matches e.prefix path ≡ true → j < length e.targets
     → length (replaced (target_path j e) (length e.prefix) path) ≤ 256 → good_prefix (replaced (target_path j e) (length e.prefix) path) ≡ true
 unfolding step11 target_hint_to target_path
-replaced_good path e j good well m u l = moved.new-good path (target_hint_to j e) good (target_hint_good j e well u) m l
+replaced_good path e j good well m u l = moved.new_good path (target_hint_to j e) good (target_hint_good j e well u) m l
 
 good_once : (s : List ℕ) → good_prefix s ≡ true → leb 1 (normalised_count s) ≡ true
 unfolding good_prefix

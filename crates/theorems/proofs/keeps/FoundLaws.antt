@@ -74,7 +74,7 @@ module _ (ps : List (Place Referral)) (good : good_cache referrals ps ≡ true) 
   pub under_path : (i : ℕ) (e : Referral) → get_or ps i free ≡ used e → matches e.prefix path ≡ true
       → prefixed (take (length e.prefix) path) ps ≡ some e
   unfolding prefixed
-  under_path i e g m = held_is ps i e g (key_at referrals ps good i e g _ (found.matches-same e.prefix path m))
+  under_path i e g m = held_is ps i e g (key_at referrals ps good i e g _ (found.matches_same e.prefix path m))
 
 -- the place that a store writes lies in the cache
 module _ (ps : List (Place Referral)) (good : good_cache referrals ps ≡ true) (r : replies.ReferralReply) (interlink : Bool) (clock : ℕ)

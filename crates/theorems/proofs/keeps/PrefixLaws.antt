@@ -92,7 +92,7 @@ module _ (s : List ℕ) (h : is_normalised s ≡ true) where
 
 module _ (p s : List ℕ) (hp : good_prefix p ≡ true) (hs : good_prefix s ≡ true) (m : matches p s ≡ true) where
   pub same_units : same_name p (take (length p) s) ≡ true
-  same_units = found.matches-same p s m
+  same_units = found.matches_same p s m
 
   pub units_inside : length p ≤ length s
   units_inside = matches_within p s m

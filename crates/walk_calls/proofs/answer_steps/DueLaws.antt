@@ -100,8 +100,8 @@ module _ {refs doms : List ℕ} {walk : Walk} {texts : List ℕ} {q : Asking} {h
     path_there : take walk.path m ≡ path_in walk texts
     path_there = (λ j. take (sym formed.path_length j) (as_rooms j)) ∙ path_in_lem (path_in walk texts) (tried_in walk texts)
 
-    tried_there : tries.triedRoom walk.tried m ≡ tried_in walk texts
-    unfolding tries.triedRoom texts_of
+    tried_there : tries.tried_room walk.tried m ≡ tried_in walk texts
+    unfolding tries.tried_room texts_of
     tried_there =
         (λ j. take (sym formed.tried_length j) (drop 256 (as_rooms j)))
         ∙ (ap (take (length (tried_in walk texts))) (drop_at (roomed 256 (path_in walk texts)) (roomed 256 (tried_in walk texts)) 256 (length_roomed 256 (path_in walk texts) short))
@@ -148,7 +148,7 @@ module _ {refs doms : List ℕ} {walk : Walk} {texts : List ℕ} {q : Asking} {h
 
     -- the turns, from the copy
     io_copied : (status clock room : ℕ)
-        → io_answered (caches_of refs doms) (core_at (progress_of walk clock room) m) (question_of q (tries.triedRoom walk.tried m)) status ≡ io_turn refs doms texts walk q status
+        → io_answered (caches_of refs doms) (core_at (progress_of walk clock room) m) (question_of q (tries.tried_room walk.tried m)) status ≡ io_turn refs doms texts walk q status
     unfolding io_turn core_in progress_of
     io_copied status clock room = λ j. io_answered (caches_of refs doms) (core_of (path_there j) walk.size walk.hit) (question_of q (tried_there j)) status
 
@@ -158,11 +158,11 @@ module _ {refs doms : List ℕ} {walk : Walk} {texts : List ℕ} {q : Asking} {h
     referral_copied status reply clock room = λ j. referral_answered (caches_of refs doms) (core_of (path_there j) walk.size walk.hit) (question_of q []) status reply clock
 
     module _ (status clock room : ℕ) {g : Progress} (p : g ≡ progress_of walk clock room) {x : Leaving} where
-      pub io_leaves : x ≡ leaves g refs doms (io_answered (caches_of refs doms) (core_at g m) (question_of q (tries.triedRoom walk.tried m)) status)
+      pub io_leaves : x ≡ leaves g refs doms (io_answered (caches_of refs doms) (core_at g m) (question_of q (tries.tried_room walk.tried m)) status)
           → x ≡ leaves (progress_of walk clock room) refs doms (io_turn refs doms texts walk q status)
       io_leaves h =
           h
-          ∙ ((λ j. leaves (p j) refs doms (io_answered (caches_of refs doms) (core_at (p j) m) (question_of q (tries.triedRoom walk.tried m)) status))
+          ∙ ((λ j. leaves (p j) refs doms (io_answered (caches_of refs doms) (core_at (p j) m) (question_of q (tries.tried_room walk.tried m)) status))
           ∙ ap (leaves (progress_of walk clock room) refs doms) (io_copied status clock room))
 
       pub referral_leaves : (reply : List ℕ) → x ≡ leaves g refs doms (referral_answered (caches_of refs doms) (core_at g m) (question_of q []) status reply g.clock)

@@ -84,10 +84,10 @@ first_whole k s p h =
 path_good : Target → Bool
 path_good t = good_prefix t.path
 
-targets_good : (ts : List Target) → every said.goodTarget ts ≡ true → every path_good ts ≡ true
-unfolding every said.goodTarget path_good good_prefix
+targets_good : (ts : List Target) → every said.good_target ts ≡ true → every path_good ts ≡ true
+unfolding every said.good_target path_good good_prefix
 targets_good [] h = refl
-targets_good (t ∷ ts) h = and_both (and_left (said.goodTarget t) _ h) (targets_good ts (and_right (said.goodTarget t) _ h))
+targets_good (t ∷ ts) h = and_both (and_left (said.good_target t) _ h) (targets_good ts (and_right (said.good_target t) _ h))
 
 -- every kept target fits its place
 one : (r : List ℕ) (k : Kept) → kept_inside r k ≡ true → path_good (target_shown r k) ≡ true → kept_fits r k ≡ true

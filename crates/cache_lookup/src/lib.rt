@@ -1,4 +1,6 @@
 // Looking up in the two lent caches: the longest match, an equal key, ages, the place of a new entry, its fields and hints.
+#![tactic(auto)]
+
 ghost use Rattle.std.specs.Prelude.{◌≡◌, ◌+◌, ◌/◌, ◌<◌, ◌≤◌, true, false, length};
 ghost use Rattle.cache.specs.places.Layout.{place_count, place_at, room_units};
 ghost use Rattle.cache.specs.order.Memory.{referrals, domains, place_of, decode, encode, in_order};

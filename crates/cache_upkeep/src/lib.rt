@@ -1,5 +1,7 @@
 // What a host does to its caches beside walks: referral entries are expired, so that the next walk refreshes them, and a domain's DCHint is moved on.
 // A call that is refused changes nothing.
+#![tactic(auto)]
+
 ghost use Rattle.std.specs.Prelude.{◌≡◌, true, ◌≤◌, ◌<◌};
 ghost use Rattle.cache.specs.places.Layout.{place_count};
 ghost use Rattle.cache.specs.order.Memory.{referrals, domains, decode, encode, in_order};

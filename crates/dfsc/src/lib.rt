@@ -1,5 +1,7 @@
 // The library for hosts in other languages: functions over lent memory, as include/dfsc.h tells them. Caches, walk and texts are as specs/ of
 // `cache::places`, `walk_form::packed` and `walk_form::held` lay them out; a slice goes as its address and its length.
+#![tactic(auto)]
+
 ghost use Rattle.std.specs.Prelude.{◌≡◌, [], length};
 ghost use Rattle.cache_upkeep.specs.Calls.{upkeep_number, expire_all_call, expire_call, next_dc_call};
 ghost use Rattle.reply_read.specs.referral.Request.{buffer_with};

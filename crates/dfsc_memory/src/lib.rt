@@ -1,4 +1,6 @@
 // What a host lends: a walk as units, and the numbers that are given back. A walk is lent as 800 units: its packed form in 32, then its texts.
+#![tactic(auto)]
+
 ghost use Rattle.std.specs.Prelude.{◌≡◌, ◌≤◌, min, length};
 ghost use Rattle.walk_calls.specs.calls.Calls.{refusal_number};
 ghost use Rattle.cache_store.specs.domain_cache.Code.{domains_refusal};

@@ -4,6 +4,8 @@
 // - check_listing: whether a text is a listing, and of how many entries
 // - fill_cache: the entries of a listing into the places of a cache
 // - read_listing: a text into a referral cache; a refusal changes nothing
+#![tactic(auto)]
+
 pub mod check_listing;
 pub mod fill_cache;
 pub mod line;

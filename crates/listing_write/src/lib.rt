@@ -1,4 +1,6 @@
 // The referral cache as text: document 01, "The listing".
+#![tactic(auto)]
+
 ghost use Rattle.std.specs.Prelude.{◌≡◌, ◌++◌, ◌+◌, ◌/◌, ◌≤◌, ◌<◌, length};
 ghost use Rattle.cache.specs.places.Layout.{place_count, place_at, flag_at, flag_unit, room_units, place_units};
 ghost use Rattle.cache.specs.order.Memory.{referral_of, most_places};

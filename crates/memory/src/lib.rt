@@ -1,4 +1,6 @@
 // Writing units into lent memory: one unit, a piece, zeros, a text in its room. What lies outside the place that is named stays.
+#![tactic(auto)]
+
 ghost use Rattle.std.specs.Prelude.{◌≡◌, [], ◌∷◌, ◌+◌, ◌-◌, ◌≤◌, ◌<◌, min, length, replicate};
 ghost use Rattle.laws.specs.Lists.{pasted, roomed};
 

@@ -4,3 +4,4 @@
 // - examples: document 01's examples marked P
 // - one_outcome: a call that is taken prints just one outcome
 // - read_back: what is printed is read back
+#![tactic(auto)]

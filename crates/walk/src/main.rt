@@ -1,5 +1,7 @@
 // Walks a path by the answers on standard input, from empty caches: document 01, "Examples to hold it to". It reads, calls and writes: `script_input::pieces` says what has come,
 // `script_input::line_order` what it says and which call is due, and `script_run::stream` reads, makes the call and writes its lines.
+#![tactic(auto)]
+
 ghost use Rattle.std.specs.Prelude.{◌≡◌, length};
 
 use script_lines::lines::Due;

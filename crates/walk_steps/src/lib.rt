@@ -4,6 +4,8 @@
 // - cycle: the steps that call each other: lookup, domain, link and interlink
 // - question_request: the request of the question that waits
 // - rounds: rounds over DCs and targets: the next party after a failure, or an end
+#![tactic(auto)]
+
 pub mod cycle;
 pub mod question_request;
 pub mod rounds;

@@ -6,8 +6,8 @@ ghost use Rattle.script_run.specs.call_due.Calling.{lent_memory, made};
 ghost use Rattle.script_run.specs.stream.Stream.{Leaves, NextPiece};
 
 use crate::call_due::Done;
-use libc::{STDIN_FILENO, STDOUT_FILENO};
 use script_lines::lines::{Due, Script};
+use std::io::{Read, Stdin, Stdout, Write};
 use walk_form::held::Walk;
 
 // Memory for what a call prints.
@@ -36,23 +36,29 @@ fn narrow(units: &[u16], bytes: &mut [u8])
     }
 }
 
-// Writes what a call prints.
-fn write(units: &[u16])
+// Memory for the bytes of a piece of the input.
+fn piece_bytes() -> [u8; 4096]
+    ensures { 4096 ≡ length result }
+{
+    [0; 4096]
+}
+
+// Writes what a call prints; a write that fails is not noticed.
+fn write(output: &mut Stdout, units: &[u16])
     requires { (length units.now ≤ 4931) × (every is_byte units.now ≡ true) }
 {
     let n = units.len();
     let mut bytes = byte_memory();
     narrow(units, &mut bytes);
-    io::write_all(STDOUT_FILENO, &bytes[..n]);
+    let _ = output.write_all(&bytes[..n]);
 }
 
-// Reads a piece of the input, and answers how many bytes came.
-fn read(units: &mut [u16]) -> usize
+// Reads a piece of the input, and answers how many bytes came: none at its end, and none where the read fails.
+fn read(input: &mut Stdin, units: &mut [u16]) -> usize
     ensures { result ≤ length units.new }
 {
-    let mut bytes = io::buffer();
-    let got = libc::read(STDIN_FILENO, &mut bytes);
-    let n = io::count(got, &bytes);
+    let mut bytes = piece_bytes();
+    let n = input.read(&mut bytes).unwrap_or(0);
     script_lines::line_bytes::widen(&bytes[..n], units)
 }
 
@@ -64,7 +70,7 @@ pub struct Piece {
 }
 
 // The next piece, where this one has been used up.
-pub fn next(units: &mut [u16], count: usize, at: usize, ended: bool) -> Piece
+pub fn next(input: &mut Stdin, units: &mut [u16], count: usize, at: usize, ended: bool) -> Piece
     requires { count ≤ length units.old }
     ensures { NextPiece count at ended units.old units.new result }
 {
@@ -75,13 +81,14 @@ pub fn next(units: &mut [u16], count: usize, at: usize, ended: bool) -> Piece
         return Piece { count, at };
     }
     Piece {
-        count: read(units),
+        count: read(input, units),
         at: 0,
     }
 }
 
 // Makes the call that is due, and writes what is printed after it.
 pub fn call(
+    output: &mut Stdout,
     due: Due,
     s: Script,
     walk: Walk,
@@ -97,6 +104,6 @@ pub fn call(
     let mut out = out_memory();
     let d = crate::call_due::make(due, s, walk, refs, doms, texts, path, boot, reply, &mut out);
     let n = d.bytes;
-    write(&out[..n]);
+    write(output, &out[..n]);
     d
 }

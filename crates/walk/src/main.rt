@@ -41,7 +41,9 @@ fn piece_memory() -> [u16; 4096]
     [0; 4096]
 }
 
-fn main() {
+fn main(rt: HostRuntime) {
+    let mut stdin = rt.stdin();
+    let mut stdout = rt.stdout();
     let mut refs = cache();
     let mut doms = cache();
     let mut texts = walk_texts();
@@ -68,7 +70,7 @@ fn main() {
             );
             due = script_input::line_order::due_after(input, s);
         } else {
-            let p = script_run::stream::next(&mut units, count, came.at, came.ended);
+            let p = script_run::stream::next(&mut stdin, &mut units, count, came.at, came.ended);
             count = p.count;
             came.at = p.at;
             came = script_input::pieces::come(&units[..count], &mut line, came);
@@ -77,7 +79,16 @@ fn main() {
             due = script_input::line_order::due_before(input, s, &line, held);
         }
         let d = script_run::stream::call(
-            due, s, walk, &mut refs, &mut doms, &mut texts, &path, &boot, &reply,
+            &mut stdout,
+            due,
+            s,
+            walk,
+            &mut refs,
+            &mut doms,
+            &mut texts,
+            &path,
+            &boot,
+            &reply,
         );
         s = d.script;
         walk = d.walk;

@@ -7,7 +7,7 @@ ghost use Rattle.reply_bytes.specs.reader.Code.{header_of, start_of, entry_marks
 
 use crate::texts::Read;
 
-#[derive(Drop)]
+#[derive(Clone, Copy)]
 pub struct Reader<'a> {
     pub src: &'a [u8],
     pub at: usize,

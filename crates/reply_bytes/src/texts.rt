@@ -10,7 +10,7 @@ ghost use Rattle.reply_bytes.specs.texts.Code.{spanned, Inside, part_of, text_en
 use unc::names::{BACKSLASH, DOT, NAME_UNITS};
 
 // Units in bytes: where they start, and how many.
-#[derive(Drop)]
+#[derive(Clone, Copy)]
 pub struct Span {
     pub from: usize,
     pub units: usize,

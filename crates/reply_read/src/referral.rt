@@ -29,7 +29,7 @@ pub enum TextRead {
 }
 
 // A kept target, and whether a target set opens before it.
-#[derive(Drop)]
+#[derive(Clone, Copy)]
 pub struct Kept {
     pub path: Span,
     pub opens: bool,

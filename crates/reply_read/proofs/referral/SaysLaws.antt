@@ -17,7 +17,7 @@ use Rattle.laws.proofs.Every.{every_take}
 use Rattle.unc.specs.names.Names.{good_component}
 use Rattle.unc.specs.names.Paths.{leads, pieces, body, good_path, normalised, is_normalised, normalised_count, component_count, matches, Target}
 use Rattle.reply_bytes.specs.texts.Bytes.{Text, terminated, unterminated}
-use Rattle.reply_read.specs.referral.Replies.{referral_count, starts, entries, path_of, is_read, same_read, matches_read, prefix_at, target_at, good_fields, good_entry, ReferralReply, referral_said, referral_in, malformed, nothing, says, read_or, read_as, read_referral}
+use Rattle.reply_read.specs.referral.Replies.{referral_count, starts, entries, path_of, is_read, matches_read, prefix_at, target_at, good_fields, good_entry, ReferralReply, referral_said, referral_in, malformed, nothing, says, read_or, read_as, read_referral}
 use Rattle.reply_read.specs.referral.Code.{units_read, opens_at, kept_here, kept_from, reply_of, denoted, referral_shown}
 use Rattle.reply_read.specs.declared.referral.ReferralFound.{ReferralFound}
 use Rattle.reply_read.specs.declared.referral.Answer.{Answer}

@@ -1,9 +1,10 @@
 -- The order of a used place of the domain cache, test by test.
-use mathlib.Core.Logic.{inl, inr, ⊎_elim}
+use mathlib.Core.Logic.{inl, inr}
 use native.Mathlib.Omega.{arith}
 use borrow.Author.Rules.{rules}
 use Rattle.cache.proofs.order.PlaceLaws.{domain_untidy, domain_marked, domain_unhinted, domain_rest, tidy_few}
 use Rattle.cache.proofs.order.domain_ordered.Goals as goal
+use Rattle.cache.proofs.order.domain_ordered.Goals.{then-piece-ne0+else-piece, else-piece-ne0}
 
 pub returns-then-not-is_tidy : goal.returns-then-not-is_tidy
 returns-then-not-is_tidy c = domain_untidy _ (omega arith) c.is_tidy.ensures c.if-not-is_tidy.true
@@ -30,4 +31,4 @@ returns c =
     c.all_zero.ensures
     c.if-not-all_zero.false
     c.texts_good.ensures
-    (⊎_elim (λ w. inr (omega arith)) (λ w. inl (omega arith)) c.if-piece-ne0.branch)
+    (elim c.if-piece-ne0.branch [ then-piece-ne0+else-piece w ↦ inr (omega arith) | else-piece-ne0 w ↦ inl (omega arith) ])

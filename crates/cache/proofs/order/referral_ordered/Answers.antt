@@ -7,22 +7,22 @@ use Rattle.cache.proofs.order.referral_ordered.Goals as goal
 
 pub returns-then-not-is_tidy : goal.returns-then-not-is_tidy
 returns-then-not-is_tidy c =
-    referral_untidy _ (omega arith) (omega (arith, c.shared_slice_known-1.given ttl_unit)) (omega (arith, c.shared_slice_known-1.given taken_unit))
+    referral_untidy _ (omega arith) (omega (arith, c.type_inv.piece ttl_unit)) (omega (arith, c.type_inv.piece taken_unit))
     c.is_tidy.ensures c.if-not-is_tidy.true
 
 pub returns-then-not-flags_good : goal.returns-then-not-flags_good
 returns-then-not-flags_good c =
-    referral_unflagged _ (omega arith) (omega (arith, c.shared_slice_known-1.given ttl_unit)) (omega (arith, c.shared_slice_known-1.given taken_unit))
+    referral_unflagged _ (omega arith) (omega (arith, c.type_inv.piece ttl_unit)) (omega (arith, c.type_inv.piece taken_unit))
     c.flags_good.ensures c.if-not-flags_good.true
 
 pub returns-then-piece-ne0 : goal.returns-then-piece-ne0
 returns-then-piece-ne0 c =
-    referral_opens _ (omega arith) (omega (arith, c.shared_slice_known-2-1.given ttl_unit)) (omega (arith, c.shared_slice_known-2-1.given taken_unit))
+    referral_opens _ (omega arith) (omega (arith, c.type_inv.piece ttl_unit)) (omega (arith, c.type_inv.piece taken_unit))
     c.if-piece-ne0.true
 
 pub returns-then-piece : goal.returns-then-piece
 returns-then-piece c =
-    referral_unhinted _ (omega arith) (omega (arith, c.shared_slice_known-4-1.given ttl_unit)) (omega (arith, c.shared_slice_known-4-1.given taken_unit))
+    referral_unhinted _ (omega arith) (omega (arith, c.type_inv.piece ttl_unit)) (omega (arith, c.type_inv.piece taken_unit))
     (omega arith)
 
 pub texts_good-requires : goal.texts_good-requires
@@ -35,7 +35,7 @@ texts_good-requires c = (
 
 pub returns : goal.returns
 returns c =
-    referral_rest _ (omega arith) (omega (arith, c.shared_slice_known-4-1.given ttl_unit)) (omega (arith, c.shared_slice_known-4-1.given taken_unit))
+    referral_rest _ (omega arith) (omega (arith, c.type_inv.piece ttl_unit)) (omega (arith, c.type_inv.piece taken_unit))
     c.is_tidy.ensures
     c.if-not-is_tidy.false
     c.flags_good.ensures

@@ -1,4 +1,3 @@
-use Prim.Native.Nat.{◌-◌}
 use mathlib.Core.Path.{sym, ◌∙◌}
 use native.Mathlib.Omega.{arith}
 use borrow.Author.Rules.{rules}
@@ -7,7 +6,7 @@ use Rattle.cache.proofs.order.TestLaws.{texts_start, texts_more, texts_stop, tex
 use Rattle.cache.proofs.order.texts_good.Goals as goal
 
 pub overflow_cast-count : goal.overflow_cast-count
-overflow_cast-count c = omega (arith, c.shared_slice_known-2-1.given count_unit)
+overflow_cast-count c = omega (arith, c.type_inv.piece count_unit)
 
 pub loop-j-init : goal.loop-j-init
 loop-j-init c = (search rules, texts_start _ _)

@@ -6,7 +6,7 @@ use Rattle.cache.proofs.places.TidyLaws.{not_few, not_lengths, not_marks, not_re
 use Rattle.cache.proofs.places.is_tidy.Goals as goal
 
 pub overflow_cast-count : goal.overflow_cast-count
-overflow_cast-count c = omega (arith, c.shared_slice_known-2-1.given count_unit)
+overflow_cast-count c = omega (arith, c.type_inv.piece count_unit)
 
 pub returns-then-count-gt8 : goal.returns-then-count-gt8
 returns-then-count-gt8 c = sym (not_few _ (omega arith) (omega arith))

@@ -1,4 +1,3 @@
-use Prim.Native.Nat.{◌-◌}
 use mathlib.Core.Path.{sym, ◌∙◌}
 use native.Mathlib.Omega.{arith}
 use borrow.Author.Rules.{rules}
@@ -9,7 +8,7 @@ pub loop-j-init : goal.loop-j-init
 loop-j-init c = (search rules, rooms_start _)
 
 pub overflow_cast-units : goal.overflow_cast-units
-overflow_cast-units c = omega (arith, c.shared_slice_known-in-loop-j-1.given c.loop-j.j)
+overflow_cast-units c = omega (arith, c.type_inv.piece c.loop-j.j)
 
 pub returns-then-units-gt-ROOM : goal.returns-then-units-gt-ROOM
 returns-then-units-gt-ROOM c = sym (c.loop-j.invariant.1 ∙ rooms_long _ _ (omega arith) (omega arith))

@@ -1,0 +1,9 @@
+-- Sets TargetHint.
+use Rattle.std.proofs.Common.{arith}
+use Rattle.cache_lookup.proofs.EntryLaws.{target_hint_set_lem}
+use Rattle.cache_lookup.proofs.set_target_hint.Goals as goal
+
+pub returns : goal.returns
+returns c =
+    target_hint_set_lem _ _ _ c.requires.0 (omega arith) c.requires.1.1
+    c.put_unit.ensures

@@ -12,7 +12,7 @@ use reply_bytes::texts::{Read, Span};
 use unc::path_form::PATH_UNITS;
 
 // What a reply is read as.
-#[derive(Drop)]
+#[derive(Clone, Copy)]
 pub enum Answer {
     Malformed,
     Nothing,

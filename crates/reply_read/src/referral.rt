@@ -36,7 +36,7 @@ pub struct Kept {
 }
 
 // A reply to a root, link or SYSVOL request: its texts are spans of the reply. The first `targets` places of `kept` are the targets.
-#[derive(Drop)]
+#[derive(Clone, Copy)]
 pub struct ReferralFound {
     pub answer: Answer,
     pub version: u16,

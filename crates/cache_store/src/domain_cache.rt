@@ -25,7 +25,7 @@ use reply_read::request::{LEAST_SIZE, MOST_SIZE};
 const NAMES: usize = cache::order::PLACES + 1;
 
 // What reading a domain reply answers.
-#[derive(Drop)]
+#[derive(Clone, Copy)]
 pub enum DomainsRead {
     Done,
     BadSize,
@@ -35,7 +35,7 @@ pub enum DomainsRead {
 }
 
 // Different names of a domain reply, as spans of it: the first `count` of `kept`.
-#[derive(Drop)]
+#[derive(Clone, Copy)]
 struct Names {
     kept: [Span; 33],
     count: usize,

@@ -19,7 +19,7 @@ const TARGET_LINE: usize = 7;
 const LINES: usize = 15;
 
 // What a text is as a listing.
-#[derive(Drop)]
+#[derive(Clone, Copy)]
 pub enum Checked {
     Bad,
     // a listing of so many entries
@@ -27,7 +27,7 @@ pub enum Checked {
 }
 
 // What a line leaves of its entry: how many lines it has at least.
-#[derive(Drop)]
+#[derive(Clone, Copy)]
 enum Step {
     Wrong,
     Least(usize),

@@ -26,7 +26,7 @@ const ONE: u16 = 49;
 const TARGET: u16 = 116;
 
 // A number that a line says, and where the next line begins.
-#[derive(Drop)]
+#[derive(Clone, Copy)]
 struct Read {
     value: u32,
     next: usize,

@@ -7,7 +7,7 @@ use crate::check_listing::Checked;
 use cache::places::PLACE;
 
 // What reading a listing answers.
-#[derive(Drop)]
+#[derive(Clone, Copy)]
 pub enum Loaded {
     Done,
     NotInOrder,

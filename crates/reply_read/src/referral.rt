@@ -12,7 +12,7 @@ use reply_bytes::texts::{Read, Span};
 use unc::path_form::PATH_UNITS;
 
 // What a reply is read as.
-#[derive(Drop)]
+#[derive(Clone, Copy)]
 pub enum Answer {
     Malformed,
     Nothing,
@@ -36,7 +36,7 @@ pub struct Kept {
 }
 
 // A reply to a root, link or SYSVOL request: its texts are spans of the reply. The first `targets` places of `kept` are the targets.
-#[derive(Drop)]
+#[derive(Clone, Copy)]
 pub struct ReferralFound {
     pub answer: Answer,
     pub version: u16,

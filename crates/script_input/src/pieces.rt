@@ -6,7 +6,7 @@ use script_lines::line_bytes::{Held, Rest};
 use script_lines::lines::Input;
 
 // What has come of a line: what is held of it, where the piece goes on, what it is, and whether no more comes.
-#[derive(Drop)]
+#[derive(Clone, Copy)]
 pub struct Came {
     pub held: Held,
     pub at: usize,

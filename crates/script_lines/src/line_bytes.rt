@@ -5,7 +5,7 @@ ghost use Rattle.script_lines.specs.line_bytes.Hexes.{upper, is_hex, hex_value, 
 ghost use Rattle.script_lines.specs.line_bytes.Held.{next_rest, rest_from, held_after, line_after};
 
 // What is known of the bytes of a line that are not kept: there are none, or an even or an odd number of hex digits, or others.
-#[derive(Drop)]
+#[derive(Clone, Copy)]
 pub enum Rest {
     None,
     Even,
@@ -14,7 +14,7 @@ pub enum Rest {
 }
 
 // The part of a line that has come: how many bytes are kept, and the rest.
-#[derive(Drop)]
+#[derive(Clone, Copy)]
 pub struct Held {
     pub kept: usize,
     pub rest: Rest,

@@ -21,7 +21,7 @@ const BOOT: [u16; 5] = [98, 111, 111, 116, 61];
 const STATUS: [u16; 7] = [115, 116, 97, 116, 117, 115, 61];
 
 // The line that was read last.
-#[derive(Drop)]
+#[derive(Clone, Copy)]
 pub enum Last {
     Nothing,
     Path,
@@ -39,7 +39,7 @@ pub enum Last {
 }
 
 // What was read: the settings, and the answer that comes. The units of path and bootstrap DC and the bytes of the reply are lent.
-#[derive(Drop)]
+#[derive(Clone, Copy)]
 pub struct Script {
     pub last: Last,
     pub path: usize,
@@ -52,7 +52,7 @@ pub struct Script {
 }
 
 // What has come of the input.
-#[derive(Drop)]
+#[derive(Clone, Copy)]
 pub enum Input {
     // a part of a line
     Part,
@@ -63,7 +63,7 @@ pub enum Input {
 }
 
 // The call that is due.
-#[derive(Drop)]
+#[derive(Clone, Copy)]
 pub enum Due {
     None,
     Start,

@@ -9,7 +9,7 @@ use walk_calls::call_end::Outcome;
 use walk_form::held::Walk;
 
 // What a call leaves besides the lent memory: what was read, the walk, and how many bytes are printed.
-#[derive(Drop)]
+#[derive(Clone, Copy)]
 pub struct Done {
     pub script: Script,
     pub walk: Walk,

@@ -63,7 +63,7 @@ fn read(input: &mut Stdin, units: &mut [u16]) -> usize
 }
 
 // A piece of the input: its bytes, and where to go on in it.
-#[derive(Drop)]
+#[derive(Clone, Copy)]
 pub struct Piece {
     pub count: usize,
     pub at: usize,

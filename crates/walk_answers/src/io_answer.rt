@@ -21,7 +21,7 @@ use walk_store::reply_taken::PATH_NOT_COVERED;
 const ERROR: u32 = 3;
 
 // What a failed try calls for: an end or a question, or the try at another target of its entry.
-#[derive(Drop)]
+#[derive(Clone, Copy)]
 pub enum Failure {
     Calls(Next),
     Tries(u16),

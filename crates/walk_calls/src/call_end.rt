@@ -10,7 +10,7 @@ use walk_form::held::Walk;
 use walk_steps::steps::Rested;
 
 // Whether a call is taken, and if not why.
-#[derive(Drop)]
+#[derive(Clone, Copy)]
 pub enum Verdict {
     Taken,
     BadPath,
@@ -21,7 +21,7 @@ pub enum Verdict {
     ShortBuffer,
 }
 
-#[derive(Drop)]
+#[derive(Clone, Copy)]
 pub struct Outcome {
     pub verdict: Verdict,
     pub walk: Walk,

@@ -17,7 +17,7 @@ const TEXTS: usize = 768;
 
 // A walk: its settings, its moves, the units of its texts (which are lent with it), whether it had a cache hit or a successful
 // referral, and its next move.
-#[derive(Drop)]
+#[derive(Clone, Copy)]
 pub struct Walk {
     pub limit: u32,
     pub size: u32,

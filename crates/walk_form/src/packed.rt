@@ -13,7 +13,7 @@ use walk_steps::steps::{Asking, End, Kind, Next};
 pub const HEAD: usize = 32;
 
 // The walk that units hold, if they are of the form.
-#[derive(Drop)]
+#[derive(Clone, Copy)]
 pub enum Unpacked {
     Held(Walk),
     NotOfForm,

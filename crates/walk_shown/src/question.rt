@@ -17,7 +17,7 @@ use walk_steps::question_request::Name;
 use walk_steps::steps::{Asking, Kind, Next};
 
 // The units or numbers that were put into the buffer, or why there are none.
-#[derive(Drop)]
+#[derive(Clone, Copy)]
 pub enum Shown {
     Units(u16),
     NotInOrder,

@@ -6,7 +6,7 @@ ghost use Rattle.walk_steps.specs.question_request.Code.{name_units, next_units,
 use crate::steps::{Kind, Next};
 
 // How many units of the path are the name asked, if there is one.
-#[derive(Drop)]
+#[derive(Clone, Copy)]
 pub enum Name {
     First(usize),
     Absent,

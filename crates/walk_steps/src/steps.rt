@@ -7,7 +7,7 @@ ghost use Rattle.walk_steps.specs.steps.Code.{ended_at, asked_at, rested_at, dom
 use cache_lookup::Found;
 
 // The kinds of question.
-#[derive(Drop)]
+#[derive(Clone, Copy)]
 pub enum Kind {
     Dc,
     Root,
@@ -17,7 +17,7 @@ pub enum Kind {
 }
 
 // The ends of a walk, in the order of their numbers.
-#[derive(Drop)]
+#[derive(Clone, Copy)]
 pub enum End {
     Done,
     NotDfs,
@@ -31,7 +31,7 @@ pub enum End {
 
 // A question: its kind, how many units of the path name the entry in use, the places of its party and of that with which the round
 // began, the size asked, and whether a link request came of PATH_NOT_COVERED.
-#[derive(Drop)]
+#[derive(Clone, Copy)]
 pub struct Asking {
     pub kind: Kind,
     pub entry: u16,
@@ -42,14 +42,14 @@ pub struct Asking {
 }
 
 // The next move: a question that waits for its answer, or an end with its status.
-#[derive(Drop)]
+#[derive(Clone, Copy)]
 pub enum Next {
     Asks(Asking),
     Ends(End, u32),
 }
 
 // Where the steps came to rest: the units of the path and of the path tried, the moves left, and whether there was a hit.
-#[derive(Drop)]
+#[derive(Clone, Copy)]
 pub struct Rested {
     pub next: Next,
     pub path: u16,
@@ -60,7 +60,7 @@ pub struct Rested {
 
 // What a walk hands on in a call: the units of its path, the moves left, whether there was a hit, the size given, the time, and the bytes
 // of the buffer.
-#[derive(Drop)]
+#[derive(Clone, Copy)]
 pub struct Progress {
     pub len: usize,
     pub left: u16,

@@ -11,7 +11,7 @@ use cache_lookup::Found;
 use walk_steps::steps::{Asking, Kind};
 
 // The hint that was set, with its old value: of the targets or the DCs of the entry at a place.
-#[derive(Drop)]
+#[derive(Clone, Copy)]
 pub enum Hinted {
     Unset,
     Target(usize, u16),
@@ -19,7 +19,7 @@ pub enum Hinted {
 }
 
 // HintOf hint a success sets.
-#[derive(Drop)]
+#[derive(Clone, Copy)]
 pub enum HintOf {
     Nobody,
     Targets,

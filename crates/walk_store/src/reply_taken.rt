@@ -29,7 +29,7 @@ pub const PATH_NOT_COVERED: u32 = 0xC0000257;
 
 // What was taken of a reply: nothing, and the walk ends with a status; DCs into a place of the domain cache; or an entry into a place of
 // the referral cache, with the hint that was set before it.
-#[derive(Drop)]
+#[derive(Clone, Copy)]
 pub enum Taken {
     Ends(End, u32),
     Dcs(usize),
@@ -37,14 +37,14 @@ pub enum Taken {
 }
 
 // What a reply that was read calls for: an end with its status, or that it is stored.
-#[derive(Drop)]
+#[derive(Clone, Copy)]
 pub enum Said {
     Stops(End, u32),
     Stores,
 }
 
 // The reply that a question waits for: the names of DCs, or a referral for so many units of the path.
-#[derive(Drop)]
+#[derive(Clone, Copy)]
 pub enum Awaited {
     DcNames,
     Referral(usize),

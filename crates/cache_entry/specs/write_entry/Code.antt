@@ -1,11 +1,10 @@
 -- Shapes of the code, proved equal to the rules; nothing here is to be believed.
 -- Words of the functions that write an entry into its place, one text at a time.
-use Rattle.std.specs.Prelude.{ℕ, ◌+◌, ◌*◌, Bool, ◌&&◌, List, [], ◌∷◌, ◌++◌, length, leb}
+use Rattle.std.specs.Prelude.{ℕ, ◌+◌, ◌*◌, Bool, ◌&&◌, List, [], ◌∷◌, length, leb}
 use Rattle.cache.specs.places.Code.{put_unit, put_text}
-use Rattle.cache.specs.places.Layout.{flag_unit, wide_units, blank, count_unit, mark_units, room_units}
+use Rattle.cache.specs.places.Layout.{flag_unit, blank, count_unit, mark_units, room_units}
 use Rattle.unc.specs.names.Paths.{Target}
 use Rattle.cache.specs.order.Memory.{settings_units}
-use Rattle.reply_bytes.specs.texts.Code.{spanned}
 use Rattle.reply_read.specs.declared.referral.Kept.{Kept}
 
 -- text n, as the last of its place

@@ -7,7 +7,7 @@ use Prim.Native.Nat.{ℕ, ◌≤◌, ◌<◌, min}
 use native.Mathlib.Omega.{arith}
 use lib.ListN.{length, length-map, length-take}
 use lib.Seq.{take_all}
-use lib.Dec.{leb, eqb}
+use lib.Dec.{leb}
 use denote.Enum.Declared.{tag_of}
 use borrow.Author.Tests.{leb-true, le-leb, lt-leb, ne_eqb}
 use Rattle.laws.specs.Choice.{choose}

@@ -1,7 +1,7 @@
 -- Laws of a whole store: what the writers leave in a place is the entry that the rules name.
-use mathlib.Core.Path.{◌≡◌, refl, sym, ap, ◌∙◌}
+use mathlib.Core.Path.{◌≡◌, refl, sym, ◌∙◌}
 use mathlib.Core.Bool.{Bool, true, false}
-use mathlib.Core.List.{List, [], ◌∷◌, map}
+use mathlib.Core.List.{List, map}
 use Prim.Native.Nat.{ℕ, ◌+◌, ◌≤◌, ◌<◌}
 use native.Mathlib.Omega.{arith}
 use lib.ListN.{length, take, length-map, length-take}
@@ -9,7 +9,6 @@ use Rattle.cache.specs.places.Layout.{place_count, place_at, root_unit}
 use Rattle.cache.specs.places.Code.{changed, put_settings}
 use Rattle.reply_bytes.specs.texts.Code.{spanned}
 use Rattle.reply_bytes.proofs.texts.UnitLaws.{length_spanned}
-use Rattle.unc.specs.names.Paths.{Target}
 use Rattle.cache.specs.order.Order.{good_referral}
 use Rattle.cache.specs.order.Memory.{referral_units, settings_units}
 use Rattle.cache.proofs.order.KindLaws.{GoodReferral, referral_told, prefix_short}

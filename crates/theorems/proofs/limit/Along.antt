@@ -101,6 +101,7 @@ module _ {h : Held} {s : Start} {l : ℕ} where
   meets_comes (meets_answer f) = to_answer (tracks_follows f)
 
   pub meets_uncut : {cs : Calls} {p : Opening} {n : ℕ} → Meets h s l cs p n → CutBefore l h s cs → ⊥
+  meets_uncut meets_start k = elim k [ ]
   meets_uncut (meets_answer f) (an_earlier k) = tracks_uncut f k
 
   pub meets_none : {cs : Calls} {p : Opening} {n : ℕ} → Meets h s l cs p n → (CallsFor p (clock_of s cs) n (suc l) → ⊥) → CutBy l h s cs → ⊥

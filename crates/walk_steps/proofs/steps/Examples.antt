@@ -7,7 +7,6 @@ use Rattle.laws.specs.Choice.{choose}
 use Rattle.unc.specs.names.Names.{folded, same_unit, same_name}
 use Rattle.unc.specs.names.Paths.{before, pieces, components, component_count, begins, matches, is_sysvol, replaced}
 use Rattle.cache.specs.order.Entries.{free, used}
-use Rattle.cache.specs.order.Memory.{referrals, domains}
 use Rattle.cache_lookup.specs.Lookup.{longer_match, prefix_units, longest_from, longest_match, age, expired, target_path}
 use Rattle.cache_store.specs.entry_after_reply.Stored.{held_at, held}
 use Rattle.walk_steps.specs.steps.Steps.{Caches, Core, Turn, Resting, ended, started, from_step2, with_hit, with_path, goes, step2, step2_with, step4, step7, step11, longest, hit_at, is_there, rests, asking}

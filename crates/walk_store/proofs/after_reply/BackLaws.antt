@@ -1,5 +1,5 @@
 -- Laws of what comes after a reply that was taken: where the steps rest, and both caches put back.
-use mathlib.Core.Path.{◌≡◌, refl, sym, ap, ◌∙◌, subst}
+use mathlib.Core.Path.{◌≡◌, refl, sym, ap, ◌∙◌}
 use mathlib.Core.Bool.{Bool, true, false}
 use mathlib.Core.List.{List, []}
 use Prim.Native.Nat.{ℕ}
@@ -9,7 +9,7 @@ use Rattle.cache.specs.order.Entries.{Referral}
 use Rattle.cache.specs.order.Memory.{referrals, domains, decode}
 use Rattle.cache_lookup.specs.Code.{entry_at}
 use Rattle.walk_steps.specs.walk_texts.Code.{Standing}
-use Rattle.walk_steps.specs.steps.Steps.{Core, Called, asks, ends, goes, turned, with_hit, step5, after_store}
+use Rattle.walk_steps.specs.steps.Steps.{Core, Called, asks, goes, turned, with_hit, step5, after_store}
 use Rattle.walk_steps.specs.steps.Held.{caches_of, core_of}
 use Rattle.walk_steps.specs.steps.Code.{core_at, rested_at}
 use Rattle.walk_steps.specs.declared.steps.Kind.{Kind}

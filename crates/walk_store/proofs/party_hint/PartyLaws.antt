@@ -1,6 +1,6 @@
 -- Laws of the hint of the party that answered, by the kind of the question.
 use mathlib.Core.Path.{◌≡◌, refl, sym, ap, ◌∙◌, subst}
-use mathlib.Core.Bool.{Bool, true, false, ◌||◌}
+use mathlib.Core.Bool.{Bool, true, ◌||◌}
 use mathlib.Core.List.{List, []}
 use mathlib.Core.Logic.{◌⊎◌, inl, inr}
 use Prim.Native.Nat.{ℕ, ◌≤◌, ◌<◌}
@@ -8,7 +8,6 @@ use native.Mathlib.Omega.{arith}
 use lib.ListN.{length, get_or, take}
 use lib.Dec.{eqb, ltb}
 use borrow.Author.Tests.{eq-eqb, ne_eqb, ltb-true}
-use Rattle.laws.specs.Choice.{choose}
 use Rattle.laws.proofs.Choices.{choose_yes, choose_no, and_left}
 use Rattle.laws.proofs.Tests.{eq_or_ne}
 use Rattle.unc.specs.names.Paths.{components}
@@ -30,7 +29,7 @@ use Rattle.walk_store.specs.declared.party_hint.Hinted.{Hinted}
 use Rattle.walk_store.specs.declared.party_hint.Hinted.TheVariants.{Unset, Target, Dc}
 use Rattle.walk_store.specs.declared.party_hint.HintOf.{HintOf}
 use Rattle.walk_store.specs.declared.party_hint.HintOf.TheVariants.{Nobody, Targets, Dcs}
-use Rattle.walk_store.specs.party_hint.Code.{whose_of, Lent, lent_caches, unhinted, Unhintable, Hinting, Using}
+use Rattle.walk_store.specs.party_hint.Code.{whose_of, lent_caches, unhinted, Unhintable, Hinting, Using}
 use Rattle.walk_store.proofs.party_hint.HintLaws.{target_held, target_order, target_fits, target_below, target_back, dc_held, dc_order, dc_fits, dc_below, dc_back}
 
 -- whose hint it is

@@ -3,13 +3,12 @@ use mathlib.Core.Path.{◌≡◌, refl, sym, ap, ◌∙◌, subst}
 use mathlib.Core.Bool.{Bool, true, false, not, ◌&&◌, ◌||◌, true≢false}
 use mathlib.Core.List.{List, [], map}
 use mathlib.Core.Logic.{◌⊎◌, inl, inr}
-use Prim.Native.Nat.{ℕ, ◌≤◌, ◌<◌}
+use Prim.Native.Nat.{ℕ, ◌<◌}
 use native.Mathlib.Omega.{arith}
 use lib.ListN.{length, get_or, take}
 use lib.Seq.{take_all}
-use lib.Dec.{leb, eqb}
+use lib.Dec.{leb}
 use borrow.Author.Tests.{eq-eqb, ne_eqb, not-true, not-false}
-use Rattle.laws.specs.Choice.{choose}
 use Rattle.laws.proofs.Choices.{choose_yes, choose_no}
 use Rattle.laws.proofs.Orders.{told}
 use Rattle.unc.specs.names.Paths.{components, first_of, matches}
@@ -22,7 +21,6 @@ use Rattle.cache.proofs.places.LayoutLaws.{length_place}
 use Rattle.cache.specs.order.Entries.{Referral}
 use Rattle.cache.specs.order.Memory.{referrals, domains, decode, encode, in_order}
 use Rattle.cache_lookup.specs.Lookup.{with_key}
-use Rattle.cache_lookup.specs.Code.{entry_at}
 use Rattle.cache_lookup.specs.declared.Found.{Found}
 use Rattle.cache_lookup.specs.declared.Found.TheVariants.{At, Nothing}
 use Rattle.reply_read.specs.referral.Replies as replies
@@ -38,7 +36,7 @@ use Rattle.cache_store.specs.entry_after_reply.Stored.{is_interlink, stored, sto
 use Rattle.cache_store.specs.entry_after_reply.Code.{Storable}
 use Rattle.cache_store.specs.domain_cache.Code.{DomainAt, StorableDcs}
 use Rattle.cache_store.proofs.domain_cache.DcLaws.{domain_found, storable_dcs}
-use Rattle.walk_steps.specs.steps.Steps.{Caches, Core, Question, Called, ends, asks, Turn, with_hit, with_domains, with_referrals, empty_end, covers_nothing, step3, step4, step5, step7, step8, step11, after_store, stored_turn, hint_set, dcs_in, dc_answer, referral_answer, referral_succeeds, name_asked, is_in_use, path_not_found, path_not_covered}
+use Rattle.walk_steps.specs.steps.Steps.{Caches, Core, Question, Called, ends, asks, Turn, with_hit, with_domains, with_referrals, empty_end, covers_nothing, step3, step4, step5, step7, step8, step11, after_store, stored_turn, hint_set, dcs_in, dc_answer, referral_answer, referral_succeeds, name_asked, path_not_found, path_not_covered}
 use Rattle.walk_steps.specs.steps.Held.{caches_of, core_of, question_of}
 use Rattle.walk_steps.specs.declared.steps.Kind.{Kind}
 use Rattle.walk_steps.specs.declared.steps.Kind.TheVariants as kind
@@ -56,7 +54,7 @@ use Rattle.walk_store.specs.declared.reply_taken.Said.{Said}
 use Rattle.walk_store.specs.declared.reply_taken.Said.TheVariants.{Stops, Stores}
 use Rattle.walk_store.specs.declared.reply_taken.Awaited.{Awaited}
 use Rattle.walk_store.specs.declared.reply_taken.Awaited.TheVariants as awaited
-use Rattle.walk_store.specs.party_hint.Code.{Lent, lent_caches, unhinted, Unhintable, Hinting, Using}
+use Rattle.walk_store.specs.party_hint.Code.{lent_caches, unhinted, Unhintable, Hinting, Using}
 use Rattle.walk_store.specs.reply_taken.Code.{awaited_by, NamedIn, covers_no_more, said_of, saved_in, taken_turn, put_back, CanPutBack, TakenIn}
 use Rattle.walk_store.proofs.reply_taken.PlaceLaws.{place_inside, more_stored, more_order, entry_there, more_fits, more_usable, more_back, dcs_decoded, dcs_order, dcs_inside, dcs_back}
 use Rattle.walk_store.proofs.reply_taken.SaidLaws.{first_whole, said_storable, said_matches}

@@ -1,0 +1,12 @@
+use native.Mathlib.Omega.{arith}
+use Rattle.cache_entry.proofs.write_entry.WritingLaws.{kept_inside_lem, kept_short, target_added}
+use Rattle.cache_entry.proofs.write_entry.add_target.Goals as goal
+
+pub add_text-requires : goal.add_text-requires
+add_text-requires c =
+    (omega arith, (omega arith, (kept_inside_lem c.args.reply.now c.args.k c.requires.1.1, kept_short c.args.reply.now c.args.k c.requires.1.1)))
+
+pub returns : goal.returns
+returns c =
+    target_added c.args.cache.now c.args.i (omega (arith, c.requires)) c.args.n _ c.args.reply.now c.args.k c.requires.1.1 (omega (arith, c.requires))
+    c.flag_unit.ensures c.add_text.ensures c.put_unit.ensures

@@ -1,0 +1,47 @@
+use Rattle.script_lines.specs.lines.Script.{end_due}
+use mathlib.Core.Path.{sym, ap}
+use Rattle.script_input.proofs.line_order.end_due.Goals as goal
+
+pub returns-in-Nothing : goal.returns-in-Nothing
+unfolding end_due
+returns-in-Nothing c = ap end_due (sym c.in-Nothing.is)
+
+pub returns-in-Path : goal.returns-in-Path
+unfolding end_due
+returns-in-Path c = ap end_due (sym c.in-Path.is)
+
+pub returns-in-Limit : goal.returns-in-Limit
+unfolding end_due
+returns-in-Limit c = ap end_due (sym c.in-Limit.is)
+
+pub returns-in-Size : goal.returns-in-Size
+unfolding end_due
+returns-in-Size c = ap end_due (sym c.in-Size.is)
+
+pub returns-in-Now : goal.returns-in-Now
+unfolding end_due
+returns-in-Now c = ap end_due (sym c.in-Now.is)
+
+pub returns-in-Boot : goal.returns-in-Boot
+unfolding end_due
+returns-in-Boot c = ap end_due (sym c.in-Boot.is)
+
+pub returns-in-Clock : goal.returns-in-Clock
+unfolding end_due
+returns-in-Clock c = ap end_due (sym c.in-Clock.is)
+
+pub returns-in-Status : goal.returns-in-Status
+unfolding end_due
+returns-in-Status c = ap end_due (sym c.in-Status.is)
+
+pub returns-in-Reply : goal.returns-in-Reply
+unfolding end_due
+returns-in-Reply c = ap end_due (sym c.in-Reply.is)
+
+pub returns-in-Other : goal.returns-in-Other
+unfolding end_due
+returns-in-Other c = ap end_due (sym c.in-Other.is)
+
+pub returns-in-Stopped : goal.returns-in-Stopped
+unfolding end_due
+returns-in-Stopped c = ap end_due (sym c.in-Stopped.is)

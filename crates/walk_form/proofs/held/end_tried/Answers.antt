@@ -1,0 +1,36 @@
+-- Which ends have a path tried.
+use Rattle.walk_form.specs.held.Walks.{end_tried}
+use mathlib.Core.Path.{sym, ap}
+use Rattle.walk_form.proofs.held.end_tried.Goals as goal
+
+pub returns-in-Done : goal.returns-in-Done
+unfolding end_tried
+returns-in-Done c = ap end_tried (sym c.in-Done.is)
+
+pub returns-in-NotDfs : goal.returns-in-NotDfs
+unfolding end_tried
+returns-in-NotDfs c = ap end_tried (sym c.in-NotDfs.is)
+
+pub returns-in-NoDc : goal.returns-in-NoDc
+unfolding end_tried
+returns-in-NoDc c = ap end_tried (sym c.in-NoDc.is)
+
+pub returns-in-Failed : goal.returns-in-Failed
+unfolding end_tried
+returns-in-Failed c = ap end_tried (sym c.in-Failed.is)
+
+pub returns-in-LimitReached : goal.returns-in-LimitReached
+unfolding end_tried
+returns-in-LimitReached c = ap end_tried (sym c.in-LimitReached.is)
+
+pub returns-in-Malformed : goal.returns-in-Malformed
+unfolding end_tried
+returns-in-Malformed c = ap end_tried (sym c.in-Malformed.is)
+
+pub returns-in-TooLong : goal.returns-in-TooLong
+unfolding end_tried
+returns-in-TooLong c = ap end_tried (sym c.in-TooLong.is)
+
+pub returns-in-Gone : goal.returns-in-Gone
+unfolding end_tried
+returns-in-Gone c = ap end_tried (sym c.in-Gone.is)

@@ -1,0 +1,18 @@
+use native.Mathlib.Omega.{arith}
+use Rattle.laws.proofs.Pasting.{pasted_nil}
+use Rattle.walk_steps.proofs.walk_texts.TextLaws.{within_more, within_all}
+use mathlib.Core.Path.{sym}
+use borrow.Author.Rules.{rules}
+use Rattle.walk_steps.proofs.walk_texts.copy_within.Goals as goal
+
+pub loop-i-init : goal.loop-i-init
+loop-i-init c = (search rules, (search rules, sym (pasted_nil _ _)))
+
+pub loop-i-preserved : goal.loop-i-preserved
+loop-i-preserved c = (
+  search rules,
+  (search rules, within_more _ _ _ _ c.loop-i.i c.loop-i.invariant.1.1 c.requires.1.1 (omega arith) (omega arith) (omega arith)),
+)
+
+pub returns : goal.returns
+returns c = within_all _ _ _ _ c.loop-i.i c.loop-i.invariant.1.1 (omega arith) (omega arith)

@@ -3,12 +3,12 @@ use mathlib.Core.Path.{◌≡◌, refl, sym, ap, ◌∙◌, subst}
 use mathlib.Core.Bool.{Bool, true, false, not}
 use mathlib.Core.List.{List, []}
 use mathlib.Core.Logic.{◌⊎◌, inl, inr}
-use mathlib.Core.Option.{Option, none, some}
+use mathlib.Core.Option.{some}
 use Prim.Native.Nat.{ℕ, ◌+◌, ◌-◌, ◌/◌, ◌≤◌, ◌<◌}
 use native.Mathlib.Omega.{arith}
 use lib.ListN.{length, take, drop, replicate, length-drop}
 use lib.Seq.{length-take-le, take-take}
-use lib.Dec.{leb, ltb, eqb}
+use lib.Dec.{leb, ltb}
 use borrow.Author.Tests.{eq-eqb, ne_eqb, lt-ltb, le-ltb, leb-false, ltb-true, not-true, not-false}
 use Rattle.laws.specs.Choice.{choose}
 use Rattle.laws.specs.Lists.{pasted, roomed}
@@ -31,7 +31,7 @@ use Rattle.cache_lookup.specs.declared.Found.TheVariants.{At, Nothing}
 use Rattle.cache_lookup.proofs.LookupLaws.{KeyAt, key_found}
 use Rattle.cache_lookup.proofs.StoreLaws.{entry_good}
 use Rattle.cache_store.specs.entry_after_reply.Stored.{prefixed}
-use Rattle.walk_steps.specs.steps.Steps.{Caches, Core, Question, Called, stops, ends, asks, Turn, ended, rests, goes, turned, is_in_use, referral_in_use, hint_set, target_hint_set, with_referrals, next_place, onward, step8, link_request, severity, is_one_of, next_target_statuses, path_not_covered, io_fails, io_with, io_answered}
+use Rattle.walk_steps.specs.steps.Steps.{Caches, Core, Called, stops, ends, asks, Turn, ended, rests, goes, turned, is_in_use, referral_in_use, hint_set, target_hint_set, with_referrals, next_place, onward, step8, link_request, severity, is_one_of, next_target_statuses, path_not_covered, io_fails, io_with, io_answered}
 use Rattle.walk_steps.specs.steps.Held.{caches_of, core_of, next_of, tried_of, question_of}
 use Rattle.walk_steps.specs.steps.Code.{core_at, rested_of, rested_at, called_of}
 use Rattle.walk_steps.specs.declared.steps.Kind.{Kind}

@@ -15,7 +15,7 @@ use Rattle.cache.specs.order.Memory.{Kind, referrals, domains, decode, encode, i
 use Rattle.cache.proofs.order.MemoryLaws.{encode_decode}
 use Rattle.cache.proofs.order.KindLaws.{prefix_short}
 use Rattle.walk_steps.specs.walk_texts.Code.{Standing}
-use Rattle.walk_steps.specs.steps.Steps.{Caches, Core, Called, ends, Turn, Resting, goes, turned, with_hit, referral_fails, referral_succeeds, referral_answered, severity, is_in_use}
+use Rattle.walk_steps.specs.steps.Steps.{Caches, Core, Called, ends, Turn, goes, turned, with_hit, referral_fails, referral_succeeds, referral_answered, severity, is_in_use}
 use Rattle.walk_steps.specs.steps.Held.{caches_of, core_of, asking_of, question_of}
 use Rattle.walk_steps.specs.steps.Code.{core_at, rested_at, called_of}
 use Rattle.walk_steps.specs.declared.steps.Kind.{Kind as Kinds}
@@ -26,14 +26,14 @@ use Rattle.walk_steps.specs.declared.steps.Asking.{Asking}
 use Rattle.walk_steps.specs.declared.steps.Progress.{Progress}
 use Rattle.walk_steps.specs.declared.steps.Rested.{Rested}
 use Rattle.walk_steps.proofs.steps.StepLaws.{asked_as}
-use Rattle.walk_steps.specs.cycle.Code.{Packed, rested_with, packed}
+use Rattle.walk_steps.specs.cycle.Code.{rested_with, packed}
 use Rattle.walk_steps.proofs.cycle.MoveLaws.{standing_path, packed_end, packed_asked, goes_asks, goes_stops}
 use Rattle.walk_steps.specs.question_request.Questions.{name_fits, rest_fits}
 use Rattle.walk_steps.specs.question_request.Code.{next_units, named}
 use Rattle.walk_steps.proofs.rounds.RoundLaws.{in_use_same}
 use Rattle.walk_store.specs.declared.reply_taken.Taken.{Taken}
 use Rattle.walk_store.specs.declared.reply_taken.Taken.TheVariants as taken
-use Rattle.walk_store.specs.party_hint.Code.{Lent, lent_caches, Using}
+use Rattle.walk_store.specs.party_hint.Code.{Lent, lent_caches}
 use Rattle.walk_store.specs.reply_taken.Code.{taken_turn, put_back, CanPutBack, TakenIn}
 use Rattle.walk_store.specs.after_reply.Code.{GoingOn, left_by, leaves}
 use Rattle.walk_store.proofs.after_reply.RestLaws.{kept_goes, rest_path, rest_tested, always_fits}

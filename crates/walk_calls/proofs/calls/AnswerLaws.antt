@@ -1,7 +1,7 @@
 -- Laws of an answer.
 use mathlib.Core.Path.{◌≡◌, refl, sym, ap, ◌∙◌}
 use mathlib.Core.Bool.{Bool, true, false, ◌&&◌}
-use mathlib.Core.List.{List, []}
+use mathlib.Core.List.{List}
 use mathlib.Core.Logic.{◌⊎◌, inl, inr}
 use mathlib.Core.Option.{Option, none, some}
 use Prim.Native.Nat.{ℕ, ◌-◌}
@@ -18,7 +18,7 @@ use Rattle.walk_steps.specs.declared.steps.Next.{Next}
 use Rattle.walk_steps.specs.declared.steps.Next.TheVariants.{Asks, Ends}
 use Rattle.walk_steps.specs.question_request.Questions.{rest_fits}
 use Rattle.walk_store.specs.after_reply.Code.{leaves}
-use Rattle.walk_form.specs.held.Walks.{tried_in, boot_in, has_tried, in_form}
+use Rattle.walk_form.specs.held.Walks.{tried_in, has_tried, in_form}
 use Rattle.walk_form.specs.declared.held.Walk.{Walk}
 use Rattle.walk_form.specs.held.Walks.{core_in}
 use Rattle.walk_calls.specs.answer_steps.Code.{AnswerDue, progress_of, io_turn, referral_turn, Closed, closing}

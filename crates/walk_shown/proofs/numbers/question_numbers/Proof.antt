@@ -5,13 +5,13 @@ use Rattle.walk_shown.proofs.numbers.question_numbers.Statement.{statement}
 use Rattle.walk_shown.proofs.numbers.question_numbers.Tie as tie
 
 returns : tie.Need-returns
-returns c = question_form _ _ _ c.before.keeps_form.ensures (not-true _ c.if1.true)
+returns c = question_form _ _ _ c.before.in_form.ensures (not-true _ c.if1.true)
 
 returns-2 : tie.Need-returns-2
-returns-2 c = question_ended _ _ _ c.before.before.before.keeps_form.ensures (not-false _ c.before.before.if1.false) _ _ c.enum_told.given.1
+returns-2 c = question_ended _ _ _ c.before.before.before.in_form.ensures (not-false _ c.before.before.if1.false) _ _ c.enum_told.given.1
 
 returns-3 : tie.Need-returns-3
-returns-3 c = question_shown_lem _ _ _ c.before.before.before.before.before.before.before.before.before.before.keeps_form.ensures (not-false _ c.before.before.before.before.before.before.before.before.before.if1.false) _ c.before.before.before.before.before.before.before.next.given.1 c.before.before.before.before.before.kind-number.ensures c.before.before.put-numbers.ensures
+returns-3 c = question_shown_lem _ _ _ c.before.before.before.before.before.before.before.before.before.before.in_form.ensures (not-false _ c.before.before.before.before.before.before.before.before.before.if1.false) _ c.before.before.before.before.before.before.before.next.given.1 c.before.before.before.before.before.kind-number.ensures c.before.before.put-numbers.ensures
 
 pub question-numbers-spec : {M : Type 1} → statement M
 question-numbers-spec =

@@ -5,22 +5,22 @@ use Rattle.walk_shown.proofs.question.question_name.Statement.{statement}
 use Rattle.walk_shown.proofs.question.question_name.Tie as tie
 
 returns : tie.Need-returns
-returns c = name_form _ _ _ c.before.keeps_form.ensures (not-true _ c.if1.true)
+returns c = name_form _ _ _ c.before.in_form.ensures (not-true _ c.if1.true)
 
 returns-2 : tie.Need-returns-2
-returns-2 c = name_ended _ _ _ c.before.before.before.keeps_form.ensures (not-false _ c.before.before.if1.false) _ _ c.enum_told.given.1
+returns-2 c = name_ended _ _ _ c.before.before.before.in_form.ensures (not-false _ c.before.before.if1.false) _ _ c.enum_told.given.1
 
 slice-aggregate-put-name : tie.Need-slice-aggregate-put-name
-slice-aggregate-put-name c = path_ends _ _ c.before.before.before.before.before.before.before.keeps_form.ensures (not-false _ c.before.before.before.before.before.before.if1.false)
+slice-aggregate-put-name c = path_ends _ _ c.before.before.before.before.before.before.before.in_form.ensures (not-false _ c.before.before.before.before.before.before.if1.false)
 
 part-put-name-end : tie.Need-slice-bounds-put-name-end
-part-put-name-end c = tried_within _ _ c.before.before.before.before.before.before.before.keeps_form.ensures (not-false _ c.before.before.before.before.before.before.if1.false)
+part-put-name-end c = tried_within _ _ c.before.before.before.before.before.before.before.in_form.ensures (not-false _ c.before.before.before.before.before.before.if1.false)
 
 put-name-requires : tie.Need-put-name-requires
-put-name-requires c κs = let p8 = c.before.before.before.before.before.before.before.before in let p9 = p8.before in (path_few _ _ p9.keeps_form.ensures (not-false _ p8.if1.false), tried_few _ _ p9.keeps_form.ensures (not-false _ p8.if1.false))
+put-name-requires c κs = let p8 = c.before.before.before.before.before.before.before.before in let p9 = p8.before in (path_few _ _ p9.in_form.ensures (not-false _ p8.if1.false), tried_few _ _ p9.in_form.ensures (not-false _ p8.if1.false))
 
 returns-3 : tie.Need-returns-3
-returns-3 c = name_shown _ _ _ c.before.before.before.before.before.before.before.before.before.before.before.before.keeps_form.ensures (not-false _ c.before.before.before.before.before.before.before.before.before.before.before.if1.false) _ c.before.before.before.before.before.before.before.before.before.next.given.1 c.before.before.put-name.ensures
+returns-3 c = name_shown _ _ _ c.before.before.before.before.before.before.before.before.before.before.before.before.in_form.ensures (not-false _ c.before.before.before.before.before.before.before.before.before.before.before.if1.false) _ c.before.before.before.before.before.before.before.before.before.next.given.1 c.before.before.put-name.ensures
 
 pub question-name-spec : {M : Type 1} → statement M
 question-name-spec =

@@ -9,7 +9,6 @@ use native.Mathlib.Omega.{arith}
 use lib.ListN.{length, take, get_or, replicate, length-take, length-append}
 use lib.Seq.{length-take-le}
 use lib.Dec.{leb, eqb}
-use denote.Enum.Declared.{tag_of}
 use borrow.Author.Tests.{leb-true, eq-eqb, ne_eqb}
 use Rattle.laws.specs.Choice.{choose}
 use Rattle.laws.specs.Lists.{pasted}
@@ -26,7 +25,6 @@ use Rattle.script_output.proofs.printed.PieceLaws.{two_put}
 use Rattle.walk_form.specs.declared.held.Walk.{Walk}
 use Rattle.walk_shown.specs.question.Shown.{Given, given, shows, shows_some, party_at, party_call, name_at, name_call, path_at, path_call, question_call, end_call}
 use Rattle.walk_shown.specs.declared.question.Shown.{Shown}
-use Rattle.walk_shown.specs.contracts.question.Shown.{the_type}
 use Rattle.walk_shown.specs.declared.question.Shown.TheVariants.{Units, NotInOrder, OutOfForm, ShortBuffer, NoEntry}
 use Rattle.script_output.specs.outcome.Telling.{if_shown, question_told, end_told, room, three, waiting_lines, ended_lines, outcome_lines}
 
@@ -119,7 +117,7 @@ end_room number status path moves h at m f = omega (arith, end_bytes number stat
 
 -- what was not shown: the answers but the first
 abbrev pub NotShown : Shown → Type 0
-NotShown s = (tag_of the_type s ≡ 1) ⊎ ((tag_of the_type s ≡ 2) ⊎ ((tag_of the_type s ≡ 3) ⊎ (tag_of the_type s ≡ 4)))
+NotShown s = (n : ℕ) → s ≡ Units n → ⊥
 
 told_lines : {s : Shown} {n : ℕ} (f : ℕ → List ℕ) → s ≡ Units n → if_shown s f ≡ f n
 unfolding if_shown
@@ -127,10 +125,7 @@ told_lines f h = ap (λ (x : Shown). if_shown x f) h
 
 untold : (s : Shown) (f : ℕ → List ℕ) → NotShown s → if_shown s f ≡ []
 unfolding if_shown
-untold (Units n) f (inl h) = absurd (omega arith)
-untold (Units n) f (inr (inl h)) = absurd (omega arith)
-untold (Units n) f (inr (inr (inl h))) = absurd (omega arith)
-untold (Units n) f (inr (inr (inr h))) = absurd (omega arith)
+untold (Units n) f h = absurd (h n refl)
 untold NotInOrder f h = refl
 untold OutOfForm f h = refl
 untold ShortBuffer f h = refl

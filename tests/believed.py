@@ -9,6 +9,7 @@ believed.py           the test: every spec file but those named Code* is on SPEC
                       definitions are reached; none of a Code* file is
 believed.py --list    each spec file with what is reached and what is not
 believed.py --table   the list of files as docs/SPEC.md should have it
+believed.py --lines   writes the lines of each listed file into docs/SPEC.md
 """
 import glob, os, re, sys
 
@@ -221,6 +222,10 @@ def main(root, mode):
     tree = Tree(root)
     if mode == '--table':
         print('\n'.join(table(tree)))
+    elif mode == '--lines':
+        lines = {f.path: len(f.lines) - 1 for f in tree.files.values()}
+        text = re.sub(r'^\| (crates/\S+/specs/\S+) \| \d+ \|', lambda m: f'| {m[1]} | {lines.get(m[1], 0)} |', tree.read('docs/SPEC.md'), flags=re.M)
+        open(os.path.join(root, 'docs/SPEC.md'), 'w').write(text)
     elif mode == '--list':
         why = reached(tree, roots(tree, told(tree)[0], []))
         for file in tree.files.values():

@@ -1,6 +1,6 @@
 #!/bin/sh
 # install.sh PREFIX: the static library and the shared object, the headers, a pkg-config file, the module for Python, the program `walk` and its man page below
-# PREFIX; with DESTDIR set below $DESTDIR/PREFIX, for packages. Nothing is built but the shared object: first `rt staticlib dfsc && rt check walk`.
+# PREFIX; with DESTDIR set below $DESTDIR/PREFIX, for packages. Nothing is built but the shared object: first `tests/library dfsc && tests/program walk`.
 set -eu
 [ "$#" -eq 1 ] && [ -n "$1" ] || { echo "usage: sh install.sh PREFIX" >&2; exit 2; }
 case $1 in
@@ -10,7 +10,7 @@ esac
 cd "$(dirname "$0")"
 library=target/staticlib/libdfsc.a
 for f in "$library" target/bin/walk; do
-    [ -e "$f" ] || { echo "install.sh: there is no $f; build it with: rt staticlib dfsc && rt check walk" >&2; exit 1; }
+    [ -e "$f" ] || { echo "install.sh: there is no $f; build it with: tests/library dfsc && tests/program walk" >&2; exit 1; }
 done
 version=$(sed -n 's/^#define DFSC_VERSION_TEXT "\(.*\)"$/\1/p' include/dfsc.h)
 major=${version%%.*}

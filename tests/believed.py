@@ -1,6 +1,6 @@
 """Which definitions have to be believed, and whether they stand apart from the shapes of the code.
 
-Believed is what the statements reach: the contracts of the exported functions (`#[no_mangle]` in crates/dfsc/src), the contracts of the functions that the
+Believed is what the statements reach: the contracts of the exported functions (`#[unsafe(no_mangle)]` in crates/dfsc/src), the contracts of the functions that the
 program `walk` calls, and the theorems of the table at the top of docs/SPEC.md. From there it goes through crates/*/specs: a definition reaches every one
 whose name stands in its type or in its body. (A variable of the same name would count too, so that nothing is missed.) Structs and enums that the sources
 declare count as themselves.
@@ -9,15 +9,16 @@ believed.py           the test: every spec file but those named Code* is on SPEC
                       definitions are reached; none of a Code* file is
 believed.py --list    each spec file with what is reached and what is not
 believed.py --table   the list of files as docs/SPEC.md should have it
+believed.py --lines   writes the lines of each listed file into docs/SPEC.md
 """
-import os, re, sys
+import glob, os, re, sys
 
 KINDS = 'exported', 'walk', 'theorem'
 HEAD = re.compile(r'( *)(?:(?:unfoldable|abbrev) )?(?:pub )?(?:(record|data) )?([^\s(){}]+)((?: [({][^(){}]*[)}])*) :(?= |$)')
 
 
 def tokens(text):
-    """the names of a text, but for fields: `x .field`, `record { field = .. }`, and their declaration"""
+    """the names of a text, but for fields: `(f x).field`, `record { field = .. }`, and their declaration; `a.b` is one word, since `a` may be a value or stand for a file"""
     text = re.sub(r'(^|\s)--.*', r'\1', text)
     text = re.sub(r'([{;]\s*)[^\s(){};]+ =(?=\s)', r'\1', re.sub(r'^ +(pub )?[^\s(){}]+ : ', ' ', text, flags=re.M))
     return [t.rstrip('.') for t in re.findall(r'[^\s(){};,⌜⌝]+', text) if not t.startswith('.')]
@@ -75,11 +76,10 @@ class File:
 class Tree:
     def __init__(self, root):
         self.root, self.files = root, {}
-        for folder, _, names in sorted(os.walk(root + '/crates')):
-            for f in sorted(names) if '/specs' in folder else ():
-                file = File(root, os.path.relpath(os.path.join(folder, f), root))
-                if file.defs:
-                    self.files[file.crate, file.module] = file
+        for path in sorted(glob.glob(root + '/crates/*/specs/**/*.antt', recursive=True)):
+            file = File(root, os.path.relpath(path, root))
+            if file.defs:
+                self.files[file.crate, file.module] = file
 
     def read(self, path):
         path = os.path.join(self.root, path)
@@ -87,7 +87,7 @@ class Tree:
 
     def at(self, path):
         """the spec file of a path in a `use` line"""
-        m = re.fullmatch(r'Rattle·(\w+?)(?:·specs)?\.specs\.(\S+)', path)
+        m = re.fullmatch(r'Rattle\.(\w+)\.specs\.(\S+)', path)
         return m and self.files.get((m[1], m[2]))
 
     def target(self, path, name):
@@ -97,10 +97,10 @@ class Tree:
 
     def resolve(self, scope, token):
         file, names, aliases = scope
-        if file and token in file.owner:
-            return file, file.owner[token]
-        alias, _, name = token.rpartition('.')
-        return self.target(*names[token]) if token in names else self.target(aliases[alias], name) if alias in aliases else None
+        first, *rest = token.split('.')
+        if file and first in file.owner:
+            return file, file.owner[first]
+        return self.target(*names[first]) if first in names else self.target(aliases[first], rest[0]) if first in aliases and rest else None
 
     def named(self, scope, text):
         return {x for x in (self.resolve(scope, t) for t in tokens(text)) if x}
@@ -119,21 +119,21 @@ def functions(text):
         if m:
             name, out[m[1]] = m[1], ['', exported]
         elif name and (out[name][0] or re.match(r'\s+(ensures|requires)\b', line)):
-            out[name][0] += line + '\n'
+            out[name][0] += re.sub(r'^\s+(?:ensures|requires)\*?(?: \w+)? \{', ' {', line) + '\n'
         if line.startswith('{'):
             name = None
-        exported = line.startswith('#[no_mangle]')
+        exported = line.startswith('#[unsafe(no_mangle)]')
     return out
 
 
 def called(tree, path, seen):
-    """what a source calls in the tree; where what it calls reads or writes (libc), which no contract can say, also what is called there"""
+    """what a source calls in the tree; where what it calls reads or writes, which no contract can say, also what is called there"""
     for m in re.finditer(r'\b((?:\w+::)+)(\w+)\(', tree.read(path)):
         way = m[1].replace('crate::', path.split('/')[1] + '::').split('::')[:-1]
         f = f'crates/{way[0]}/src/{"/".join(way[1:]) or "lib"}.rt'
         if (f, m[2]) not in seen and m[2] in functions(tree.read(f)):
             seen.append((f, m[2]))
-            if 'libc::' in tree.read(f):
+            if re.search(r'\bstd::io\b|\bHostRuntime\b', tree.read(f)):
                 called(tree, f, seen)
     return seen
 
@@ -204,7 +204,7 @@ def test(tree):
 def table(tree):
     """the believed files, each after those that it uses, with its lines, what it is for, and the first sentence of its comment"""
     why = reached(tree, roots(tree, told(tree)[0], []))
-    crates, out = [l.split(':')[0] for l in tree.read('crates.txt').split('\n') if ':' in l], []
+    crates, out = re.findall(r'^(\w+)[^#\n]*:', tree.read('crates.txt'), re.M), []
     serves = lambda f: min((KINDS.index(why[f, n][0]) for n in f.defs if (f, n) in why), default=0)
     says = lambda f: re.split(r'\.(?: |$)', ' '.join(l[3:] for l in f.lines[:3] if l.startswith('-- ')))[0]
 
@@ -222,6 +222,10 @@ def main(root, mode):
     tree = Tree(root)
     if mode == '--table':
         print('\n'.join(table(tree)))
+    elif mode == '--lines':
+        lines = {f.path: len(f.lines) - 1 for f in tree.files.values()}
+        text = re.sub(r'^\| (crates/\S+/specs/\S+) \| \d+ \|', lambda m: f'| {m[1]} | {lines.get(m[1], 0)} |', tree.read('docs/SPEC.md'), flags=re.M)
+        open(os.path.join(root, 'docs/SPEC.md'), 'w').write(text)
     elif mode == '--list':
         why = reached(tree, roots(tree, told(tree)[0], []))
         for file in tree.files.values():

@@ -3,22 +3,22 @@ import os, sys, tempfile
 import believed
 
 GOOD = {
-    'crates.txt': 'low:\ndfsc: low\nwalk: low\n',
+    'crates.txt': 'low:\ndfsc staticlib: low\nwalk: low\n',
     'crates/low/specs/Lib.antt': 'pub mod Rules\npub mod Code\n',
-    'crates/low/specs/Rules.antt': '-- Rules.\nuse Prim.Native.Nat.{ℕ}\n\npub data Kind : Type 0 where\n  link : Kind\n\nunfoldable pub rule : Kind → ℕ\nrule link = 1\n\n'
+    'crates/low/specs/Rules.antt': '-- Rules.\nuse Rattle.std.specs.Prelude.{ℕ}\n\npub data Kind : Type 0 where\n  link : Kind\n\nunfoldable pub rule : Kind → ℕ\nrule link = 1\n\n'
                                    'unfoldable pub said : ℕ → Kind\nsaid n = link\n\n-- what the theorem says\nunfoldable pub claim : ℕ → Type 0\nclaim n = ℕ\n',
-    'crates/low/specs/Code.antt': '-- Shapes.\nuse Prim.Native.Nat.{ℕ}\nuse Rattle·low·specs.specs.Rules.{Kind, rule}\n\nunfoldable pub shape : Kind → ℕ\nshape k = rule k\n',
-    'crates/low/src/lib.rt': 'ghost use Rattle·low·specs.specs.Code.{shape};\nghost use Rattle·low·specs.specs.Rules.{said};\n\npub fn inner(k: u32) -> u32\n    ensures { λ r. ⌜ r ≡ shape k ⌝ }\n{\n'
-                             '    k\n}\n\npub fn tell(k: u32) -> u32\n    ensures { λ r. ⌜ r ≡ said k ⌝ }\n{\n    k\n}\n',
-    'crates/low/proofs/Laws.antt': 'use Rattle·low·specs.specs.Rules.{claim}\n\nhint : ℕ\nhint = 1\n\npub holds : (n : ℕ)\n    → claim n\nholds n = n\n',
-    'crates/dfsc/src/lib.rt': 'ghost use Rattle·low.specs.Rules.{rule};\nghost use Rattle·low.specs.Code.{shape};\n\n#[no_mangle]\npub extern "C" fn dfsc(k: u32) -> u32\n    ensures { λ r. ⌜ r ≡ rule k ⌝ }\n{\n'
+    'crates/low/specs/Code.antt': '-- Shapes.\nuse Rattle.std.specs.Prelude.{ℕ}\nuse Rattle.low.specs.Rules.{Kind, rule}\n\nunfoldable pub shape : Kind → ℕ\nshape k = rule k\n',
+    'crates/low/src/lib.rt': 'ghost use Rattle.low.specs.Code.{shape};\nghost use Rattle.low.specs.Rules.{said};\n\npub fn inner(k: u32) -> u32\n    ensures { result ≡ shape k }\n{\n'
+                             '    k\n}\n\npub fn tell(k: u32) -> u32\n    ensures { result ≡ said k }\n{\n    k\n}\n',
+    'crates/low/proofs/Laws.antt': 'use Rattle.low.specs.Rules.{claim}\n\nhint : ℕ\nhint = 1\n\npub holds : (n : ℕ)\n    → claim n\nholds n = n\n',
+    'crates/dfsc/src/lib.rt': 'ghost use Rattle.low.specs.Rules.{rule};\nghost use Rattle.low.specs.Code.{shape};\n\n#[unsafe(no_mangle)]\npub extern "C" fn dfsc(k: u32) -> u32\n    ensures { result ≡ rule k }\n{\n'
                               '    low::inner(k)\n}\n',
     'crates/walk/src/main.rt': 'fn main() {\n    low::tell(1);\n}\n',
     'docs/SPEC.md': '# All\n\n| theorem | file |\n|---|---|\n| `holds` | crates/low/proofs/Laws.antt |\n\n| file | lines |\n|---|---|\n| crates/low/specs/Rules.antt | 15 |\n\n## Rest\n',
 }
 # a file, a text in it and what it becomes; a word of the fault
 CHANGES = [
-    ('crates/dfsc/src/lib.rt', 'r ≡ rule k', 'r ≡ shape k', 'Code.antt: shape is reached, from dfsc'),
+    ('crates/dfsc/src/lib.rt', 'result ≡ rule k', 'result ≡ shape k', 'Code.antt: shape is reached, from dfsc'),
     ('crates/low/specs/Rules.antt', 'said n = link', 'said n = link\nmore : ℕ', 'Rules.antt: more is not reached'),
     ('crates/walk/src/main.rt', 'low::tell(1);', '', 'Rules.antt: said is not reached'),
     ('docs/SPEC.md', '| `holds` |', '| `held` |', 'no theorem held'),

@@ -38,7 +38,7 @@ else
 fi
 # where there is no library the build says how to make it
 if DFSC_LIB="$folder" CARGO_TARGET_DIR="$folder/cargo" cargo build --quiet --offline --manifest-path host/dfsc/Cargo.toml 2>"$folder/log" ||
-    ! grep -q 'rt staticlib dfsc' "$folder/log"; then
+    ! grep -q 'tests/library dfsc' "$folder/log"; then
     cat "$folder/log"
     echo "clients: a build without libdfsc.a"
     exit 1

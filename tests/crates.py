@@ -6,23 +6,22 @@ fails if there are any.
 """
 import os, re, sys
 
-KIT = ['io', 'libc', 'os', 'check', 'bytes']
-
 
 def listed(root):
-    """The crates of crates.txt, each with the crates listed for it."""
+    """The crates of crates.txt, each with the crates and libraries of the kit listed for it."""
     found = {}
     for line in open(root + '/crates.txt', encoding='utf-8'):
         name, colon, needs = line.split('#')[0].partition(':')
         if colon:
-            found[name.strip()] = needs.split()
+            found[name.split()[0]] = needs.split()
     return found
 
 
 def texts(root, crate, end):
     """The files of a crate with this ending, by their paths in it, without comments."""
     found = {}
-    for at, _, names in os.walk(f'{root}/crates/{crate}'):
+    for at, folders, names in os.walk(f'{root}/crates/{crate}'):
+        folders[:] = [f for f in folders if f != 'out']
         for name in names:
             if name.endswith(end):
                 path = os.path.join(at, name)
@@ -31,20 +30,28 @@ def texts(root, crate, end):
     return found
 
 
+def imported(code, name):
+    """The full names that the `use` lines of a crate's code bring in."""
+    found = []
+    for way, names in re.findall(r'(?m)^use ([\w:]+?)(?:::\{([^}]*)\})?;', code):
+        found += [f'{way}::{n.strip()}' for n in names.split(',') if n.strip()] or [way]
+    return [re.sub(r'^crate::', name + '::', p) for p in found]
+
+
 class Crate:
     """The code of a crate: what its functions take and give, and what its types hold, each as a set of full names of types."""
 
-    def __init__(self, root, name, crates):
+    def __init__(self, root, name, others):
         self.files = texts(root, name, '.rt')
         self.code = '\n'.join(self.files.values())
         self.text = self.code + '\n'.join(texts(root, name, '.antt').values())
         self.signs, self.holds = {}, {}
-        self.names = (set(re.findall(r'Rattle·(\w+)', self.text)) | set(re.findall(r'(?<![\w:])(\w+)::', self.code))) & (set(crates) | set(KIT)) - {name}
+        self.names = (set(re.findall(r'\bRattle\.(\w+)', self.text)) | set(re.findall(r'(?<![\w:])(\w+)::', self.code))) & others - {name}
         for path, code in self.files.items():
             module = path[len('src/'):-len('.rt')].replace('/', '::')
             here = name if module in ('lib', 'main') else f'{name}::{module}'
             known = {t: f'{here}::{t}' for t in re.findall(r'(?:struct|enum) (\w+)', code)}
-            known |= {p.split('::')[-1]: p.replace('crate::', name + '::', 1) for p in re.findall(r'(?m)^use ([\w:]+);', code)}
+            known |= {p.split('::')[-1]: p for p in imported(code, name)}
 
             def types(text):
                 paths = re.findall(r'((?:\w+::)*)\b([A-Z]\w*)', text)
@@ -57,14 +64,15 @@ class Crate:
 
 def needs(root):
     """What each crate of crates.txt uses."""
-    crates = {c: None for c in listed(root)}
-    crates = {c: Crate(root, c, crates) for c in crates}
+    lists = listed(root)
+    others = set(lists).union(*lists.values())
+    crates = {c: Crate(root, c, others) for c in lists}
     signs = {k: v for c in crates.values() for k, v in c.signs.items()}
     holds = {k: v for c in crates.values() for k, v in c.holds.items()}
     found = {}
     for name, crate in crates.items():
         reached, waiting = set(), {t for p in re.findall(r'(?<![\w:])(\w+(?:::\w+)+)', crate.code) for t in signs.get(p, ())}
-        waiting |= {p.replace('crate::', name + '::', 1) for p in re.findall(r'(?m)^use ([\w:]+);', crate.code)}
+        waiting |= set(imported(crate.code, name))
         while waiting - reached:
             reached |= waiting
             waiting = {t for r in reached for t in holds.get(r, ())}

@@ -1,10 +1,15 @@
 """Computes the scenarios of vectors/scenarios.txt on the definitions of the steps (crates/walk_steps/specs/steps/Steps.antt).
 
-steps.py ROOT: writes into ROOT, a copy of the repository, a crate `scenarios` without functions: a run over the definitions, and for each scenario the
-statement that its calls give what the file says, caches after each call included. A check of `scenarios` there then computes them all.
+steps.py --crates: prints the crates that the definitions need.
+steps.py ROOT: writes into ROOT, which has vectors/ and a copy of those crates, a crate `scenarios` without functions: a run over the definitions, and for each
+scenario the statement that its calls give what the file says, caches after each call included. A check of `scenarios` there then computes them all.
 Calls that are refused with 1 to 4 or 10 change nothing and are left out, as are listings.
 """
 import os, re, sys
+CRATES='laws memory unc cache cache_lookup reply_bytes reply_read cache_entry cache_store walk_steps'
+if sys.argv[1]=='--crates':
+    print(CRATES)
+    sys.exit()
 root = sys.argv[1]
 src=open(root+'/vectors/scenarios.txt').read().split('\n')
 def units(s):
@@ -109,7 +114,7 @@ def build(n,head,calls):
 unfolding UNFOLD
 scenario{n} = refl
 """
-MODS=[('Rattle·laws.specs.Choice','laws/specs/Choice.antt'),('Rattle·laws.specs.Lists','laws/specs/Lists.antt'),('Rattle·unc.specs.names.Names','unc/specs/names/Names.antt'),('Rattle·unc.specs.names.Paths','unc/specs/names/Paths.antt'),('Rattle·cache_lookup.specs.Lookup','cache_lookup/specs/Lookup.antt'),('Rattle·reply_bytes.specs.texts.Bytes','reply_bytes/specs/texts/Bytes.antt'),('Rattle·reply_read.specs.referral.Replies','reply_read/specs/referral/Replies.antt'),('Rattle·reply_read.specs.name_lists.NameLists','reply_read/specs/name_lists/NameLists.antt'),('Rattle·cache_entry.specs.equivalent_targets.Equivalence','cache_entry/specs/equivalent_targets/Equivalence.antt'),('Rattle·cache_store.specs.entry_after_reply.Stored','cache_store/specs/entry_after_reply/Stored.antt'),('Rattle·walk_steps.specs.steps.Steps','walk_steps/specs/steps/Steps.antt')]
+MODS=[('Rattle.laws.specs.Choice','laws/specs/Choice.antt'),('Rattle.laws.specs.Lists','laws/specs/Lists.antt'),('Rattle.unc.specs.names.Names','unc/specs/names/Names.antt'),('Rattle.unc.specs.names.Paths','unc/specs/names/Paths.antt'),('Rattle.cache_lookup.specs.Lookup','cache_lookup/specs/Lookup.antt'),('Rattle.reply_bytes.specs.texts.Bytes','reply_bytes/specs/texts/Bytes.antt'),('Rattle.reply_read.specs.referral.Replies','reply_read/specs/referral/Replies.antt'),('Rattle.reply_read.specs.name_lists.NameLists','reply_read/specs/name_lists/NameLists.antt'),('Rattle.cache_entry.specs.equivalent_targets.Equivalence','cache_entry/specs/equivalent_targets/Equivalence.antt'),('Rattle.cache_store.specs.entry_after_reply.Stored','cache_store/specs/entry_after_reply/Stored.antt'),('Rattle.walk_steps.specs.steps.Steps','walk_steps/specs/steps/Steps.antt')]
 uses=""; names=[]
 seen=set()
 for m,f in MODS:
@@ -117,23 +122,20 @@ for m,f in MODS:
     ns=[x for x in re.findall(r'(?m)^ *unfoldable pub (\S+)',t)]
     for x in ns:
         al=x
-        if al in seen: al=x+"′"+str(len(seen))
+        if al in seen: al=f"{x}'{len(seen)}"
         seen.add(al)
         uses+=f"use {m}.{{{x}}}\n" if al==x else f"use {m}.{{{x} as {al}}}\n"; names.append(al)
-hdr="""use mathlib.Core.Path.{_≡_, refl}
-use mathlib.Core.Bool.{Bool, true, false, _&&_}
-use mathlib.Core.Option.{Option, none, some}
-use mathlib.Core.List.{List, [], _∷_}
-use Prim.Native.Nat.{ℕ, _-_}
-use lib.ListN.{getD}
-use Rattle·reply_read.specs.referral.Replies as replies
-use Rattle·unc.specs.names.Paths.{Target}
-use Rattle·cache.specs.order.Entries.{Referral, Domain, Place, free, used}
-use Rattle·walk_steps.specs.steps.Steps.{Caches, Core, Question, Turn, Resting, Rest, waits, ended}
-use Rattle·walk_steps.specs.declared.steps.Kind.{Kind}
-use Rattle·walk_steps.specs.declared.steps.Kind.the-variants.{Dc, Root, Link, Sysvol, Io}
-use Rattle·walk_steps.specs.declared.steps.End.{End}
-use Rattle·walk_steps.specs.declared.steps.End.the-variants.{Done, NotDfs, NoDc, Failed, LimitReached, Malformed, TooLong, Gone}
+hdr="""use Rattle.std.specs.Prelude.{ℕ, ◌-◌, Bool, true, false, ◌&&◌, List, [], ◌∷◌, length, get_or, eqb, leb, ◌≡◌}
+use Rattle.std.proofs.Math.Option.{Option, none, some}
+use mathlib.Core.Path.{refl}
+use Rattle.reply_read.specs.referral.Replies as replies
+use Rattle.unc.specs.names.Paths.{Target}
+use Rattle.cache.specs.order.Entries.{Referral, Domain, Place, free, used}
+use Rattle.walk_steps.specs.steps.Steps.{Caches, Core, Question, Turn, Resting, Rest, waits, ended}
+use Rattle.walk_steps.specs.declared.steps.Kind.{Kind}
+use Rattle.walk_steps.specs.declared.steps.Kind.TheVariants.{Dc, Root, Link, Sysvol, Io}
+use Rattle.walk_steps.specs.declared.steps.End.{End}
+use Rattle.walk_steps.specs.declared.steps.End.TheVariants.{Done, NotDfs, NoDc, Failed, LimitReached, Malformed, TooLong, Gone}
 """
 run="""
 pub record State : Type 0 where
@@ -161,13 +163,13 @@ pub data Out : Type 0 where
 abbrev pub nowhere : Core
 nowhere = record { path = []; size = 0; hit = false }
 
-abbrev pub targetTo : ℕ → Option Referral → List ℕ
-targetTo j none = []
-targetTo j (some e) = target_path j e
+abbrev pub target_to : ℕ → Option Referral → List ℕ
+target_to j none = []
+target_to j (some e) = target_path j e
 
-abbrev pub dcTo : ℕ → Option Domain → List ℕ
-dcTo j none = []
-dcTo j (some d) = dc_name j d
+abbrev pub dc_to : ℕ → Option Domain → List ℕ
+dc_to j none = []
+dc_to j (some d) = dc_name j d
 
 abbrev pub pick : Bool → List ℕ → List ℕ → List ℕ
 pick true a b = a
@@ -175,42 +177,42 @@ pick false a b = b
 
 abbrev pub party : List ℕ → Caches → Core → Question → Kind → List ℕ
 party b c w q Dc = b
-party b c w q Root = pick (lib.Dec.eqb (q .entry) 0) (getD (components (w .path)) 0 []) (dcTo (q .party) (domain_in_use c w))
-party b c w q Link = targetTo (q .party) (referral_in_use c w q)
-party b c w q Sysvol = dcTo (q .party) (domain_in_use c w)
-party b c w q Io = targetTo (q .party) (referral_in_use c w q)
+party b c w q Root = pick (eqb q.entry 0) (get_or (components w.path) 0 []) (dc_to q.party (domain_in_use c w))
+party b c w q Link = target_to q.party (referral_in_use c w q)
+party b c w q Sysvol = dc_to q.party (domain_in_use c w)
+party b c w q Io = target_to q.party (referral_in_use c w q)
 
 abbrev pub end_path : ℕ → Core → List ℕ → List ℕ
-end_path n w tried = pick (lib.Dec.eqb n 20) tried (w .path)
+end_path n w tried = pick (eqb n 20) tried w.path
 
 abbrev pub shows : State → Rest → Out
-shows s (waits q) = asked (q .kind) (party (s .boot) (s .caches) (s .core) q (q .kind)) (name_asked (s .core) q) (q .size) (s .limit - s .left) (s .caches)
-shows s (ended e status tried) = done (end_number e) status (end_path (end_number e) (s .core) tried) (s .limit - s .left) (s .caches)
+shows s (waits q) = asked q.kind (party s.boot s.caches s.core q q.kind) (name_asked s.core q) q.size (s.limit - s.left) s.caches
+shows s (ended e status tried) = done (end_number e) status (end_path (end_number e) s.core tried) (s.limit - s.left) s.caches
 
 abbrev pub rested : List ℕ → ℕ → Caches → Resting → State
-rested boot limit c r = record { caches = c; core = r .core; boot = boot; limit = limit; left = r .left; rest = r .rest }
+rested boot limit c r = record { caches = c; core = r.core; boot = boot; limit = limit; left = r.left; rest = r.rest }
 
 abbrev pub settled : List ℕ → ℕ → ℕ → Turn → ℕ → State
-settled boot limit left t clock = rested boot limit (t .caches) (turned left clock t)
+settled boot limit left t clock = rested boot limit t.caches (turned left clock t)
 
-abbrev pub startCore : List ℕ → ℕ → Core
-startCore path size = record { path = normalised path; size = size; hit = false }
+abbrev pub start_core : List ℕ → ℕ → Core
+start_core path size = record { path = normalised path; size = size; hit = false }
 
 pub record Stepped : Type 0 where
   pub state : State
   pub out : Out
 
 abbrev pub shown : State → Stepped
-shown s = record { state = s; out = shows s (s .rest) }
+shown s = record { state = s; out = shows s s.rest }
 
 abbrev pub refusing : State → Stepped
 refusing s = record { state = s; out = refused 5 }
 
 abbrev pub answering : State → ℕ → List ℕ → ℕ → Question → Kind → Stepped
-answering s status reply clock q Dc = shown (settled (s .boot) (s .limit) (s .left) (referral_answered (s .caches) (s .core) q status reply clock) clock)
-answering s status reply clock q Root = shown (settled (s .boot) (s .limit) (s .left) (referral_answered (s .caches) (s .core) q status reply clock) clock)
-answering s status reply clock q Link = shown (settled (s .boot) (s .limit) (s .left) (referral_answered (s .caches) (s .core) q status reply clock) clock)
-answering s status reply clock q Sysvol = shown (settled (s .boot) (s .limit) (s .left) (referral_answered (s .caches) (s .core) q status reply clock) clock)
+answering s status reply clock q Dc = shown (settled s.boot s.limit s.left (referral_answered s.caches s.core q status reply clock) clock)
+answering s status reply clock q Root = shown (settled s.boot s.limit s.left (referral_answered s.caches s.core q status reply clock) clock)
+answering s status reply clock q Link = shown (settled s.boot s.limit s.left (referral_answered s.caches s.core q status reply clock) clock)
+answering s status reply clock q Sysvol = shown (settled s.boot s.limit s.left (referral_answered s.caches s.core q status reply clock) clock)
 answering s status reply clock q Io = refusing s
 
 abbrev pub trying : State → ℕ → ℕ → Question → Kind → Stepped
@@ -218,39 +220,39 @@ trying s status clock q Dc = refusing s
 trying s status clock q Root = refusing s
 trying s status clock q Link = refusing s
 trying s status clock q Sysvol = refusing s
-trying s status clock q Io = shown (settled (s .boot) (s .limit) (s .left) (io_answered (s .caches) (s .core) q status) clock)
+trying s status clock q Io = shown (settled s.boot s.limit s.left (io_answered s.caches s.core q status) clock)
 
-abbrev pub answersAt : State → ℕ → List ℕ → ℕ → Rest → Stepped
-answersAt s status reply clock (waits q) = answering s status reply clock q (q .kind)
-answersAt s status reply clock (ended n e x) = refusing s
+abbrev pub answers_at : State → ℕ → List ℕ → ℕ → Rest → Stepped
+answers_at s status reply clock (waits q) = answering s status reply clock q q.kind
+answers_at s status reply clock (ended n e x) = refusing s
 
-abbrev pub triesAt : State → ℕ → ℕ → Rest → Stepped
-triesAt s status clock (waits q) = trying s status clock q (q .kind)
-triesAt s status clock (ended n e x) = refusing s
+abbrev pub tries_at : State → ℕ → ℕ → Rest → Stepped
+tries_at s status clock (waits q) = trying s status clock q q.kind
+tries_at s status clock (ended n e x) = refusing s
 
-abbrev pub withCaches : Caches → State → State
-withCaches c s = record { caches = c; core = s .core; boot = s .boot; limit = s .limit; left = s .left; rest = s .rest }
+abbrev pub with_caches_of : Caches → State → State
+with_caches_of c s = record { caches = c; core = s.core; boot = s.boot; limit = s.limit; left = s.left; rest = s.rest }
 
-abbrev pub domainsIn : State → List (List ℕ) → Stepped
-domainsIn s names =
-    choose (lib.Dec.leb (lib.ListN.length (once names)) (lib.ListN.length (s .caches .domains)))
+abbrev pub domains_in : State → List (List ℕ) → Stepped
+domains_in s names =
+    choose (leb (length (once names)) (length s.caches.domains))
     (record {
-      state = withCaches (with_domains (domain_places (lib.ListN.length (s .caches .domains)) (once names)) (s .caches)) s;
-      out = learnt (with_domains (domain_places (lib.ListN.length (s .caches .domains)) (once names)) (s .caches)) })
+      state = with_caches_of (with_domains (domain_places (length s.caches.domains) (once names)) s.caches) s;
+      out = learnt (with_domains (domain_places (length s.caches.domains) (once names)) s.caches) })
     (record { state = s; out = refused 6 })
 
 abbrev pub learning : State → replies.Reply (List (List ℕ)) → Stepped
 learning s replies.malformed = record { state = s; out = refused 7 }
 learning s replies.nothing = record { state = s; out = refused 7 }
-learning s (replies.says names) = domainsIn s names
+learning s (replies.says names) = domains_in s names
 
 abbrev pub step : State → Event → Stepped
 step s (learns reply size) =
-    choose (lib.Dec.leb 1024 size && lib.Dec.leb size 57344) (learning s (read_domains size reply)) (record { state = s; out = refused 3 })
-step s (launch path limit size boot clock) = shown (settled boot limit limit (started (s .caches) (startCore path size) clock) clock)
-step s (answers status reply clock) = answersAt s status reply clock (s .rest)
-step s (tries status clock) = triesAt s status clock (s .rest)
-step s (puts c) = record { state = record { caches = c; core = s .core; boot = s .boot; limit = s .limit; left = s .left; rest = s .rest }; out = silent }
+    choose (leb 1024 size && leb size 57344) (learning s (read_domains size reply)) (record { state = s; out = refused 3 })
+step s (launch path limit size boot clock) = shown (settled boot limit limit (started s.caches (start_core path size) clock) clock)
+step s (answers status reply clock) = answers_at s status reply clock s.rest
+step s (tries status clock) = tries_at s status clock s.rest
+step s (puts c) = record { state = record { caches = c; core = s.core; boot = s.boot; limit = s.limit; left = s.left; rest = s.rest }; out = silent }
 
 abbrev pub emit : Out → List Out → List Out
 emit (asked k p n z m c) os = asked k p n z m c ∷ os
@@ -261,18 +263,18 @@ emit silent os = os
 
 abbrev pub runs : State → List Event → List Out
 runs s [] = []
-runs s (e ∷ es) = emit (step s e .out) (runs (step s e .state) es)
+runs s (e ∷ es) = emit (step s e).out (runs (step s e).state es)
 """
 d=root+'/crates/scenarios/proofs'
 os.makedirs(d)
 os.makedirs(root+'/crates/scenarios/src')
-open(root+'/crates/scenarios/src/lib.rt','w').write('// The scenarios.\n')
+open(root+'/crates/scenarios/src/lib.rt','w').write('// The scenarios.\n#![tactic(auto)]\n')
 open(d+'/Run.antt','w').write(hdr+uses+run)
 body=[];k=0
 for n,h,c in scen():
     t=build(n,h,c)
     if t: body.append(t.replace('UNFOLD',' '.join(names))); k+=1
-open(d+'/Scen.antt','w').write(hdr+uses+"use Rattle·scenarios·proofs.proofs.Run.{State, Event, launch, answers, tries, learns, puts, Out, asked, done, refused, learnt, nowhere, runs}\n\n"+"\n".join(body))
+open(d+'/Scen.antt','w').write(hdr+uses+"use Rattle.scenarios.proofs.Run.{State, Event, launch, answers, tries, learns, puts, Out, asked, done, refused, learnt, nowhere, runs}\n\n"+"\n".join(body))
 open(d+'/Lib.antt','w').write('-- The scenarios.\npub mod Run\npub mod Scen\n')
-open(root+'/crates.txt','a').write('scenarios: laws memory unc cache cache_lookup reply_bytes reply_read cache_entry cache_store walk_steps\n')
+open(root+'/crates.txt','a').write(f'scenarios: {CRATES}\n')
 print(k)

@@ -4,7 +4,7 @@ set -eu
 cd "$(dirname "$0")/.."
 folder=$(mktemp -d)
 trap 'rm -rf "$folder"' EXIT
-rt check walk >"$folder/log" 2>&1 || { cat "$folder/log"; exit 1; }
+tests/program walk
 walk=target/bin/walk good=0 bad=0
 compare() { # NAME INPUT EXPECTED
     if "$walk" <"$2" 2>/dev/null | cmp -s - "$3"; then good=$((good + 1)); else bad=$((bad + 1)); echo "differs: $1"; fi

@@ -1,4 +1,4 @@
-// Links target/staticlib/libtesting.a of the repository (`rt staticlib testing`). BENCH_SHIFT moves the code by so many bytes.
+// Links target/staticlib/libtesting.a of the repository (`tests/library testing`). BENCH_SHIFT moves the code by so many bytes.
 fn main() {
     let dir = format!("{}/../../target/staticlib", std::env::var("CARGO_MANIFEST_DIR").unwrap());
     println!("cargo:rustc-link-search=native={dir}");

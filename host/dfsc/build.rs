@@ -1,4 +1,4 @@
-// Links target/staticlib/libdfsc.a of the repository (`rt staticlib dfsc`), or of the folder that DFSC_LIB names.
+// Links target/staticlib/libdfsc.a of the repository (`tests/library dfsc`), or of the folder that DFSC_LIB names.
 use std::env::var;
 use std::path::Path;
 
@@ -8,7 +8,7 @@ fn main() {
     println!("cargo:rerun-if-env-changed=DFSC_LIB");
     println!("cargo:rerun-if-changed={library}");
     if !Path::new(&library).exists() {
-        eprintln!("dfsc: {library} is not there. Build it with `rt staticlib dfsc` in the repository, or name the folder that has libdfsc.a in DFSC_LIB.");
+        eprintln!("dfsc: {library} is not there. Build it with `tests/library dfsc` in the repository, or name the folder that has libdfsc.a in DFSC_LIB.");
         std::process::exit(1);
     }
     let (arch, os) = (var("CARGO_CFG_TARGET_ARCH").unwrap_or_default(), var("CARGO_CFG_TARGET_OS").unwrap_or_default());

@@ -15,7 +15,7 @@ and asks a Resolver, which keeps both caches:
 docs/HOST.md says how a question is asked over SMB, which status to answer (status_of does it for an OSError), and what to do at each end; Resolver.follow does that
 where it can be done without the host. A host that needs more (its own caches, walks that are saved) uses ReferralCache, DomainCache and Walk.
 
-The shared object is built by one command, in the repository, from the static library (rt staticlib dfsc), which is position independent:
+The shared object is built by one command, in the repository, from the static library (tests/library dfsc), which is position independent:
 
     cc -shared -Wl,-soname,libdfsc.so.0 -o target/libdfsc.so -Wl,--whole-archive target/staticlib/libdfsc.a -Wl,--no-whole-archive
 

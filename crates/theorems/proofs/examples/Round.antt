@@ -12,7 +12,6 @@ use Rattle.laws.proofs.Choices.{choose_yes}
 use Rattle.laws.specs.Lists.{every}
 use Rattle.unc.specs.names.Names.{folded, same_unit, same_name, good_name, good_component, nothing_or_dots, plain}
 use Rattle.unc.specs.names.Paths.{before, pieces, components, component_count, begins, matches, is_sysvol, replaced, path_units, normalised, normalised_count, is_normalised, good_path, leads, body, without_trail}
-use Rattle.cache.specs.order.Entries.{free, used}
 use Rattle.cache.specs.order.Memory.{referrals, domains, encode, good_cache, good_place, keys}
 use Rattle.cache.specs.order.Order.{good_prefix, good_target, good_referral, first_opens_none, distinct}
 use Rattle.cache_lookup.specs.Lookup.{longer_match, prefix_units, longest_from, longest_match, age, expired, target_path}

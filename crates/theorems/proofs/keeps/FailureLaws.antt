@@ -1,6 +1,6 @@
 -- An answer that fails leaves both caches as they were.
 use mathlib.Core.Path.{◌≡◌, refl, sym, ap, ◌∙◌}
-use mathlib.Core.Bool.{Bool, true, false, ◌&&◌}
+use mathlib.Core.Bool.{true, false, ◌&&◌}
 use mathlib.Core.List.{List}
 use mathlib.Core.Option.{Option, none, some}
 use mathlib.Core.Logic.{◌⊎◌, inl, inr}
@@ -8,7 +8,6 @@ use Prim.Native.Nat.{ℕ, ◌-◌}
 use native.Mathlib.Omega.{arith}
 use lib.ListN.{length}
 use lib.Dec.{leb, eqb}
-use Rattle.laws.specs.Choice.{choose}
 use Rattle.laws.proofs.Choices.{choose_yes, choose_no, and_left, and_right}
 use Rattle.laws.proofs.Orders.{told}
 use Rattle.laws.proofs.Tests.{not_both}
@@ -21,7 +20,7 @@ use Rattle.walk_steps.specs.question_request.Questions.{rest_fits}
 use Rattle.walk_form.specs.held.Walks.{has_tried, in_form}
 use Rattle.walk_form.specs.declared.held.Walk.{Walk}
 use Rattle.walk_form.specs.held.Walks.{core_in}
-use Rattle.walk_calls.specs.calls.Calls.{Answered, refused_answer, rest_in, referral_event, io_event, answers, answer_call, referral_call, io_call}
+use Rattle.walk_calls.specs.calls.Calls.{refused_answer, rest_in, referral_event, io_event, answers, answer_call, referral_call, io_call}
 use Rattle.walk_calls.specs.declared.call_end.Verdict.{Verdict}
 use Rattle.walk_calls.specs.declared.call_end.Verdict.TheVariants.{NotInOrder, OutOfForm, ShortBuffer}
 use Rattle.theorems.specs.keeps.Failures.{Unchanged, FailuresKeep}

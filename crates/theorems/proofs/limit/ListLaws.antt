@@ -1,25 +1,22 @@
 -- A walk with a limit along a list of calls, against the unlimited walk.
 use mathlib.Core.Path.{◌≡◌, refl, sym, ap, ◌∙◌, subst}
 use mathlib.Core.Bool.{Bool, true, false, ◌&&◌}
-use mathlib.Core.List.{List, [], ◌++◌}
+use mathlib.Core.List.{List, []}
 use mathlib.Core.Option.{Option, none, some}
 use mathlib.Core.Logic.{◌⊎◌, inl, inr}
-use Prim.Native.Nat.{ℕ, suc, ◌+◌, ◌-◌, ◌≤◌}
+use Prim.Native.Nat.{ℕ, suc, ◌-◌, ◌≤◌}
 use native.Mathlib.Omega.{arith}
-use lib.ListN.{length}
 use borrow.Author.Tests.{leb-true}
 use Rattle.laws.specs.Choice.{choose}
 use Rattle.laws.proofs.Choices.{choose_yes, choose_no, and_left, and_right}
 use Rattle.laws.proofs.Orders.{told}
-use Rattle.laws.proofs.Tests.{not_both}
 use Rattle.unc.specs.names.Names.{good_name}
 use Rattle.unc.specs.names.Paths.{normalised}
 use Rattle.cache.specs.order.Memory.{referrals, domains, in_order}
 use Rattle.cache_store.specs.domain_cache.Domains.{good_size}
-use Rattle.walk_steps.specs.steps.Steps.{started, Turn, Core, Rest, ended, Resting}
+use Rattle.walk_steps.specs.steps.Steps.{started, Turn, Rest, ended, Resting}
 use Rattle.walk_steps.specs.steps.Held.{caches_of, core_of}
 use Rattle.walk_steps.specs.declared.steps.End.{End}
-use Rattle.walk_steps.specs.question_request.Questions.{request_name, name_fits}
 use Rattle.walk_form.specs.held.Walks.{good_limit, in_form, boot_in}
 use Rattle.walk_form.specs.held.Walks.{core_in}
 use Rattle.walk_calls.specs.call_end.Closing.{Left, refused}
@@ -31,7 +28,7 @@ use Rattle.theorems.proofs.keeps.RestLaws.{GoodTurn, turned_proper}
 use Rattle.theorems.proofs.keeps.EventLaws.{path_counted, started_proper, referral_good, io_good}
 use Rattle.theorems.proofs.keeps.BackLaws.{caches_good, form_proper, core_back, rest_back, boot_back, proper_form, form_settings}
 use Rattle.theorems.proofs.keeps.CallLaws.{start_keeps, referral_keeps, io_keeps}
-use Rattle.theorems.specs.limit.Unlimited.{Move, Opening, opens, refuses, Unlimited, Made, made_in, rests_at, last_move, Rests, CallsForMore, Brings, number, comes, Call, refused as call-refused, short, taken, CallsFor}
+use Rattle.theorems.specs.limit.Unlimited.{Opening, opens, refuses, Unlimited, Made, CallsForMore, Brings, number, comes, Call, refused as call-refused, short, taken, CallsFor}
 use Rattle.theorems.specs.limit.Calls.{Held, Start, Answer, referral, io, Calls, start, then, run, after_answer, answer_clock, answer_out, clock_of, out_of, observed, start_opening, event_of, event_opening, answer_opening, opening, count_before, Moved, Same, same_number, same_rest}
 use Rattle.theorems.proofs.limit.Once.{as_many, cut_short}
 use Rattle.theorems.proofs.limit.Along.{one_walk, Tracks, tracks_start, tracks_refused, tracks_taken, Meets, meets_start, meets_answer}

@@ -41,7 +41,7 @@ use Rattle.theorems.proofs.limit.ExportedLaws.{exported}
 use Rattle.theorems.proofs.limit.NoLimit.{NoLimit, rests_no}
 use Rattle.theorems.proofs.limit.Along.{one_walk, same_way, one_unlimited, Tracks, tracks_start, tracks_refused, tracks_taken, Meets, meets_start, meets_answer, tracks_follows, tracks_uncut, tracks, meets_comes, meets_uncut, meets_none, meets, earlier_cut}
 use Rattle.theorems.proofs.limit.Cores.{SameCore, started_same, event_same}
-use Rattle.theorems.proofs.limit.Ways.{Way, way, path_moved_lem, size_moved}
+use Rattle.theorems.proofs.limit.Ways.{way, path_moved_lem, size_moved}
 use Rattle.theorems.proofs.limit.ListLaws.{good_event, answer_identity, start_identity, same_comes, same_numbered, taken_opens, short_opens, one_cut, earlier, at_start, Later, later, agrees, few, comes_either, comes_no, comes_few, comes_opening, seen_kept, fine_kept, event_ended, no_opening, start_goes_on, answer_goes_on}
 
 -- a rest that a move called for has brought is no end 24

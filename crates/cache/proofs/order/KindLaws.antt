@@ -21,7 +21,7 @@ use Rattle.unc.specs.names.Paths.{normalised_count, is_normalised, component_cou
 use Rattle.cache.specs.places.Layout.{unit_at, wide_at, flag_at, flag_unit, text_at, list_count, written, count_unit, hint_unit, root_unit, head_units}
 use Rattle.cache.proofs.places.WrittenLaws.{Shaped, length_written, written_length, written_count, written_hint, written_mark, written_setting, written_text}
 use Rattle.cache.specs.order.Entries.{Referral, Domain}
-use Rattle.cache.specs.order.Order.{good_prefix, good_target, first_opens_none, good_referral, good_domain, good_dCHint}
+use Rattle.cache.specs.order.Order.{good_prefix, good_target, first_opens_none, good_referral, good_domain, good_dc_hint}
 use Rattle.cache.specs.order.Memory.{target_of, referral_of, settings_units, referral_units, domain_of, domain_units, referrals, domains, settings_at}
 use Rattle.cache.proofs.order.MemoryLaws.{Lawful}
 
@@ -115,7 +115,7 @@ pub record GoodDomain (d : Domain) : Type 0 where
   pub named : good_name d.name ≡ true
   pub few : length d.dcs ≤ 8
   pub each : every good_name d.dcs ≡ true
-  pub hinted : good_dCHint d.dcs d.hint ≡ true
+  pub hinted : good_dc_hint d.dcs d.hint ≡ true
 
 module _ (d : Domain) where
   pub domain_told : good_domain d ≡ true → GoodDomain d

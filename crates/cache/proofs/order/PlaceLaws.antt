@@ -25,7 +25,7 @@ use Rattle.cache.proofs.places.TidyLaws.{tidy_told}
 use Rattle.cache.proofs.places.ZeroLaws.{zero_at, zeros_all}
 use Rattle.unc.specs.names.Paths.{Target}
 use Rattle.cache.specs.order.Entries.{Referral}
-use Rattle.cache.specs.order.Order.{good_prefix, first_opens_none, good_referral, good_domain, good_dCHint}
+use Rattle.cache.specs.order.Order.{good_prefix, first_opens_none, good_referral, good_domain, good_dc_hint}
 use Rattle.cache.specs.order.Memory.{target_of, referral_of, settings_units, referral_units, domain_of, domain_units, settings_at}
 use Rattle.cache.specs.order.Code.{good_text, good_texts, good_flags}
 use Rattle.cache.proofs.order.KindLaws.{GoodReferral, referral_told, good_referral_lem, referral_shape, GoodDomain, domain_told, good_domain_lem, domain_shape, every_path, path_every}
@@ -215,15 +215,15 @@ pub record DomainTests (piece : List ℕ) : Type 0 where
   pub texts : good_texts true piece ≡ true
 
 -- DCHint is 0, or below the number of DCs
-pub hint_good : (dcs : List (List ℕ)) (h : ℕ) → (h ≡ 0) ⊎ (h < length dcs) → good_dCHint dcs h ≡ true
-unfolding good_dCHint choose
+pub hint_good : (dcs : List (List ℕ)) (h : ℕ) → (h ≡ 0) ⊎ (h < length dcs) → good_dc_hint dcs h ≡ true
+unfolding good_dc_hint choose
 hint_good [] h (inl e) = eq-eqb h 0 e
 hint_good [] h (inr u) = absurd (omega arith)
 hint_good (d ∷ dcs) h (inl e) = choose_no _ _ (ne_eqb (length (d ∷ dcs)) 0 (λ z. omega arith)) ∙ lt-ltb h (length (d ∷ dcs)) (omega arith)
 hint_good (d ∷ dcs) h (inr u) = choose_no _ _ (ne_eqb (length (d ∷ dcs)) 0 (λ z. omega arith)) ∙ lt-ltb h (length (d ∷ dcs)) u
 
-good_hint : (dcs : List (List ℕ)) (h : ℕ) → good_dCHint dcs h ≡ true → (h ≡ 0) ⊎ (h < length dcs)
-unfolding good_dCHint choose
+good_hint : (dcs : List (List ℕ)) (h : ℕ) → good_dc_hint dcs h ≡ true → (h ≡ 0) ⊎ (h < length dcs)
+unfolding good_dc_hint choose
 good_hint [] h t = inl (eqb-true h 0 t)
 good_hint (d ∷ dcs) h t =
     inr (ltb-true h (length (d ∷ dcs)) (sym (choose_no (eqb h 0) (ltb h (length (d ∷ dcs))) (ne_eqb (length (d ∷ dcs)) 0 (λ z. omega arith))) ∙ t))

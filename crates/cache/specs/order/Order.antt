@@ -28,12 +28,12 @@ good_referral e =
     && (every good_target e.targets && (first_opens_none e.targets && ltb e.hint (length e.targets)))))
 
 -- DCHint is a DC, and "not valid exactly when there are no DCs"; it is then held as 0
-unfoldable pub good_dCHint : List (List ℕ) → ℕ → Bool
-good_dCHint dcs hint = choose (eqb (length dcs) 0) (eqb hint 0) (ltb hint (length dcs))
+unfoldable pub good_dc_hint : List (List ℕ) → ℕ → Bool
+good_dc_hint dcs hint = choose (eqb (length dcs) 0) (eqb hint 0) (ltb hint (length dcs))
 
 -- a name and "0 to 8 DCs", each one good component of at most 255 units
 unfoldable pub good_domain : Domain → Bool
-good_domain d = good_name d.name && (leb (length d.dcs) 8 && (every good_name d.dcs && good_dCHint d.dcs d.hint))
+good_domain d = good_name d.name && (leb (length d.dcs) 8 && (every good_name d.dcs && good_dc_hint d.dcs d.hint))
 
 -- no two of the names are equal
 unfoldable pub distinct : List (List ℕ) → Bool

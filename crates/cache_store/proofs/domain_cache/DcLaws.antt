@@ -22,7 +22,7 @@ use Rattle.cache.proofs.places.LayoutLaws.{changed_step}
 use Rattle.cache.proofs.places.WrittenLaws.{length_written}
 use Rattle.cache.proofs.places.PutLaws.{key_only_lem}
 use Rattle.cache.specs.order.Entries.{Domain, Place, free, used}
-use Rattle.cache.specs.order.Order.{good_domain, good_dCHint}
+use Rattle.cache.specs.order.Order.{good_domain, good_dc_hint}
 use Rattle.cache.specs.order.Memory.{domains, domain_units, decode, encode, in_order, piece_of, good_place}
 use Rattle.cache.proofs.order.MemoryLaws.{cache_told, order_good, length_decode, decode_encode, changed_encode}
 use Rattle.cache.proofs.order.KindLaws.{domain_told, good_domain_lem, domain_shape, domains_lawful, name_short}
@@ -83,7 +83,7 @@ abbrev dcs_of : Domain → List (List ℕ) → Domain
 dcs_of d names = record { name = d.name; dcs = names; hint = 0 }
 
 module _ (d : Domain) (good : good_domain d ≡ true) (names : List (List ℕ)) (few : length names ≤ 8) (each : every good_name names ≡ true) where
-  first_hint : good_dCHint names 0 ≡ true
+  first_hint : good_dc_hint names 0 ≡ true
   first_hint = hint_good names 0 (inl refl)
 
   dcs_good : good_domain (dcs_of d names) ≡ true

@@ -222,7 +222,7 @@ takes s line r path boot reply =
     (input_read (after Other s) path boot reply))
 
 -- A whole line of any length, where the first `most` bytes are kept: a reply is read to its end, any other line may have no more bytes than these. Theorem
--- `line_Taken`: this is what `takes` makes of the kept bytes and the rest.
+-- `line_taken_lem`: this is what `takes` makes of the kept bytes and the rest.
 unfoldable pub line_taken : ℕ → Script → List ℕ → List ℕ → List ℕ → List ℕ → InputRead
 line_taken most s line path boot reply =
     choose (is_reply s line) (input_read (takes_reply s line rest.None reply).script path boot (takes_reply s line rest.None reply).room)

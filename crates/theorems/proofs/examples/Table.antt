@@ -15,7 +15,7 @@ use Rattle.laws.proofs.Listed.{same_list_true}
 use Rattle.unc.specs.names.Names.{folded, same_unit, same_name, plain, nothing_or_dots, good_component, good_name}
 use Rattle.unc.specs.names.Paths.{before, pieces, joined, components, component_count, first_of, leads, without_trail, body, good_path, normalised, is_normalised, normalised_count, begins, matches, is_sysvol, replaced}
 use Rattle.cache.specs.places.Layout.{place_at, wide_at, flag_at, flag_unit, room_at, text_at, blank, head_of, rooms_of, written}
-use Rattle.cache.specs.order.Order.{good_prefix, good_target, first_opens_none, good_referral, good_dCHint, good_domain, distinct}
+use Rattle.cache.specs.order.Order.{good_prefix, good_target, first_opens_none, good_referral, good_dc_hint, good_domain, distinct}
 use Rattle.cache.specs.order.Memory.{target_of, referral_of, settings_units, settings_at, referral_units, domain_of, domain_units, place_of, piece_of, decode, encode, good_place, keys, good_cache, in_order}
 use Rattle.cache_lookup.specs.Lookup.{longer_match, prefix_units, longest_from, longest_match, has_key, with_key_from, with_key, age, expired, target_path}
 use Rattle.reply_bytes.specs.texts.Bytes as bytes
@@ -147,7 +147,7 @@ rows_say (r ∷ rs) h m =
 
 -- every row passes
 all_hold : every holds rows ≡ true
-unfolding holds same_bool same_told same_texts same_heard told told_next memory begin overflows dated heard rows after_answer run choose every part roomed pasted listed same_list flatten folded same_unit same_name plain nothing_or_dots good_component good_name before pieces joined components component_count first_of leads without_trail body good_path normalised is_normalised normalised_count begins matches is_sysvol replaced place_at wide_at flag_at flag_unit room_at text_at blank head_of rooms_of written good_prefix good_target first_opens_none good_referral good_dCHint good_domain distinct target_of referral_of settings_units referral_units domain_of domain_units place_of piece_of decode encode good_place keys good_cache in_order longer_match prefix_units longest_from longest_match has_key with_key_from with_key age expired target_path bytes.u16_at bytes.u32_at bytes.flag bytes.longer bytes.text bytes.text_from bytes_of request buffer_with replies.referral_count replies.header_flag replies.version_at replies.size_at replies.server_type_at replies.entry_flag replies.text_of replies.starts replies.entries replies.fits replies.path_of replies.is_read replies.same_read replies.matches_read replies.with_first replies.all_read replies.readable replies.fixed_length replies.ttl_at replies.prefix_at replies.target_at replies.good_fields replies.good_entry replies.target_read replies.later_target replies.kept_targets replies.referral_said replies.referral_with replies.referral_in replies.read_or replies.read_as replies.read_referral held_at held prefixed steps.end_number steps.longest steps.domain_named steps.severity steps.step11 steps.step4 steps.step7 steps.step6_host steps.step5_with steps.step5 steps.step2_with steps.step2 steps.is_there steps.hit_at steps.with_hit steps.with_path steps.from_step2 steps.started steps.name_asked steps.domain_in_use steps.referral_in_use steps.dc_count steps.target_count steps.party_count steps.is_in_use steps.doubled steps.failed_host steps.failed steps.referral_fails steps.referral_answered steps.rests steps.asking steps.goes steps.turned caches_of asking_of next_of tried_of question_of request_name name_fits rest_fits with_request out_after texts_of good_size lent path_in tried_in boot_in good_limit good_settings names_domain names_prefix no_party one_party asked_in_form has_tried end_tried good_tried end_status next_in_form in_form walk_of texts_after closes core_in refusal_number start_rest start_call rest_at rest_in referral_event answers answer_call referral_call settings_at
+unfolding holds same_bool same_told same_texts same_heard told told_next memory begin overflows dated heard rows after_answer run choose every part roomed pasted listed same_list flatten folded same_unit same_name plain nothing_or_dots good_component good_name before pieces joined components component_count first_of leads without_trail body good_path normalised is_normalised normalised_count begins matches is_sysvol replaced place_at wide_at flag_at flag_unit room_at text_at blank head_of rooms_of written good_prefix good_target first_opens_none good_referral good_dc_hint good_domain distinct target_of referral_of settings_units referral_units domain_of domain_units place_of piece_of decode encode good_place keys good_cache in_order longer_match prefix_units longest_from longest_match has_key with_key_from with_key age expired target_path bytes.u16_at bytes.u32_at bytes.flag bytes.longer bytes.text bytes.text_from bytes_of request buffer_with replies.referral_count replies.header_flag replies.version_at replies.size_at replies.server_type_at replies.entry_flag replies.text_of replies.starts replies.entries replies.fits replies.path_of replies.is_read replies.same_read replies.matches_read replies.with_first replies.all_read replies.readable replies.fixed_length replies.ttl_at replies.prefix_at replies.target_at replies.good_fields replies.good_entry replies.target_read replies.later_target replies.kept_targets replies.referral_said replies.referral_with replies.referral_in replies.read_or replies.read_as replies.read_referral held_at held prefixed steps.end_number steps.longest steps.domain_named steps.severity steps.step11 steps.step4 steps.step7 steps.step6_host steps.step5_with steps.step5 steps.step2_with steps.step2 steps.is_there steps.hit_at steps.with_hit steps.with_path steps.from_step2 steps.started steps.name_asked steps.domain_in_use steps.referral_in_use steps.dc_count steps.target_count steps.party_count steps.is_in_use steps.doubled steps.failed_host steps.failed steps.referral_fails steps.referral_answered steps.rests steps.asking steps.goes steps.turned caches_of asking_of next_of tried_of question_of request_name name_fits rest_fits with_request out_after texts_of good_size lent path_in tried_in boot_in good_limit good_settings names_domain names_prefix no_party one_party asked_in_form has_tried end_tried good_tried end_status next_in_form in_form walk_of texts_after closes core_in refusal_number start_rest start_call rest_at rest_in referral_event answers answer_call referral_call settings_at
 all_hold = refl
 
 all_beside : AllBeside rows

@@ -126,14 +126,14 @@ module _ (c : Caches) (cs : GoodCaches c) (w : Core) (q : Question) (p : Proper 
       asked_link w told_q.good p.size entry place began uncovered (ap (λ (n : ℕ). names_prefix w.path (record { kind = Link; entry = n; party = place; began = began; size = w.size; uncovered = uncovered })) e ∙ h)
 
   -- a referral that fails
-  module _ (none_Tried : has_tried q.kind ≡ false) (status : ℕ) where
+  module _ (none_tried : has_tried q.kind ≡ false) (status : ℕ) where
     asked_doubled : Asked w.path (doubled q)
     unfolding doubled asking_of good_size
     asked_doubled =
-        let z : (1024 ≤ q.size) × (q.size ≤ 57344) = request_size told_q none_Tried in
+        let z : (1024 ≤ q.size) × (q.size ≤ 57344) = request_size told_q none_tried in
         let s : good_size (min (2 * q.size) most_size) ≡ true =
         and_both (le-leb 1024 (min (2 * q.size) 57344) (omega (arith, z.0))) (le-leb (min (2 * q.size) 57344) 57344 (omega arith)) in
-        record { form = resized w.path (asking_of q) (min (2 * q.size) most_size) q.kind none_Tried s form; tried = λ l. told_q.tried_form }
+        record { form = resized w.path (asking_of q) (min (2 * q.size) most_size) q.kind none_tried s form; tried = λ l. told_q.tried_form }
 
     well_fails : Well w.path (failed c w q status)
     unfolding failed failed_host
@@ -172,14 +172,14 @@ module _ (c : Caches) (cs : GoodCaches c) (w : Core) (q : Question) (p : Proper 
       }
 
   -- a reply that is stored
-  module _ (none_Tried : has_tried q.kind ≡ false) (there : is_in_use c w q ≡ true) (clock : ℕ) where
+  module _ (none_tried : has_tried q.kind ≡ false) (there : is_in_use c w q ≡ true) (clock : ℕ) where
     stored_turn_lem : (r : replies.ReferralReply) → Sound (name_asked w q) r → GoodTurn (stored_turn (hint_set c w q) w q r clock)
     unfolding stored_turn with_referrals with_hit
     stored_turn_lem r s =
         let h : GoodCaches (hint_set c w q) = hint_good c w cs q there in
         let i : Bool = is_interlink r (hint_set c w q).domains in
         let f : good_referral (fresh r i clock) ≡ true = reply_good (name_asked w q) r s i clock in
-        let l = stored_well (hint_set c w q).referrals h.refs r i clock f w.path (matches_trans r.prefix (name_asked w q) w.path s.prefix_matches (asked_matches w q none_Tried)) in
+        let l = stored_well (hint_set c w q).referrals h.refs r i clock f w.path (matches_trans r.prefix (name_asked w q) w.path s.prefix_matches (asked_matches w q none_tried)) in
         record {
           caches = record { refs = stored_kept (hint_set c w q).referrals h.refs r i clock f; doms = h.doms };
           path = told_q.good;

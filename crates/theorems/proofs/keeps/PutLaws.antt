@@ -141,7 +141,7 @@ module _ (c : Caches) (cs : GoodCaches c) (w : Core) (q : Question) where
           turn_uses (dcs_in c w names) (with_hit true w) _
           (uses_asks (dcs_in c w names) (with_hit true w) _ (use_step5 (dcs_in c w names) (with_hit true w) (dcs_good c w cs names (says_dcs q.size reply names e))))
 
-  module _ (none_Tried : has_tried q.kind ≡ false) (there : is_in_use c w q ≡ true) (clock : ℕ) where
+  module _ (none_tried : has_tried q.kind ≡ false) (there : is_in_use c w q ≡ true) (clock : ℕ) where
     -- a reply that is stored: the entry that it leaves is the one in use
     stored_uses : (r : replies.ReferralReply) → Sound (name_asked w q) r → TurnUses (stored_turn (hint_set c w q) w q r clock)
     unfolding stored_turn with_referrals with_hit TurnUses
@@ -152,7 +152,7 @@ module _ (c : Caches) (cs : GoodCaches c) (w : Core) (q : Question) where
         uses_path d w (with_hit true w) _ refl
         (use_stored d w q.kind _
         (stored_under (hint_set c w q).referrals h.refs r i clock (reply_good (name_asked w q) r s i clock) w.path
-        (matches_trans r.prefix (name_asked w q) w.path s.prefix_matches (asked_matches w q none_Tried))))
+        (matches_trans r.prefix (name_asked w q) w.path s.prefix_matches (asked_matches w q none_tried))))
 
     reply_uses : (reply : List ℕ) → TurnUses (referral_answer c w q clock (read_referral q.size (name_asked w q) reply))
     unfolding referral_answer

@@ -12,7 +12,7 @@ use borrow.Author.Tests.{lt-ltb, ltb-true}
 use Rattle.laws.proofs.Choices.{choose_no, and_both, or_right}
 use Rattle.unc.specs.names.Paths.{components, first_of, is_sysvol, path_units}
 use Rattle.cache.specs.order.Entries.{Referral, Domain}
-use Rattle.cache.specs.order.Order.{good_referral, good_domain, good_dCHint}
+use Rattle.cache.specs.order.Order.{good_referral, good_domain, good_dc_hint}
 use Rattle.cache.specs.order.Memory.{referrals, domains}
 use Rattle.cache.proofs.order.KindLaws.{referral_told, domain_told, referrals_lawful, domains_lawful}
 use Rattle.cache_lookup.specs.Lookup.{with_key, longest_match, expired}
@@ -138,7 +138,7 @@ module _ (c : Caches) (w : Core) where
             ap good_domain (sym y) ∙ place_good domains domains_lawful c.domains cs.doms i b.entry b.here
 
     hinted : (d : Domain) → domain_named (get_or (components w.path) 0 []) c.domains ≡ some d → eqb (length d.dcs) 0 ≡ false → d.hint < dc_count (domain_in_use c w)
-    unfolding domain_in_use dc_count good_dCHint
+    unfolding domain_in_use dc_count good_dc_hint
     hinted d h t =
         let u : d.hint < length d.dcs = ltb-true d.hint (length d.dcs) (sym (choose_no _ _ t) ∙ (domain_told d (domain_good d h)).hinted) in
         subst (λ (o : Option Domain). d.hint < dc_count o) (sym h) u

@@ -16,11 +16,11 @@ pub record StartKeeps (walk : Walk) (texts out : List ℕ) (x : Left) : Type 0 w
 
 -- What an answer keeps: the same; caches in order stay in order (others are refused, so that what comes back is in order exactly where what was
 -- given is); and every cache entry that the answer does not name stays as it was.
-pub record AnswerKeeps (namesReferral names_domain : ℕ → Bool) (walk : Walk) (texts out refs doms : List ℕ) (x : Answered) : Type 0 where
+pub record AnswerKeeps (names_referral names_domain : ℕ → Bool) (walk : Walk) (texts out refs doms : List ℕ) (x : Answered) : Type 0 where
   pub keeps_form : x.left.verdict ≡ Taken → in_form x.left.walk x.left.texts ≡ true
   pub identity : (x.left.verdict ≡ Taken → ⊥) → x ≡ refused_answer x.left.verdict walk texts out refs doms
   pub order : (in_order referrals x.refs && in_order domains x.doms) ≡ (in_order referrals refs && in_order domains doms)
-  pub elsewhere : Elsewhere namesReferral names_domain (caches_of refs doms) (caches_of x.refs x.doms)
+  pub elsewhere : Elsewhere names_referral names_domain (caches_of refs doms) (caches_of x.refs x.doms)
 
 -- The laws of the three calls.
 pub record CallsKeep : Type 0 where

@@ -13,7 +13,7 @@ use Rattle.laws.proofs.Choices.{choose_no}
 use Rattle.laws.proofs.Listed.{every_set}
 use Rattle.cache.specs.places.Layout.{place_count, place_at, list_count}
 use Rattle.cache.specs.order.Entries.{Domain, Place, free, used}
-use Rattle.cache.specs.order.Order.{good_domain, good_dCHint}
+use Rattle.cache.specs.order.Order.{good_domain, good_dc_hint}
 use Rattle.cache.specs.order.Memory.{Kind, referrals, domains, decode, encode, in_order, good_place}
 use Rattle.cache.proofs.order.MemoryLaws.{Lawful, cache_told, order_good, length_decode, encode_decode, decode_encode}
 use Rattle.cache.proofs.order.KindLaws.{referrals_lawful, domains_lawful, referral_told, GoodDomain, domain_told, good_domain_lem}
@@ -65,7 +65,7 @@ dc_hint_good h d g u =
     good_domain_lem _ (record { named = t.named; few = t.few; each = t.each; hinted = hint_good d.dcs h (inr u) })
 
 dc_hint_within : (d : Domain) → good_domain d ≡ true → 0 < length d.dcs → d.hint < length d.dcs
-unfolding good_dCHint
+unfolding good_dc_hint
 dc_hint_within d g s = ltb-true _ _ (sym (choose_no _ _ (ne_eqb (length d.dcs) 0 (λ z. omega arith))) ∙ (domain_told d g).hinted)
 
 dc_hint : Hint domains

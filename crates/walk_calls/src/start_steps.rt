@@ -29,6 +29,7 @@ pub fn put_path(path: &[u16], rooms: &mut [u16]) -> Form
 }
 
 // Where the steps rest after a start with a path of k components.
+#[tactic(auto, using(crate::proofs::start_steps::StartLaws::first_alone))]
 fn first_rest(refs: &[u16], doms: &[u16], rooms: &mut [u16], g: Progress, k: usize) -> Rested
     requires { Begun refs.now rooms.old g.len k }
     ensures { rested_with result rooms.new ≡ packed (turned g.left g.clock (started (caches_of refs.now doms.now) (core_at g rooms.old) g.clock)) }

@@ -11,7 +11,7 @@ returns-then-unit-eq0 c =
 
 pub loop-i-preserved : goal.loop-i-preserved
 loop-i-preserved c =
-    (search rules, c.loop-i.invariant.1 ∙ free_miss _ _ c.unit.ensures c.if-unit-eq0.false (omega arith))
+    (search rules, c.loop-i.invariant.1 ∙ free_miss _ _ c.unit.ensures (search rules) (omega arith))
 
 pub returns : goal.returns
 returns c = sym (c.loop-i.invariant.1 ∙ free_end _ _ (omega arith))

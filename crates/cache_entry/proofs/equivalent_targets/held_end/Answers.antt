@@ -11,7 +11,7 @@ pub returns-then-unit-eq1 : goal.returns-then-unit-eq1
 returns-then-unit-eq1 c = sym (c.loop-e.invariant.1.1 ∙ held_stop _ _ _ c.unit.ensures c.if-unit-eq1.true (omega arith))
 
 pub loop-e-preserved : goal.loop-e-preserved
-loop-e-preserved c = (search rules, (search rules, c.loop-e.invariant.1.1 ∙ held_more _ _ _ c.unit.ensures c.if-unit-eq1.false (omega arith)))
+loop-e-preserved c = (search rules, (search rules, c.loop-e.invariant.1.1 ∙ held_more _ _ _ c.unit.ensures (search rules) (omega arith)))
 
 pub returns : goal.returns
 returns c = sym (c.loop-e.invariant.1.1 ∙ (held_last _ _ _ (omega arith) ∙ omega arith))

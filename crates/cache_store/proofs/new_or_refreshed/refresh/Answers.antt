@@ -1,4 +1,5 @@
 use Rattle.cache_store.proofs.entry_after_reply.StoredLaws.{all_inside, equivalent_told}
+use borrow.Author.Rules.{rules}
 use Rattle.cache_store.proofs.new_or_refreshed.refresh.Goals as goal
 
 pub equivalent-requires : goal.equivalent-requires
@@ -6,15 +7,7 @@ equivalent-requires c =
     (c.requires.0.fits, (c.requires.1.few, all_inside _ _ c.requires.1.kept))
 
 pub refresh_held-requires : goal.refresh_held-requires
-refresh_held-requires c =
-    (c.requires.0, equivalent_told c.args.cache.now c.args.i c.args.reply.now c.args.found c.equivalent.ensures c.if-equivalent.true)
-
-pub returns-then-equivalent : goal.returns-then-equivalent
-returns-then-equivalent c = record { entry = c.refresh_held.ensures }
+refresh_held-requires c = (c.requires.0, equivalent_told c.args.cache.now c.args.i c.args.reply.now c.args.found c.equivalent.ensures (search rules))
 
 pub refresh_given-requires : goal.refresh_given-requires
-refresh_given-requires c =
-    (c.requires.0, (c.requires.1, equivalent_told c.args.cache.now c.args.i c.args.reply.now c.args.found c.equivalent.ensures c.if-equivalent.false))
-
-pub returns : goal.returns
-returns c = record { entry = c.refresh_given.ensures }
+refresh_given-requires c = (c.requires.0, (c.requires.1, equivalent_told c.args.cache.now c.args.i c.args.reply.now c.args.found c.equivalent.ensures (search rules)))

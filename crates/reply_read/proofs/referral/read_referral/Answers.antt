@@ -113,6 +113,6 @@ returns c =
           ∙ read_good a.size r (every (good_entry r) (entries r) && matches_read (prefix_at r 8) a.asked.now) (referral_in r) (omega arith) (omega arith)
           (ap (λ (z : Header). z.count) c.read_header-h.ensures) c.if-h-eq0.false
           (and_both (sym c.good_entries.ensures ∙ c.if-not-good_entries.false)
-          (read_matches a.asked.now (text_good r _ c.in-Good.is c.prefix_of.ensures.path) c.span_matches.ensures ∙ c.if-not-span_matches.false));
+          (read_matches a.asked.now (text_good r _ c.in-Good.is c.prefix_of.ensures.path) c.span_matches.ensures ∙ search rules));
       within = c.referral_in.ensures.within;
     }

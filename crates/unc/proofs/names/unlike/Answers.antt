@@ -11,4 +11,4 @@ returns-then-small-gt122 c = (xor_same _ _, same_xor _ _ (inr c.if-small-gt122.t
 
 pub returns : goal.returns
 returns c =
-    (clear_same _ _ c.if-small-lt97.false c.if-small-gt122.false (omega arith) (omega arith), same_clear _ _ c.if-small-lt97.false c.if-small-gt122.false (omega arith) (omega arith))
+    (clear_same _ _ c.if-small-lt97.false (omega arith) (omega arith) (omega arith), same_clear _ _ c.if-small-lt97.false (omega arith) (omega arith) (omega arith))

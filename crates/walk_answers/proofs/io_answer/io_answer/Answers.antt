@@ -1,4 +1,5 @@
 use Rattle.walk_answers.proofs.io_answer.TryLaws.{entry_units, gone_left, done_fits, done_party, failing, done_left, fails_left}
+use borrow.Author.Rules.{rules}
 use Rattle.walk_answers.proofs.io_answer.io_answer.Goals as goal
 
 pub slice_bounds-place-end-2 : goal.slice_bounds-place-end-2
@@ -17,4 +18,4 @@ pub io_fails-requires : goal.io_fails-requires
 io_fails-requires c = failing c.requires c.place.ensures _ c.in-At.is c.clear_units-2.ensures
 
 pub returns : goal.returns
-returns c = fails_left c.requires c.place.ensures _ c.in-At.is c.args.status c.if-status-ne-ERROR.false c.clear_units-2.ensures c.io_fails.ensures
+returns c = fails_left c.requires c.place.ensures _ c.in-At.is c.args.status (search rules) c.clear_units-2.ensures c.io_fails.ensures

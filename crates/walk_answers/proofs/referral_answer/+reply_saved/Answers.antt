@@ -2,6 +2,7 @@ use Rattle.walk_answers.proofs.referral_answer.AnswerLaws.{taken_fits, kept_left
 use native.Mathlib.Omega.{arith}
 use mathlib.Core.Path.{sym, refl}
 use Rattle.walk_steps.proofs.cycle.MoveLaws.{standing_long, standing_path}
+use borrow.Author.Rules.{rules}
 use Rattle.walk_answers.proofs.referral_answer.+reply_saved.Goals as goal
 
 pub reply_saved-requires : goal.reply_saved-requires
@@ -23,7 +24,7 @@ pub returns-then-rest_fits : goal.returns-then-rest_fits
 returns-then-rest_fits t c = kept_left c.args.refs.now c.args.doms.now c.args.rooms.now c.args.g c.args.q c.requires.0 c.args.reply.now 2336 (λ h. refl) c.take_reply-taken.ensures.turn c.take_reply-taken.ensures.back c.take_reply-taken.ensures.after c.rest_after-r.ensures c.rest_fits.ensures c.if-rest_fits.true
 
 pub put_back-requires : goal.put_back-requires
-put_back-requires t c = can_put c.args.refs.now c.args.doms.now c.args.rooms.now c.args.g c.args.q c.requires.0 c.args.reply.now 2336 (λ h. refl) c.take_reply-taken.ensures.turn c.take_reply-taken.ensures.back c.take_reply-taken.ensures.after c.rest_after-r.ensures c.rest_fits.ensures c.if-rest_fits.false
+put_back-requires t c = can_put c.args.refs.now c.args.doms.now c.args.rooms.now c.args.g c.args.q c.requires.0 c.args.reply.now 2336 (λ h. refl) c.take_reply-taken.ensures.turn c.take_reply-taken.ensures.back c.take_reply-taken.ensures.after c.rest_after-r.ensures c.rest_fits.ensures (search rules)
 
 pub returns : goal.returns
-returns t c = put_left c.args.refs.now c.args.doms.now c.args.rooms.now c.args.g c.args.q c.requires.0 c.args.reply.now 2336 (λ h. refl) c.take_reply-taken.ensures.turn c.take_reply-taken.ensures.back c.take_reply-taken.ensures.after c.rest_after-r.ensures c.rest_fits.ensures c.if-rest_fits.false c.put_back.ensures
+returns t c = put_left c.args.refs.now c.args.doms.now c.args.rooms.now c.args.g c.args.q c.requires.0 c.args.reply.now 2336 (λ h. refl) c.take_reply-taken.ensures.turn c.take_reply-taken.ensures.back c.take_reply-taken.ensures.after c.rest_after-r.ensures c.rest_fits.ensures (search rules) c.put_back.ensures

@@ -1,4 +1,4 @@
-use Prim.Native.Nat.{◌-◌, ◌≤◌}
+use Prim.Native.Nat.{◌≤◌}
 use lib.ListN.{length}
 use Rattle.unc.specs.names.Code.{SameWithin}
 use Rattle.unc.proofs.names.same_units.Given as goal

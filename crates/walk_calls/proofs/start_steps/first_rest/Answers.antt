@@ -1,4 +1,4 @@
-use Rattle.walk_calls.proofs.start_steps.StartLaws.{first_alone, first_ready, first_moved}
+use Rattle.walk_calls.proofs.start_steps.StartLaws.{first_ready, first_moved}
 use borrow.Author.Rules.{rules}
 use Rattle.walk_calls.proofs.start_steps.first_rest.Goals as goal
 

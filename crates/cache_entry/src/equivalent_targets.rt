@@ -102,6 +102,7 @@ fn first_unmarked(
 
 // Whether each of the entry's targets t..end is equal to one of the reply's unmarked targets from..to, each of these taken once: the one found is marked.
 // What it hands on to itself are numbers and what it was lent, so that its frame stays small.
+#[tactic(auto, using(crate::proofs::equivalent_targets::ComparisonLaws::matched_end))]
 fn matched_from(
     cache: &[u16],
     i: usize,

@@ -94,6 +94,7 @@ fn succeeded(
 }
 
 // The answer to the referral request q. `rooms` are those of the path and of the path tried.
+#[tactic(auto, using(crate::proofs::referral_answer::AnswerLaws::gone_left))]
 pub fn referral_answer(
     refs: &mut [u16],
     doms: &mut [u16],

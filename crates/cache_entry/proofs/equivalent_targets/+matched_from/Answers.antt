@@ -1,11 +1,8 @@
 use Prim.Native.Nat.{ℕ, ◌≤◌}
 use mathlib.Core.Path.{sym, subst}
 use native.Mathlib.Omega.{arith}
-use Rattle.cache_entry.proofs.equivalent_targets.ComparisonLaws.{matched_end, none_left, found_from, found_bit, one_taken}
+use Rattle.cache_entry.proofs.equivalent_targets.ComparisonLaws.{none_left, found_from, found_bit, one_taken}
 use Rattle.cache_entry.proofs.equivalent_targets.+matched_from.Goals as goal
-
-pub returns-then-end-t : goal.returns-then-end-t
-returns-then-end-t t c = matched_end _ _ _ _ c.if-end-t.true
 
 pub returns-then-to-j : goal.returns-then-to-j
 returns-then-to-j t c =

@@ -1,8 +1,6 @@
 use mathlib.Core.Path.{ap}
 use mathlib.Core.Bool.{not}
 use Rattle.walk_answers.proofs.io_answer.TryLaws.{covered_end, covered_asks}
-use mathlib.Core.Path.{ap}
-use mathlib.Core.Bool.{not}
 use Rattle.walk_answers.proofs.io_answer.not_covered.Goals as goal
 
 pub returns-then-not-is_root : goal.returns-then-not-is_root

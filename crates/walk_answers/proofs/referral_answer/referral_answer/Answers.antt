@@ -1,6 +1,6 @@
 use mathlib.Core.Path.{ap}
 use mathlib.Core.Bool.{not, true}
-use Rattle.walk_answers.proofs.referral_answer.AnswerLaws.{gone_left, fails_left, succeeding, succeeds_left}
+use Rattle.walk_answers.proofs.referral_answer.AnswerLaws.{fails_left, succeeding, succeeds_left}
 use native.Mathlib.Omega.{arith}
 use mathlib.Core.Path.{sym}
 use Rattle.walk_steps.proofs.cycle.MoveLaws.{standing_long, standing_path}
@@ -15,9 +15,6 @@ slice_bounds-in_use-end-2 c = sym (standing_path _ _ c.requires.standing)
 
 pub in_use-requires : goal.in_use-requires
 in_use-requires c = (c.requires.good, omega (arith, c.requires.inside, standing_path _ _ c.requires.standing))
-
-pub returns-then-not-in_use : goal.returns-then-not-in_use
-returns-then-not-in_use c = gone_left c.args.refs.now c.args.doms.now c.args.rooms.now c.args.g c.args.q c.requires c.args.status c.args.reply.now c.in_use.ensures (ap not c.if-not-in_use.true) c.rest.ensures
 
 pub slice_bounds-referral_fails-end : goal.slice_bounds-referral_fails-end
 slice_bounds-referral_fails-end c = omega (arith, c.requires.standing.few, standing_long _ _ c.requires.standing)

@@ -1,10 +1,9 @@
 -- Laws of ages and of the place that a new entry takes.
+use Rattle.std.specs.Prelude.{Option, Some, None}
 use Rattle.std.proofs.Common.{◌≡◌, ℕ, suc, ◌+◌, ◌%◌, ◌^◌, ◌<◌, ◌≤◌, ltb, leb, List, ◌∷◌, drop, sym, refl, ap, ◌∙◌, add-one, arith, le-ltb, lt-ltb, ne_eqb}
 use Rattle.laws.specs.Choice.{choose}
 use Rattle.laws.proofs.Choices.{choose_yes, choose_no}
 use Rattle.cache.specs.places.Layout.{place_count, place_at, unit_at, wide_at, ttl_unit, taken_unit}
-use Rattle.cache_lookup.specs.declared.Found.{Found}
-use Rattle.cache_lookup.specs.declared.Found.TheVariants.{At, Nothing}
 use Rattle.cache.specs.order.Entries.{Referral, Place}
 use Rattle.cache.specs.order.Memory.{referrals, referral_of, place_of, decode, settings_at}
 use Rattle.cache_lookup.specs.Code.{entry_at}
@@ -41,7 +40,7 @@ module _ (clock : ℕ) (raw : List ℕ) (i : ℕ) where
 
 -- the loop that finds a free place
 module _ (raw : List ℕ) (i : ℕ) where
-  pub free_hit : {u : ℕ} → u ≡ unit_at 0 (place_at i raw) → u ≡ 0 → i < place_count raw → first_free_from i (drop i (decode referrals raw)) ≡ At i
+  pub free_hit : {u : ℕ} → u ≡ unit_at 0 (place_at i raw) → u ≡ 0 → i < place_count raw → first_free_from i (drop i (decode referrals raw)) ≡ Some i
   unfolding first_free_from
   free_hit e h v = rw (drop_decode referrals raw i v, place_free referrals (place_at i raw) (sym e ∙ h))
 
@@ -54,7 +53,7 @@ module _ (raw : List ℕ) (i : ℕ) where
       (place_used referrals (place_at i raw) (ne_eqb (unit_at 0 (place_at i raw)) 0 (λ z. n (e ∙ z))))
       ∙ ap (λ (k : ℕ). first_free_from (i + 1) (drop k (decode referrals raw))) (sym (add-one i)))
 
-  pub free_end : place_count raw ≤ i → first_free_from i (drop i (decode referrals raw)) ≡ Nothing
+  pub free_end : place_count raw ≤ i → first_free_from i (drop i (decode referrals raw)) ≡ None
   unfolding first_free_from
   free_end h = rw (drop_decode_end referrals raw i h)
 
@@ -91,10 +90,10 @@ module _ (clock : ℕ) (raw : List ℕ) (i best n : ℕ) where
 
 -- a free place, else the oldest
 module _ (clock : ℕ) (ps : List (Place Referral)) where
-  pub new_free : {f : Found} {i : ℕ} → f ≡ first_free_from 0 ps → f ≡ At i → i ≡ new_place clock ps
+  pub new_free : {f : Option ℕ} {i : ℕ} → f ≡ first_free_from 0 ps → f ≡ Some i → i ≡ new_place clock ps
   unfolding new_place found_or
   new_free e h = ap (found_or (oldest clock ps)) (sym h ∙ e)
 
-  pub new_oldest : {f : Found} {r : ℕ} → f ≡ first_free_from 0 ps → f ≡ Nothing → r ≡ oldest clock ps → r ≡ new_place clock ps
+  pub new_oldest : {f : Option ℕ} {r : ℕ} → f ≡ first_free_from 0 ps → f ≡ None → r ≡ oldest clock ps → r ≡ new_place clock ps
   unfolding new_place found_or
   new_oldest e h o = o ∙ ap (found_or (oldest clock ps)) (sym h ∙ e)

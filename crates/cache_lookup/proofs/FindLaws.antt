@@ -1,4 +1,5 @@
 -- Laws of the loops that find an entry: what is left to look at, and what is found.
+use Rattle.std.specs.Prelude.{Option, Some, None}
 use Rattle.std.proofs.Common.{◌≡◌, ℕ, ◌+◌, ◌<◌, ◌≤◌, min, Bool, true, false, ◌&&◌, eqb, ltb, ◌⊎◌, List, [], ◌∷◌, map, length, get_or, take, drop, sym, refl, ap, ◌∙◌, inl, inr, add-one, arith, length-take, get_or-take, ltb-false, ltb-true, le-ltb, lt-ltb, eq-eqb, ne_eqb, eqb-true}
 use Rattle.laws.specs.Choice.{choose}
 use Rattle.laws.specs.Listed.{listed}
@@ -12,8 +13,6 @@ use Rattle.unc.proofs.names.WithinLaws.{same_name_at}
 use Rattle.unc.proofs.names.MatchLaws.{matches_longer, matches_same, matches_within}
 use Rattle.cache.specs.places.Layout.{place_count, place_at, unit_at, room_at, text_at}
 use Rattle.cache.proofs.places.LayoutLaws.{length_room}
-use Rattle.cache_lookup.specs.declared.Found.{Found}
-use Rattle.cache_lookup.specs.declared.Found.TheVariants.{At, Nothing}
 use Rattle.cache.specs.order.Memory.{Kind, referrals, domains, referral_of, place_of, decode}
 use Rattle.cache_lookup.specs.Lookup.{longer_match, prefix_units, longest_from, longest_match, has_key, with_key_from, with_key}
 use Rattle.cache_lookup.specs.Code.{key_is, key_place_from, key_place}
@@ -113,40 +112,40 @@ module _ (raw path : List ℕ) (i : ℕ) (fits : i < place_count raw) where
         go (inr unmatched) = and_no_right (ltb 0 (length prefix)) unmatched
 
 -- the loop that finds the longest match
-module _ (raw path : List ℕ) (i : ℕ) (best : Found) (n : ℕ) where
+module _ (raw path : List ℕ) (i : ℕ) (best : Option ℕ) (n : ℕ) where
   -- one place more
   find_step : i < place_count raw → longest_from path i best n (drop i (decode referrals raw))
-      ≡ longest_from path (i + 1) (choose (longer_match path n (place_of referrals (place_at i raw))) (At i) best)
+      ≡ longest_from path (i + 1) (choose (longer_match path n (place_of referrals (place_at i raw))) (Some i) best)
       (choose (longer_match path n (place_of referrals (place_at i raw))) (prefix_units (place_of referrals (place_at i raw))) n) (drop (i + 1) (decode referrals raw))
   unfolding longest_from
   find_step u =
       ap (longest_from path i best n) (drop_decode referrals raw i u)
-      ∙ ap (λ (k : ℕ). longest_from path (i + 1) (choose (longer_match path n (place_of referrals (place_at i raw))) (At i) best)
+      ∙ ap (λ (k : ℕ). longest_from path (i + 1) (choose (longer_match path n (place_of referrals (place_at i raw))) (Some i) best)
       (choose (longer_match path n (place_of referrals (place_at i raw))) (prefix_units (place_of referrals (place_at i raw))) n) (drop k (decode referrals raw)))
       (sym (add-one i))
 
   -- the best and its units after that
-  module _ {best' : Found} {n' : ℕ} {r : Bool} (e : r ≡ longer_match path n (place_of referrals (place_at i raw))) where
-    pub find_hit : {key : List ℕ} → r ≡ true → best' ≡ At i → key ≡ text_at 0 (place_at i raw) → n' ≡ length key → i < place_count raw
+  module _ {best' : Option ℕ} {n' : ℕ} {r : Bool} (e : r ≡ longer_match path n (place_of referrals (place_at i raw))) where
+    pub find_hit : {key : List ℕ} → r ≡ true → best' ≡ Some i → key ≡ text_at 0 (place_at i raw) → n' ≡ length key → i < place_count raw
         → longest_from path i best n (drop i (decode referrals raw)) ≡ longest_from path (i + 1) best' n' (drop (i + 1) (decode referrals raw))
     find_hit h p k q u =
         let l : prefix_units (place_of referrals (place_at i raw)) ≡ n' = units_place (place_at i raw) ∙ (ap length (sym k) ∙ sym q) in
         find_step u
-        ∙ (λ j. longest_from path (i + 1) ((choose_yes (At i) best (sym e ∙ h) ∙ sym p) j)
+        ∙ (λ j. longest_from path (i + 1) ((choose_yes (Some i) best (sym e ∙ h) ∙ sym p) j)
         ((choose_yes (prefix_units (place_of referrals (place_at i raw))) n (sym e ∙ h) ∙ l) j) (drop (i + 1) (decode referrals raw)))
 
     pub find_miss : r ≡ false → best' ≡ best → n' ≡ n → i < place_count raw
         → longest_from path i best n (drop i (decode referrals raw)) ≡ longest_from path (i + 1) best' n' (drop (i + 1) (decode referrals raw))
     find_miss h p q u =
         find_step u
-        ∙ (λ j. longest_from path (i + 1) ((choose_no (At i) best (sym e ∙ h) ∙ sym p) j)
+        ∙ (λ j. longest_from path (i + 1) ((choose_no (Some i) best (sym e ∙ h) ∙ sym p) j)
         ((choose_no (prefix_units (place_of referrals (place_at i raw))) n (sym e ∙ h) ∙ sym q) j) (drop (i + 1) (decode referrals raw)))
 
   pub find_end : place_count raw ≤ i → longest_from path i best n (drop i (decode referrals raw)) ≡ best
   unfolding longest_from
   find_end h = rw (drop_decode_end referrals raw i h)
 
-pub find_start : (raw path : List ℕ) → longest_match path (decode referrals raw) ≡ longest_from path 0 Nothing 0 (drop 0 (decode referrals raw))
+pub find_start : (raw path : List ℕ) → longest_match path (decode referrals raw) ≡ longest_from path 0 None 0 (drop 0 (decode referrals raw))
 unfolding longest_match
 find_start raw path = refl
 
@@ -160,7 +159,7 @@ module _ (name piece : List ℕ) where
   unfolding key_is
   key_used e n et er = rw (ne_eqb (unit_at 0 piece) 0 (λ z. n (e ∙ z))) (er ∙ ap (λ (x : List ℕ). same_name x name) et)
 
-pub key_from : List ℕ → List ℕ → ℕ → Found
+pub key_from : List ℕ → List ℕ → ℕ → Option ℕ
 key_from name raw i = key_place_from name i (drop i (listed (place_count raw) (λ k. place_at k raw)))
 
 module _ (name raw : List ℕ) where
@@ -169,15 +168,15 @@ module _ (name raw : List ℕ) where
   key_start = refl
 
   module _ (i : ℕ) where
-    pub key_hit : {r : Bool} → r ≡ key_is name (place_at i raw) → r ≡ true → i < place_count raw → key_from name raw i ≡ At i
+    pub key_hit : {r : Bool} → r ≡ key_is name (place_at i raw) → r ≡ true → i < place_count raw → key_from name raw i ≡ Some i
     unfolding key_from key_place_from
-    key_hit e h u = rw (drop_listed (place_count raw) (λ k. place_at k raw) i u) (choose_yes (At i) _ (sym e ∙ h))
+    key_hit e h u = rw (drop_listed (place_count raw) (λ k. place_at k raw) i u) (choose_yes (Some i) _ (sym e ∙ h))
 
     pub key_miss : {r : Bool} → r ≡ key_is name (place_at i raw) → r ≡ false → i < place_count raw → key_from name raw i ≡ key_from name raw (i + 1)
     unfolding key_from key_place_from
-    key_miss e h u = rw (drop_listed (place_count raw) (λ k. place_at k raw) i u, add-one i) (choose_no (At i) _ (sym e ∙ h))
+    key_miss e h u = rw (drop_listed (place_count raw) (λ k. place_at k raw) i u, add-one i) (choose_no (Some i) _ (sym e ∙ h))
 
-    pub key_end : place_count raw ≤ i → key_from name raw i ≡ Nothing
+    pub key_end : place_count raw ≤ i → key_from name raw i ≡ None
     unfolding key_from key_place_from
     key_end h = rw (drop_listed_end (place_count raw) (λ k. place_at k raw) i h)
 
@@ -194,14 +193,14 @@ module _ {E : Type 0} (k : Kind E) (law : Lawful k) (name : List ℕ) where
   has_keys : (i : ℕ) (ps : List (List ℕ)) → key_place_from name i ps ≡ with_key_from k name i (map (place_of k) ps)
   unfolding key_place_from with_key_from
   has_keys i [] = refl
-  has_keys i (p ∷ ps) = λ j. choose (has_key_lem p j) (At i) (has_keys (i + 1) ps j)
+  has_keys i (p ∷ ps) = λ j. choose (has_key_lem p j) (Some i) (has_keys (i + 1) ps j)
 
   key_of : (raw : List ℕ) → key_place name raw ≡ with_key k name (decode k raw)
   unfolding key_place with_key decode
   key_of raw = has_keys 0 (listed (place_count raw) (λ i. place_at i raw)) ∙ ap (with_key_from k name 0) (map_listed (place_of k) (place_count raw) (λ i. place_at i raw))
 
-pub key_referral : (name raw : List ℕ) {r : Found} → r ≡ key_place name raw → r ≡ with_key referrals name (decode referrals raw)
+pub key_referral : (name raw : List ℕ) {r : Option ℕ} → r ≡ key_place name raw → r ≡ with_key referrals name (decode referrals raw)
 key_referral name raw e = e ∙ key_of referrals referrals_lawful name raw
 
-pub key_domain : (name raw : List ℕ) {r : Found} → r ≡ key_place name raw → r ≡ with_key domains name (decode domains raw)
+pub key_domain : (name raw : List ℕ) {r : Option ℕ} → r ≡ key_place name raw → r ≡ with_key domains name (decode domains raw)
 key_domain name raw e = e ∙ key_of domains domains_lawful name raw

@@ -1,4 +1,5 @@
 -- What a look-up finds: the longest match, the entry with an equal key, and the place that a new entry takes.
+use Rattle.std.specs.Prelude.{Option, Some, None}
 use Rattle.std.proofs.Common.{◌≡◌, ℕ, zero, suc, ◌+◌, ◌-◌, ◌<◌, ◌≤◌, true, false, ◌&&◌, ltb, ◌⊎◌, List, [], ◌∷◌, length, get_or, drop, sym, refl, ap, ◌∙◌, subst, inl, inr, arith, length-drop, get_or-drop, drop-drop, ltb-false, ltb-true}
 use lib.ListN.{get_or-eq_default}
 use Rattle.laws.specs.Choice.{choose}
@@ -7,8 +8,6 @@ use Rattle.laws.proofs.Orders.{lt_or_le, told}
 use Rattle.laws.proofs.Tests.{eq_or_ne, refuted, not_both}
 use Rattle.unc.specs.names.Names.{same_name}
 use Rattle.unc.specs.names.Paths.{matches}
-use Rattle.cache_lookup.specs.declared.Found.{Found}
-use Rattle.cache_lookup.specs.declared.Found.TheVariants.{At, Nothing}
 use Rattle.cache.specs.order.Entries.{Referral, Place, free, used}
 use Rattle.cache.specs.order.Memory.{Kind}
 use Rattle.cache_lookup.specs.Lookup.{longer_match, prefix_units, longest_from, longest_match, has_key, with_key_from, with_key, first_free_from, place_age, oldest_from, oldest, found_or, new_place}
@@ -44,14 +43,14 @@ module _ (path : List ℕ) (qs : List (Place Referral)) where
     pub here : get_or qs i free ≡ used e
     pub matched : matches e.prefix path ≡ true
 
-  data Best : Found → ℕ → Type 0 where
-    none : Best Nothing 0
-    best_at : (b : ℕ) (e : Referral) → Matches b e → Best (At b) (length e.prefix)
+  data Best : Option ℕ → ℕ → Type 0 where
+    none : Best None 0
+    best_at : (b : ℕ) (e : Referral) → Matches b e → Best (Some b) (length e.prefix)
 
   Bounded : ℕ → ℕ → Type 0
   Bounded i n = (j : ℕ) (e : Referral) → j < i → Matches j e → length e.prefix ≤ n
 
-  record Searched (r : Found) : Type 0 where
+  record Searched (r : Option ℕ) : Type 0 where
     units : ℕ
     best : Best r units
     bound : Bounded (length qs) units
@@ -76,7 +75,7 @@ module _ (path : List ℕ) (qs : List (Place Referral)) where
           subst (λ (x : Referral). length x.prefix ≤ n') same (f (ap (λ (x : Referral). matches x.prefix path) same ∙ m.matched))
       go (inr q) = let v : length e.prefix ≤ n = c j e (omega arith) m in omega arith
 
-  search_all : (i : ℕ) (best : Found) (n : ℕ) (ps : List (Place Referral)) → ps ≡ drop i qs → Best best n → Bounded i n → Searched (longest_from path i best n ps)
+  search_all : (i : ℕ) (best : Option ℕ) (n : ℕ) (ps : List (Place Referral)) → ps ≡ drop i qs → Best best n → Bounded i n → Searched (longest_from path i best n ps)
   unfolding longest_from longer_match prefix_units choose Bounded
   search_all i best n [] h b c =
       record { units = n; best = b; bound = λ j e u m. let v : length qs ≤ i = rest_none qs i h in c j e (omega arith) m }
@@ -89,13 +88,13 @@ module _ (path : List ℕ) (qs : List (Place Referral)) where
       here = rest_first qs i (used a) ps free h
 
       go : ((ltb n (length a.prefix) && matches a.prefix path) ≡ true) ⊎ ((ltb n (length a.prefix) && matches a.prefix path) ≡ false)
-          → ((best' : Found) (n' : ℕ) → Best best' n' → Bounded (i + 1) n' → Searched (longest_from path (i + 1) best' n' ps))
-          → Searched (longest_from path (i + 1) (choose (ltb n (length a.prefix) && matches a.prefix path) (At i) best)
+          → ((best' : Option ℕ) (n' : ℕ) → Best best' n' → Bounded (i + 1) n' → Searched (longest_from path (i + 1) best' n' ps))
+          → Searched (longest_from path (i + 1) (choose (ltb n (length a.prefix) && matches a.prefix path) (Some i) best)
           (choose (ltb n (length a.prefix) && matches a.prefix path) (length a.prefix) n) ps)
       go (inl t) r =
           let u : n < length a.prefix = ltb-true n (length a.prefix) (and_left _ _ t) in
           rw t
-          (r (At i) (length a.prefix)
+          (r (Some i) (length a.prefix)
           (best_at i a (record { here = here; matched = and_right (ltb n (length a.prefix)) _ t }))
           (more_used i n c (length a.prefix) (omega arith) a here (λ m. omega arith)))
       go (inr t) r =
@@ -106,7 +105,7 @@ module _ (path : List ℕ) (qs : List (Place Referral)) where
 
   searched : Searched (longest_match path qs)
   unfolding longest_match Bounded
-  searched = search_all 0 Nothing 0 qs refl none (λ j e u m. absurd (omega arith))
+  searched = search_all 0 None 0 qs refl none (λ j e u m. absurd (omega arith))
 
   -- what is found is a match, and no other match is longer
   pub record LongestAt (i : ℕ) : Type 0 where
@@ -114,11 +113,11 @@ module _ (path : List ℕ) (qs : List (Place Referral)) where
     pub found : Matches i entry
     pub longest : (j : ℕ) (e : Referral) → Matches j e → length e.prefix ≤ length entry.prefix
 
-  pub longest_found : (i : ℕ) → longest_match path qs ≡ At i → LongestAt i
+  pub longest_found : (i : ℕ) → longest_match path qs ≡ Some i → LongestAt i
   unfolding Bounded
   longest_found i h = go (longest_match path qs) searched.units h searched.best searched.bound
     where
-      go : (r : Found) (n : ℕ) → r ≡ At i → Best r n → ((j : ℕ) (e : Referral) → j < length qs → Matches j e → length e.prefix ≤ n) → LongestAt i
+      go : (r : Option ℕ) (n : ℕ) → r ≡ Some i → Best r n → ((j : ℕ) (e : Referral) → j < length qs → Matches j e → length e.prefix ≤ n) → LongestAt i
       go r n e none c = absurd (let z : ◌≡◌ {A = ℕ} 0 1 = cc in omega arith)
       go r n e (best_at b a m) c =
           let same : b ≡ i = cc in
@@ -129,11 +128,11 @@ module _ (path : List ℕ) (qs : List (Place Referral)) where
           }
 
   -- where nothing is found nothing matches, but for an empty prefix, which no good entry has
-  pub longest_none : longest_match path qs ≡ Nothing → (j : ℕ) (e : Referral) → Matches j e → length e.prefix ≡ 0
+  pub longest_none : longest_match path qs ≡ None → (j : ℕ) (e : Referral) → Matches j e → length e.prefix ≡ 0
   unfolding Bounded
   longest_none h = go (longest_match path qs) searched.units h searched.best searched.bound
     where
-      go : (r : Found) (n : ℕ) → r ≡ Nothing → Best r n → ((j : ℕ) (e : Referral) → j < length qs → Matches j e → length e.prefix ≤ n)
+      go : (r : Option ℕ) (n : ℕ) → r ≡ None → Best r n → ((j : ℕ) (e : Referral) → j < length qs → Matches j e → length e.prefix ≤ n)
           → (j : ℕ) (e : Referral) → Matches j e → length e.prefix ≡ 0
       go r n e none c j x u = let v : length x.prefix ≤ 0 = c j x (used_inside qs j x u.here) u in omega arith
       go r n e (best_at b a m) c j x u = absurd (let z : ◌≡◌ {A = ℕ} 0 1 = cc in omega arith)
@@ -146,7 +145,7 @@ module _ {E : Type 0} (k : Kind E) (name : List ℕ) where
     pub same : same_name (k.key entry) name ≡ true
 
   -- it lies where it is found, counted from n
-  key_found_from : (ps : List (Place E)) (n i : ℕ) → with_key_from k name n ps ≡ At i → (n ≤ i) × KeyAt ps (i - n)
+  key_found_from : (ps : List (Place E)) (n i : ℕ) → with_key_from k name n ps ≡ Some i → (n ≤ i) × KeyAt ps (i - n)
   unfolding with_key_from has_key choose
   key_found_from [] n i h = absurd (let z : ◌≡◌ {A = ℕ} 0 1 = cc in omega arith)
   key_found_from (free ∷ ps) n i h =
@@ -157,18 +156,18 @@ module _ {E : Type 0} (k : Kind E) (name : List ℕ) where
   key_found_from (used a ∷ ps) n i h = go (told (same_name (k.key a) name)) (key_found_from ps (n + 1) i)
     where
       go : (same_name (k.key a) name ≡ true) ⊎ (same_name (k.key a) name ≡ false)
-          → (with_key_from k name (n + 1) ps ≡ At i → (n + 1 ≤ i) × KeyAt ps (i - (n + 1))) → (n ≤ i) × KeyAt (used a ∷ ps) (i - n)
+          → (with_key_from k name (n + 1) ps ≡ Some i → (n + 1 ≤ i) × KeyAt ps (i - (n + 1))) → (n ≤ i) × KeyAt (used a ∷ ps) (i - n)
       go (inl t) f =
-          let q : n ≡ i = cc (choose_yes (At n) (with_key_from k name (n + 1) ps) t) in
+          let q : n ≡ i = cc (choose_yes (Some n) (with_key_from k name (n + 1) ps) t) in
           let z : i - n ≡ 0 = omega arith in
           (omega arith, record { entry = a; here = rw z refl; same = t })
       go (inr t) f =
-          let r = f (sym (choose_no (At n) (with_key_from k name (n + 1) ps) t) ∙ h) in
+          let r = f (sym (choose_no (Some n) (with_key_from k name (n + 1) ps) t) ∙ h) in
           let u : n + 1 ≤ i = r.0 in
           let e : i - n ≡ suc (i - (n + 1)) = omega arith in
           (omega arith, record { entry = r.1.entry; here = rw e r.1.here; same = r.1.same })
 
-  pub key_found : (ps : List (Place E)) (i : ℕ) → with_key k name ps ≡ At i → KeyAt ps i
+  pub key_found : (ps : List (Place E)) (i : ℕ) → with_key k name ps ≡ Some i → KeyAt ps i
   unfolding with_key
   key_found ps i h = subst (KeyAt ps) (let z : i - 0 ≡ i = omega arith in z) (key_found_from ps 0 i h).1
 
@@ -178,7 +177,7 @@ pub record FreeAt (ps : List (Place Referral)) (i : ℕ) : Type 0 where
   pub here : get_or ps i free ≡ free
   pub lowest : (j : ℕ) → j < i → get_or ps j free ≡ free → ⊥
 
-free_from : (ps : List (Place Referral)) (n i : ℕ) → first_free_from n ps ≡ At i → (n ≤ i) × FreeAt ps (i - n)
+free_from : (ps : List (Place Referral)) (n i : ℕ) → first_free_from n ps ≡ Some i → (n ≤ i) × FreeAt ps (i - n)
 unfolding first_free_from
 free_from [] n i h = absurd (let z : ◌≡◌ {A = ℕ} 0 1 = cc in omega arith)
 free_from (free ∷ ps) n i h =
@@ -196,7 +195,7 @@ free_from (used a ∷ ps) n i h =
     below zero w f e = let z : ◌≡◌ {A = ℕ} 0 1 = cc in omega arith
     below (suc j) w f e = f j (omega arith) e
 
-all_used : (ps : List (Place Referral)) (n : ℕ) → first_free_from n ps ≡ Nothing → (j : ℕ) → j < length ps → get_or ps j free ≡ free → ⊥
+all_used : (ps : List (Place Referral)) (n : ℕ) → first_free_from n ps ≡ None → (j : ℕ) → j < length ps → get_or ps j free ≡ free → ⊥
 unfolding first_free_from
 all_used [] n h j u e = omega arith
 all_used (free ∷ ps) n h j u e = let z : ◌≡◌ {A = ℕ} 0 1 = cc in omega arith
@@ -304,9 +303,9 @@ module _ (clock : ℕ) (qs : List (Place Referral)) where
   unfolding new_place found_or
   new_place_lem h = go (first_free_from 0 qs) refl
     where
-      go : (f : Found) → first_free_from 0 qs ≡ f → NewAt (found_or (oldest clock qs) f)
-      go (At i) e = on_free (subst (FreeAt qs) (let z : i - 0 ≡ i = omega arith in z) (free_from qs 0 i e).1)
-      go Nothing e = on_oldest (all_used qs 0 e) (oldest_is h)
+      go : (f : Option ℕ) → first_free_from 0 qs ≡ f → NewAt (found_or (oldest clock qs) f)
+      go (Some i) e = on_free (subst (FreeAt qs) (let z : i - 0 ≡ i = omega arith in z) (free_from qs 0 i e).1)
+      go None e = on_oldest (all_used qs 0 e) (oldest_is h)
 
   pub new_inside : 0 < length qs → new_place clock qs < length qs
   new_inside h = go (new_place_lem h)

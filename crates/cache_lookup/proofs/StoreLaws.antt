@@ -1,4 +1,5 @@
 -- Laws for what writes an entry: the place changes alone, and order stays where the key stays or is new.
+use Rattle.std.specs.Prelude.{Some, None}
 use Rattle.std.proofs.Common.{◌≡◌, ℕ, zero, suc, ◌+◌, ◌*◌, ◌<◌, Bool, true, false, not, ◌&&◌, eqb, ◌⊎◌, List, [], ◌∷◌, length, get_or, set, sym, refl, ap, ◌∙◌, inl, inr, arith, eqb-true}
 use borrow.Author.Tests.{not-true}
 use Rattle.laws.specs.Lists.{every, pasted}
@@ -10,7 +11,6 @@ use Rattle.unc.specs.names.Names.{same_name}
 use Rattle.unc.proofs.names.NameLaws.{same_name_sym}
 use Rattle.cache.specs.places.Layout.{place_count, place_at, unit_at, blank, list_count}
 use Rattle.cache.specs.places.Code.{changed}
-use Rattle.cache_lookup.specs.declared.Found.TheVariants.{At, Nothing}
 use Rattle.cache.proofs.places.LayoutLaws.{changed_start}
 use Rattle.cache.specs.order.Entries.{Place, free, used}
 use Rattle.cache.specs.order.Order.{distinct}
@@ -39,17 +39,17 @@ module _ {E : Type 0} (k : Kind E) where
     every_keys (used a ∷ ps) (suc i) h = and_both (and_left (f (k.key a)) _ h) (every_keys ps i (and_right (f (k.key a)) _ h))
 
   -- no place has the key
-  none_has : (name : List ℕ) (i : ℕ) (ps : List (Place E)) → with_key_from k name i ps ≡ Nothing → every (λ m. not (same_name m name)) (keys k ps) ≡ true
+  none_has : (name : List ℕ) (i : ℕ) (ps : List (Place E)) → with_key_from k name i ps ≡ None → every (λ m. not (same_name m name)) (keys k ps) ≡ true
   unfolding with_key_from keys every has_key
   none_has name i [] h = refl
-  none_has name i (free ∷ ps) h = none_has name (i + 1) ps (sym (choose_no (At i) (with_key_from k name (i + 1) ps) refl) ∙ h)
+  none_has name i (free ∷ ps) h = none_has name (i + 1) ps (sym (choose_no (Some i) (with_key_from k name (i + 1) ps) refl) ∙ h)
   none_has name i (used a ∷ ps) h = go (told (same_name (k.key a) name)) (none_has name (i + 1) ps)
     where
       go : (same_name (k.key a) name ≡ true) ⊎ (same_name (k.key a) name ≡ false)
-          → (with_key_from k name (i + 1) ps ≡ Nothing → every (λ m. not (same_name m name)) (keys k ps) ≡ true)
+          → (with_key_from k name (i + 1) ps ≡ None → every (λ m. not (same_name m name)) (keys k ps) ≡ true)
           → (not (same_name (k.key a) name) && every (λ m. not (same_name m name)) (keys k ps)) ≡ true
-      go (inl t) r = absurd (let z : ◌≡◌ {A = ℕ} 0 1 = cc (choose_yes (At i) (with_key_from k name (i + 1) ps) t) in omega arith)
-      go (inr t) r = and_both (ap not t) (r (sym (choose_no (At i) (with_key_from k name (i + 1) ps) t) ∙ h))
+      go (inl t) r = absurd (let z : ◌≡◌ {A = ℕ} 0 1 = cc (choose_yes (Some i) (with_key_from k name (i + 1) ps) t) in omega arith)
+      go (inr t) r = and_both (ap not t) (r (sym (choose_no (Some i) (with_key_from k name (i + 1) ps) t) ∙ h))
 
   -- the keys stay distinct
   unlike : (name : List ℕ) (m : List ℕ) → not (same_name m name) ≡ true → not (same_name name m) ≡ true
@@ -123,7 +123,7 @@ module _ {E : Type 0} (k : Kind E) (law : Lawful k) (raw : List ℕ) (i : ℕ) (
         (ap distinct (keys_kept k (decode k raw) i e e' here q) ∙ held.apart)
 
   -- a new entry, whose key no place has
-  pub new_in_order : (e : E) → k.good e ≡ true → with_key k (k.key e) (decode k raw) ≡ Nothing → in_order k (encode k (set (decode k raw) i (used e))) ≡ true
+  pub new_in_order : (e : E) → k.good e ≡ true → with_key k (k.key e) (decode k raw) ≡ None → in_order k (encode k (set (decode k raw) i (used e))) ≡ true
   unfolding good_place with_key
   new_in_order e g h =
       ap (in_order k) (sym (changed_encode k law raw i (used e) order g fits))

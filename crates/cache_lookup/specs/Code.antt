@@ -1,13 +1,11 @@
 -- Shapes of the code, proved equal to the rules; nothing here is to be believed.
-use Rattle.std.specs.Prelude.{◌≡◌, ℕ, ◌+◌, ◌/◌, ◌%◌, Bool, false, not, ◌&&◌, List, [], ◌∷◌, drop, ◌==◌, slice_index, slice_index_or}
+use Rattle.std.specs.Prelude.{◌≡◌, ℕ, ◌+◌, ◌/◌, ◌%◌, Bool, false, not, ◌&&◌, List, [], ◌∷◌, drop, ◌==◌, slice_index, slice_index_or, Option, Some, None}
 use Rattle.laws.specs.Choice.{choose}
 use Rattle.laws.specs.Listed.{listed}
 use Rattle.unc.specs.names.Names.{same_name}
 use Rattle.cache.specs.places.Layout.{place_at, place_count, unit_at, text_at}
 use Rattle.cache.specs.order.Entries.{Referral, Place}
 use Rattle.cache.specs.order.Memory.{Kind, referrals, decode}
-use Rattle.cache_lookup.specs.declared.Found.{Found}
-use Rattle.cache_lookup.specs.declared.Found.TheVariants.{At, Nothing}
 use Rattle.cache_lookup.specs.Lookup.{longest_from, has_key, on_entry}
 
 module _ {E : Type 0} (k : Kind E) where
@@ -30,11 +28,11 @@ target_opens j e = (slice_index_or e.targets j (record { path = []; opens = fals
 unfoldable pub key_is : List ℕ → List ℕ → Bool
 key_is name piece = not (unit_at 0 piece == 0) && same_name (text_at 0 piece) name
 
-unfoldable pub key_place_from : List ℕ → ℕ → List (List ℕ) → Found
-key_place_from name i [] = Nothing
-key_place_from name i (p ∷ ps) = choose (key_is name p) (At i) (key_place_from name (i + 1) ps)
+unfoldable pub key_place_from : List ℕ → ℕ → List (List ℕ) → Option ℕ
+key_place_from name i [] = None
+key_place_from name i (p ∷ ps) = choose (key_is name p) (Some i) (key_place_from name (i + 1) ps)
 
-unfoldable pub key_place : List ℕ → List ℕ → Found
+unfoldable pub key_place : List ℕ → List ℕ → Option ℕ
 key_place name raw = key_place_from name 0 (listed (place_count raw) (λ i. place_at i raw))
 
 -- Words of the search for the longest match: what the last units of a prefix tell, and which places are passed over by them.
@@ -47,9 +45,9 @@ pub record LowBits (s : List ℕ) (k four : ℕ) : Type 0 where
   pub fourth : four / 281474976710656 % 32 ≡ slice_index s (k + 3) % 32
 
 -- the best place so far, whose prefix has n units: none while it has no unit
-unfoldable pub best_found : ℕ → ℕ → Found
-best_found i n = choose (n == 0) Nothing (At i)
+unfoldable pub best_found : ℕ → ℕ → Option ℕ
+best_found i n = choose (n == 0) None (Some i)
 
 -- whatever was found before, a search from place i on finds what one from place j on does
 pub record Passed (raw path : List ℕ) (i j : ℕ) : Type 0 where
-  pub same : (best : Found) (n : ℕ) → longest_from path i best n (drop i (decode referrals raw)) ≡ longest_from path j best n (drop j (decode referrals raw))
+  pub same : (best : Option ℕ) (n : ℕ) → longest_from path i best n (drop i (decode referrals raw)) ≡ longest_from path j best n (drop j (decode referrals raw))

@@ -1,12 +1,10 @@
 -- Finding an entry, its age, the place of a new one, and hints: document 01, "Paths" and "The two caches".
-use Rattle.std.specs.Prelude.{ℕ, ◌+◌, ◌-◌, ◌%◌, ◌^◌, Bool, false, ◌&&◌, List, [], ◌∷◌, length, get_or, nat_le, nat_lt, slice_index_or, slice_set}
+use Rattle.std.specs.Prelude.{ℕ, ◌+◌, ◌-◌, ◌%◌, ◌^◌, Bool, false, ◌&&◌, List, [], ◌∷◌, length, get_or, nat_le, nat_lt, slice_index_or, slice_set, Option, Some, None}
 use Rattle.laws.specs.Choice.{choose}
 use Rattle.unc.specs.names.Names.{same_name}
 use Rattle.unc.specs.names.Paths.{matches}
 use Rattle.cache.specs.order.Entries.{Referral, Domain, Place, free, used}
 use Rattle.cache.specs.order.Memory.{Kind}
-use Rattle.cache_lookup.specs.declared.Found.{Found}
-use Rattle.cache_lookup.specs.declared.Found.TheVariants.{At, Nothing}
 
 -- a place whose prefix matches the path and has more than n units
 unfoldable pub longer_match : List ℕ → ℕ → Place Referral → Bool
@@ -19,14 +17,14 @@ prefix_units free = 0
 prefix_units (used e) = length e.prefix
 
 -- of the places from number i on, that of the longest matching prefix, where `best` of n units was found before
-unfoldable pub longest_from : List ℕ → ℕ → Found → ℕ → List (Place Referral) → Found
+unfoldable pub longest_from : List ℕ → ℕ → Option ℕ → ℕ → List (Place Referral) → Option ℕ
 longest_from path i best n [] = best
 longest_from path i best n (p ∷ ps) =
-    longest_from path (i + 1) (choose (longer_match path n p) (At i) best) (choose (longer_match path n p) (prefix_units p) n) ps
+    longest_from path (i + 1) (choose (longer_match path n p) (Some i) best) (choose (longer_match path n p) (prefix_units p) n) ps
 
 -- "the longest match is used"
-unfoldable pub longest_match : List ℕ → List (Place Referral) → Found
-longest_match path ps = longest_from path 0 Nothing 0 ps
+unfoldable pub longest_match : List ℕ → List (Place Referral) → Option ℕ
+longest_match path ps = longest_from path 0 None 0 ps
 
 -- looking up by an equal prefix (or name), not by the longest match
 module _ {E : Type 0} (k : Kind E) where
@@ -36,12 +34,12 @@ module _ {E : Type 0} (k : Kind E) where
   has_key name (used e) = same_name (k.key e) name
 
   -- the first such place, counted from number i
-  unfoldable pub with_key_from : List ℕ → ℕ → List (Place E) → Found
-  with_key_from name i [] = Nothing
-  with_key_from name i (p ∷ ps) = choose (has_key name p) (At i) (with_key_from name (i + 1) ps)
+  unfoldable pub with_key_from : List ℕ → ℕ → List (Place E) → Option ℕ
+  with_key_from name i [] = None
+  with_key_from name i (p ∷ ps) = choose (has_key name p) (Some i) (with_key_from name (i + 1) ps)
 
   -- the first of all
-  unfoldable pub with_key : List ℕ → List (Place E) → Found
+  unfoldable pub with_key : List ℕ → List (Place E) → Option ℕ
   with_key name ps = with_key_from name 0 ps
 
 -- "An entry's age is now minus taken, modulo 2^32; it is expired when its age is TTL or more"
@@ -53,9 +51,9 @@ unfoldable pub expired : ℕ → Referral → Bool
 expired clock e = nat_le e.settings.ttl (age clock e.settings.taken)
 
 -- the lowest free place, counted from number i
-unfoldable pub first_free_from : ℕ → List (Place Referral) → Found
-first_free_from i [] = Nothing
-first_free_from i (free ∷ ps) = At i
+unfoldable pub first_free_from : ℕ → List (Place Referral) → Option ℕ
+first_free_from i [] = None
+first_free_from i (free ∷ ps) = Some i
 first_free_from i (used e ∷ ps) = first_free_from (i + 1) ps
 
 -- the age of what a place holds
@@ -74,9 +72,9 @@ unfoldable pub oldest : ℕ → List (Place Referral) → ℕ
 oldest clock ps = oldest_from clock 0 0 0 ps
 
 -- what was found, or else another place
-unfoldable pub found_or : ℕ → Found → ℕ
-found_or other (At i) = i
-found_or other Nothing = other
+unfoldable pub found_or : ℕ → Option ℕ → ℕ
+found_or other (Some i) = i
+found_or other None = other
 
 -- "A new referral entry goes to the lowest free place; if none, to that of the entry of greatest age"
 unfoldable pub new_place : ℕ → List (Place Referral) → ℕ

@@ -18,13 +18,6 @@ const END: usize = 4;
 // Places that are looked at in one turn of the search. It is a constant so that the compiler writes a turn out.
 const TURN: usize = 4;
 
-// The place of an entry, if there is one.
-#[derive(Drop)]
-pub enum Found {
-    At(usize),
-    Nothing,
-}
-
 // Four units from k on as one number, so that they are compared at once.
 fn four_units(s: &[u16], k: usize) -> u64
     requires { k + 3 < length s.now }
@@ -111,17 +104,17 @@ fn longer_match(cache: &[u16], i: usize, path: &[u16], units: usize) -> bool
 }
 
 // The place of the best, whose prefix has so many units: none while it has no unit.
-fn best_found(best: usize, units: usize) -> Found
+fn best_found(best: usize, units: usize) -> Option<usize>
     ensures { result ≡ best_found best units }
 {
     if units == 0 {
-        return Found::Nothing;
+        return None;
     }
-    Found::At(best)
+    Some(best)
 }
 
 // The place of the entry whose prefix is the longest that matches the path.
-pub fn find(cache: &[u16], path: &[u16]) -> Found
+pub fn find(cache: &[u16], path: &[u16]) -> Option<usize>
     ensures { result ≡ longest_match path.now (decode referrals cache.now) }
 {
     let count = cache.len() / PLACE;
@@ -138,7 +131,7 @@ pub fn find(cache: &[u16], path: &[u16]) -> Found
             units = cache::places::text(cache, i, 0).len();
             // none is longer than the path
             if units == path.len() {
-                return Found::At(best);
+                return Some(best);
             }
         }
         i += 1;
@@ -157,29 +150,29 @@ fn key_is(cache: &[u16], i: usize, name: &[u16]) -> bool
     unc::names::same_name(cache::places::text(cache, i, 0), name)
 }
 
-fn key_place(cache: &[u16], name: &[u16]) -> Found
+fn key_place(cache: &[u16], name: &[u16]) -> Option<usize>
     ensures { result ≡ key_place name.now cache.now }
 {
     let count = cache.len() / PLACE;
     let mut i = 0;
     while i < count {
         if key_is(cache, i, name) {
-            return Found::At(i);
+            return Some(i);
         }
         i += 1;
     }
-    Found::Nothing
+    None
 }
 
 // The place of the referral entry with an equal prefix.
-pub fn find_prefix(cache: &[u16], prefix: &[u16]) -> Found
+pub fn find_prefix(cache: &[u16], prefix: &[u16]) -> Option<usize>
     ensures { result ≡ with_key referrals prefix.now (decode referrals cache.now) }
 {
     key_place(cache, prefix)
 }
 
 // The place of the domain entry with an equal name.
-pub fn find_domain(cache: &[u16], name: &[u16]) -> Found
+pub fn find_domain(cache: &[u16], name: &[u16]) -> Option<usize>
     ensures { result ≡ with_key domains name.now (decode domains cache.now) }
 {
     key_place(cache, name)
@@ -224,18 +217,18 @@ fn place_age(cache: &[u16], i: usize, clock: u32) -> u32
     age(clock, taken(cache, i))
 }
 
-fn first_free(cache: &[u16]) -> Found
+fn first_free(cache: &[u16]) -> Option<usize>
     ensures { result ≡ first_free_from 0 (decode referrals cache.now) }
 {
     let count = cache.len() / PLACE;
     let mut i = 0;
     while i < count {
         if cache::places::unit(cache, i, 0) == 0 {
-            return Found::At(i);
+            return Some(i);
         }
         i += 1;
     }
-    Found::Nothing
+    None
 }
 
 // The lowest place of greatest age.
@@ -261,7 +254,7 @@ fn oldest_place(cache: &[u16], clock: u32) -> usize
 pub fn new_place(cache: &[u16], clock: u32) -> usize
     ensures { result ≡ new_place clock (decode referrals cache.now) }
 {
-    let Found::At(i) = first_free(cache) else {
+    let Some(i) = first_free(cache) else {
         return oldest_place(cache, clock);
     };
     i

@@ -18,7 +18,7 @@ ghost use Rattle.cache_store.specs.domain_cache.Code.{is_new, Fit, Added, WellFo
 use cache::places::PLACE;
 use reply_bytes::texts::Span;
 use reply_read::name_lists::DcsFound;
-use reply_read::referral::{Answer, Asked, TextRead};
+use reply_read::referral::Answer;
 use reply_read::request::{LEAST_SIZE, MOST_SIZE};
 
 // One name more than a cache has places.
@@ -115,7 +115,7 @@ fn gather(reply: &[u8]) -> Names
             return names;
         }
         // the reply is well formed: none of its entries is without a name
-        let TextRead::Good(s) = reply_read::name_lists::domain_at(reply, e) else {
+        let Some(s) = reply_read::name_lists::domain_at(reply, e) else {
             return names;
         };
         names = add_once(reply, names, s);
@@ -177,7 +177,7 @@ pub fn read_domains(reply: &[u8], size: u32, cache: &mut [u16]) -> DomainsRead
 }
 
 // The request for domains, whose name is empty, into a lent buffer.
-pub fn domain_request(out: &mut [u8]) -> Asked
+pub fn domain_request(out: &mut [u8]) -> Option<usize>
     ensures number { asked_number result ≡ request_number (length out.old) }
     ensures answer { result ≡ asked (length out.old) [] }
     ensures buffer { out.new ≡ buffer_with [] out.old }

@@ -12,7 +12,6 @@ ghost use Rattle.cache_store.specs.entry_after_reply.Stored.{first_equal, hinted
 ghost use Rattle.cache_entry.specs.write_entry.Code.{kept_fits, settings};
 
 use cache::places::PLACE;
-use cache_lookup::Found;
 use reply_bytes::texts::Span;
 use reply_read::referral::{Kept, ReferralFound};
 
@@ -28,7 +27,7 @@ fn prefix_is(cache: &[u16], i: usize, reply: &[u8], s: Span) -> bool
 }
 
 // The place of the entry whose prefix is equal to one in the reply.
-pub fn find_prefix(cache: &[u16], reply: &[u8], s: Span) -> Found
+pub fn find_prefix(cache: &[u16], reply: &[u8], s: Span) -> Option<usize>
     requires { Inside reply.now s }
     ensures { result ≡ with_key referrals (spanned reply.now s) (decode referrals cache.now) }
 {
@@ -36,11 +35,11 @@ pub fn find_prefix(cache: &[u16], reply: &[u8], s: Span) -> Found
     let mut i = 0;
     while i < count {
         if prefix_is(cache, i, reply, s) {
-            return Found::At(i);
+            return Some(i);
         }
         i += 1;
     }
-    Found::Nothing
+    None
 }
 
 // The first target of the entry at place i that is equal to the one hinted at.

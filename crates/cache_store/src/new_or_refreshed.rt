@@ -7,7 +7,6 @@ ghost use Rattle.cache_store.specs.entry_after_reply.Stored.{stored, store_place
 ghost use Rattle.reply_read.specs.referral.Code.{referral_shown};
 ghost use Rattle.cache_store.specs.entry_after_reply.Code.{Storable, HeldEntry, equivalent_at, refreshed_at, inserted_at};
 
-use cache_lookup::Found;
 use reply_bytes::texts::Span;
 use reply_read::referral::ReferralFound;
 
@@ -96,7 +95,7 @@ pub fn store_place(cache: &[u16], reply: &[u8], prefix: Span, clock: u32) -> usi
     requires { Inside reply.now prefix }
     ensures { result ≡ store_place clock (spanned reply.now prefix) (decode referrals cache.now) }
 {
-    let Found::At(i) = crate::entry_after_reply::find_prefix(cache, reply, prefix) else {
+    let Some(i) = crate::entry_after_reply::find_prefix(cache, reply, prefix) else {
         return cache_lookup::new_place(cache, clock);
     };
     i
@@ -108,7 +107,7 @@ pub fn store(cache: &mut [u16], reply: &[u8], found: ReferralFound, interlink: b
     ensures { cache.new ≡ encode referrals (stored (referral_shown reply.now found) interlink clock (decode referrals cache.old)) }
 {
     let prefix = found.prefix;
-    let Found::At(i) = crate::entry_after_reply::find_prefix(cache, reply, prefix) else {
+    let Some(i) = crate::entry_after_reply::find_prefix(cache, reply, prefix) else {
         let place = cache_lookup::new_place(cache, clock);
         insert(cache, place, reply, found, interlink, clock);
         return;

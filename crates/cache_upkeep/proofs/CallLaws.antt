@@ -1,4 +1,5 @@
 -- Laws of the calls, test by test.
+use Rattle.std.specs.Prelude.{Option, Some, None}
 use mathlib.Core.Path.{◌≡◌, refl, sym, ap, ◌∙◌}
 use mathlib.Core.Bool.{Bool, true, false}
 use mathlib.Core.List.{List}
@@ -25,8 +26,6 @@ use Rattle.cache.proofs.order.MemoryLaws.{length_decode, encode_decode}
 use Rattle.cache.proofs.order.KindLaws.{referrals_lawful}
 use Rattle.cache_lookup.specs.Lookup.{with_key, on_entry, dc_hint_to, dc_hinted}
 use Rattle.cache_lookup.specs.Code.{entry_at}
-use Rattle.cache_lookup.specs.declared.Found.{Found}
-use Rattle.cache_lookup.specs.declared.Found.TheVariants.{At, Nothing}
 use Rattle.cache_lookup.proofs.LookupLaws.{KeyAt, key_found, used_inside}
 use Rattle.cache_lookup.proofs.StoreLaws.{entry_is}
 use Rattle.cache.proofs.order.KindLaws.{domains_lawful}
@@ -37,7 +36,7 @@ use Rattle.cache_upkeep.specs.declared.Upkeep.TheVariants.{Done, BadPath, LongPa
 use Rattle.cache_upkeep.proofs.EntryLaws.{expire_tends, changed_order, changed_back, expired_more, expired_length, expired_all, after_below}
 
 -- what was found lies in the memory
-pub found_fits : {E : Type 0} (k : Kind E) (raw name : List ℕ) (i : ℕ) {r : Found} → r ≡ with_key k name (decode k raw) → r ≡ At i → i < place_count raw
+pub found_fits : {E : Type 0} (k : Kind E) (raw name : List ℕ) (i : ℕ) {r : Option ℕ} → r ≡ with_key k name (decode k raw) → r ≡ Some i → i < place_count raw
 found_fits k raw name i e h =
     let a : KeyAt k name (decode k raw) i = key_found k name (decode k raw) i (sym e ∙ h) in
     let u : i < length (decode k raw) = used_inside (decode k raw) i a.entry a.here in
@@ -78,15 +77,15 @@ module _ (raw : List ℕ) where
         ∙ sym (choose_yes _ _ (sym e ∙ h))
 
 -- the entry of an equal prefix
-module _ (raw prefix : List ℕ) {r : Found} (e : r ≡ with_key referrals prefix (decode referrals raw)) where
-  pub prefix_none : r ≡ Nothing → upkept NoEntry raw ≡ found_expired (with_key referrals prefix (decode referrals raw)) raw
+module _ (raw prefix : List ℕ) {r : Option ℕ} (e : r ≡ with_key referrals prefix (decode referrals raw)) where
+  pub prefix_none : r ≡ None → upkept NoEntry raw ≡ found_expired (with_key referrals prefix (decode referrals raw)) raw
   unfolding found_expired
-  prefix_none h = ap (λ (x : Found). found_expired x raw) (sym h ∙ e)
+  prefix_none h = ap (λ (x : Option ℕ). found_expired x raw) (sym h ∙ e)
 
-  pub prefix_found : (i : ℕ) → r ≡ At i → {m : List ℕ} → m ≡ encode referrals (entry_changed expire_entry i (decode referrals raw))
+  pub prefix_found : (i : ℕ) → r ≡ Some i → {m : List ℕ} → m ≡ encode referrals (entry_changed expire_entry i (decode referrals raw))
       → upkept Done m ≡ found_expired (with_key referrals prefix (decode referrals raw)) raw
   unfolding found_expired
-  prefix_found i h d = ap (upkept Done) d ∙ ap (λ (x : Found). found_expired x raw) (sym h ∙ e)
+  prefix_found i h d = ap (upkept Done) d ∙ ap (λ (x : Option ℕ). found_expired x raw) (sym h ∙ e)
 
 -- the form of the path
 module _ (path : List ℕ) where
@@ -185,16 +184,16 @@ module _ (raw name : List ℕ) {b : Bool} (e : b ≡ in_order domains raw) where
   unfolding next_dc_call
   dc_refused h = sym (choose_no _ _ (sym e ∙ h))
 
-  module _ (h : b ≡ true) {r : Found} (g : r ≡ with_key domains name (decode domains raw)) where
+  module _ (h : b ≡ true) {r : Option ℕ} (g : r ≡ with_key domains name (decode domains raw)) where
     as_found : found_moved r raw ≡ next_dc_call raw name
     unfolding next_dc_call
-    as_found = ap (λ (x : Found). found_moved x raw) g ∙ sym (choose_yes _ _ (sym e ∙ h))
+    as_found = ap (λ (x : Option ℕ). found_moved x raw) g ∙ sym (choose_yes _ _ (sym e ∙ h))
 
-    pub dc_none : r ≡ Nothing → upkept NoEntry raw ≡ next_dc_call raw name
+    pub dc_none : r ≡ None → upkept NoEntry raw ≡ next_dc_call raw name
     unfolding found_moved
-    dc_none k = ap (λ (x : Found). found_moved x raw) (sym k) ∙ as_found
+    dc_none k = ap (λ (x : Option ℕ). found_moved x raw) (sym k) ∙ as_found
 
-    module _ (i : ℕ) (k : r ≡ At i) where
+    module _ (i : ℕ) (k : r ≡ Some i) where
       pub dc_fits : i < place_count raw
       dc_fits = found_fits domains raw name i g k
 
@@ -209,7 +208,7 @@ module _ (raw name : List ℕ) {b : Bool} (e : b ≡ in_order domains raw) where
         dc_bare z =
             let none : has_dc (get_or (decode domains raw) i free) ≡ false =
             ap has_dc here ∙ le-ltb 0 (length (entry_at domains i raw).dcs) (omega arith) in
-            sym (choose_no _ _ none) ∙ (ap (λ (x : Found). found_moved x raw) (sym k) ∙ as_found)
+            sym (choose_no _ _ none) ∙ (ap (λ (x : Option ℕ). found_moved x raw) (sym k) ∙ as_found)
 
         module _ (some : n ≡ 0 → ⊥) {j v : ℕ} (ej : j ≡ (entry_at domains i raw).hint) (ev : v ≡ dc_after j n) where
           pub dc_below : v < length (entry_at domains i raw).dcs
@@ -224,7 +223,7 @@ module _ (raw name : List ℕ) {b : Bool} (e : b ≡ in_order domains raw) where
               let one : on_entry (dc_hint_to v) (get_or (decode domains raw) i free) ≡ on_entry next_dc (get_or (decode domains raw) i free) =
               ap (on_entry (dc_hint_to v)) here ∙ ((λ x. used (dc_hint_to (moves x) (entry_at domains i raw))) ∙ ap (on_entry next_dc) (sym here)) in
               ap (upkept Done) (d ∙ ap (λ (p : Place Domain). encode domains (set (decode domains raw) i p)) one)
-              ∙ (sym (choose_yes _ _ has) ∙ (ap (λ (x : Found). found_moved x raw) (sym k) ∙ as_found))
+              ∙ (sym (choose_yes _ _ has) ∙ (ap (λ (x : Option ℕ). found_moved x raw) (sym k) ∙ as_found))
 
 -- the number that is told of a call, and the cache that it leaves
 pub call_told_lem : {a : Upkeep} {m : List ℕ} {u : Upkept} {n : ℕ} → upkept a m ≡ u → n ≡ upkeep_number a → (n ≡ upkeep_number u.answer) × (m ≡ u.cache)

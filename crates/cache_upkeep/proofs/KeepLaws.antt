@@ -1,4 +1,5 @@
 -- What the calls keep (specs/Keeps.antt).
+use Rattle.std.specs.Prelude.{Option, Some, None}
 use mathlib.Core.Path.{◌≡◌, refl, sym, ap, ◌∙◌}
 use mathlib.Core.Bool.{true, false}
 use mathlib.Core.List.{List, [], ◌∷◌, map}
@@ -17,8 +18,6 @@ use Rattle.cache.specs.order.Memory.{Kind, referrals, domains, decode, encode, i
 use Rattle.cache.proofs.order.MemoryLaws.{Lawful}
 use Rattle.cache.proofs.order.KindLaws.{referrals_lawful, domains_lawful}
 use Rattle.cache_lookup.specs.Lookup.{with_key, on_entry, age, expired}
-use Rattle.cache_lookup.specs.declared.Found.{Found}
-use Rattle.cache_lookup.specs.declared.Found.TheVariants.{At, Nothing}
 use Rattle.cache_upkeep.specs.Calls.{expire_entry, next_dc, has_dc, entry_changed, upkept, Upkept, expire_all_call, found_expired, expire_call, found_moved, next_dc_call}
 use Rattle.cache_upkeep.specs.Keeps.{Keeps, KeepsOthers, UpkeepKeeps}
 use Rattle.cache_upkeep.specs.declared.Upkeep.{Upkeep}
@@ -54,7 +53,7 @@ others_as k key raw e = record { keeps = kept_as k raw e; others = λ j n. ap (�
 
 -- a call that changed the entry that was found
 others_changed : {E : Type 0} (k : Kind E) (law : Lawful k) (f : E → E) (t : Tends k f) (key raw : List ℕ) (order : in_order k raw ≡ true) (i : ℕ)
-    → with_key k key (decode k raw) ≡ At i → {u : Upkept} → u ≡ upkept Done (encode k (entry_changed f i (decode k raw))) → KeepsOthers k key raw u
+    → with_key k key (decode k raw) ≡ Some i → {u : Upkept} → u ≡ upkept Done (encode k (entry_changed f i (decode k raw))) → KeepsOthers k key raw u
 others_changed k law f t key raw order i found e = record {
   keeps = record {
     refused = λ n. absurd (n (ap (λ (x : Upkept). x.answer) e));
@@ -62,7 +61,7 @@ others_changed k law f t key raw order i found e = record {
   };
   others = λ j n.
       ap (λ (x : Upkept). get_or (decode k x.cache) j free) e
-      ∙ changed_other k f t law raw order i j (λ q. n (found ∙ ap At (sym q)));
+      ∙ changed_other k f t law raw order i j (λ q. n (found ∙ ap Some (sym q)));
 }
 
 -- `expire_all`
@@ -94,7 +93,7 @@ module _ (raw : List ℕ) where
 -- `expire`, by its tests
 data Way (raw path : List ℕ) : Type 0 where
   same : ((expire_call raw path).answer ≡ Done → ⊥) → (expire_call raw path).cache ≡ raw → Way raw path
-  at : (i : ℕ) → in_order referrals raw ≡ true → with_key referrals (normalised path) (decode referrals raw) ≡ At i
+  at : (i : ℕ) → in_order referrals raw ≡ true → with_key referrals (normalised path) (decode referrals raw) ≡ Some i
       → expire_call raw path ≡ upkept Done (encode referrals (entry_changed expire_entry i (decode referrals raw))) → Way raw path
 
 never : {a : Upkeep} {raw path : List ℕ} → expire_call raw path ≡ upkept a raw → (a ≡ Done → ⊥) → Way raw path
@@ -108,16 +107,16 @@ module _ (raw path : List ℕ) where
     where
       go : (in_order referrals raw ≡ true) ⊎ (in_order referrals raw ≡ false) → (good_path path ≡ true) ⊎ (good_path path ≡ false)
           → (leb (length (normalised path)) path_units ≡ true) ⊎ (leb (length (normalised path)) path_units ≡ false)
-          → (r : Found) → with_key referrals (normalised path) (decode referrals raw) ≡ r → Way raw path
+          → (r : Option ℕ) → with_key referrals (normalised path) (decode referrals raw) ≡ r → Way raw path
       go (inr t) u v r q = never (choose_no _ _ t) (λ z. let o : ◌≡◌ {A = ℕ} 0 1 = cc in omega arith)
       go (inl t) (inr u) v r q = never (choose_yes _ _ t ∙ choose_no _ _ u) (λ z. let o : ◌≡◌ {A = ℕ} 0 1 = cc in omega arith)
       go (inl t) (inl u) (inr v) r q = never (choose_yes _ _ t ∙ (choose_yes _ _ u ∙ choose_no _ _ v)) (λ z. let o : ◌≡◌ {A = ℕ} 0 1 = cc in omega arith)
-      go (inl t) (inl u) (inl v) Nothing q =
+      go (inl t) (inl u) (inl v) None q =
           unfold found_expired in
-          never (choose_yes _ _ t ∙ (choose_yes _ _ u ∙ (choose_yes _ _ v ∙ ap (λ (x : Found). found_expired x raw) q))) (λ z. let o : ◌≡◌ {A = ℕ} 0 1 = cc in omega arith)
-      go (inl t) (inl u) (inl v) (At i) q =
+          never (choose_yes _ _ t ∙ (choose_yes _ _ u ∙ (choose_yes _ _ v ∙ ap (λ (x : Option ℕ). found_expired x raw) q))) (λ z. let o : ◌≡◌ {A = ℕ} 0 1 = cc in omega arith)
+      go (inl t) (inl u) (inl v) (Some i) q =
           unfold found_expired in
-          at i t q (choose_yes _ _ t ∙ (choose_yes _ _ u ∙ (choose_yes _ _ v ∙ ap (λ (x : Found). found_expired x raw) q)))
+          at i t q (choose_yes _ _ t ∙ (choose_yes _ _ u ∙ (choose_yes _ _ v ∙ ap (λ (x : Option ℕ). found_expired x raw) q)))
 
   one_keeps : KeepsOthers referrals (normalised path) raw (expire_call raw path)
   one_keeps = go way_of
@@ -126,7 +125,7 @@ module _ (raw path : List ℕ) where
       go (same n e) = others_as referrals (normalised path) raw e
       go (at i t q e) = others_changed referrals referrals_lawful expire_entry expire_tends (normalised path) raw t i q e
 
-  one_expired_lem : (expire_call raw path).answer ≡ Done → (j clock : ℕ) (e : Referral) → with_key referrals (normalised path) (decode referrals raw) ≡ At j
+  one_expired_lem : (expire_call raw path).answer ≡ Done → (j clock : ℕ) (e : Referral) → with_key referrals (normalised path) (decode referrals raw) ≡ Some j
       → get_or (decode referrals (expire_call raw path).cache) j free ≡ used e → expired clock e ≡ true
   one_expired_lem d j clock e f h = go way_of
     where
@@ -147,16 +146,16 @@ module _ (raw name : List ℕ) where
   unfolding next_dc_call found_moved
   moved_keeps = go (told (in_order domains raw)) (with_key domains name (decode domains raw)) refl
     where
-      at : (i : ℕ) → in_order domains raw ≡ true → with_key domains name (decode domains raw) ≡ At i
+      at : (i : ℕ) → in_order domains raw ≡ true → with_key domains name (decode domains raw) ≡ Some i
           → next_dc_call raw name ≡ choose (has_dc (get_or (decode domains raw) i free)) (upkept Done (encode domains (entry_changed next_dc i (decode domains raw)))) (upkept NoEntry raw)
           → (has_dc (get_or (decode domains raw) i free) ≡ true) ⊎ (has_dc (get_or (decode domains raw) i free) ≡ false) → KeepsOthers domains name raw (next_dc_call raw name)
       at i t q e (inl s) = others_changed domains domains_lawful next_dc next_tends name raw t i q (e ∙ choose_yes _ _ s)
       at i t q e (inr s) = others_as domains name raw (ap (λ (x : Upkept). x.cache) (e ∙ choose_no _ _ s))
 
-      go : (in_order domains raw ≡ true) ⊎ (in_order domains raw ≡ false) → (r : Found) → with_key domains name (decode domains raw) ≡ r → KeepsOthers domains name raw (next_dc_call raw name)
+      go : (in_order domains raw ≡ true) ⊎ (in_order domains raw ≡ false) → (r : Option ℕ) → with_key domains name (decode domains raw) ≡ r → KeepsOthers domains name raw (next_dc_call raw name)
       go (inr t) r q = others_as domains name raw (ap (λ (x : Upkept). x.cache) (choose_no _ _ t))
-      go (inl t) Nothing q = others_as domains name raw (ap (λ (x : Upkept). x.cache) (choose_yes _ _ t ∙ ap (λ (x : Found). found_moved x raw) q))
-      go (inl t) (At i) q = at i t q (choose_yes _ _ t ∙ ap (λ (x : Found). found_moved x raw) q) (told (has_dc (get_or (decode domains raw) i free)))
+      go (inl t) None q = others_as domains name raw (ap (λ (x : Upkept). x.cache) (choose_yes _ _ t ∙ ap (λ (x : Option ℕ). found_moved x raw) q))
+      go (inl t) (Some i) q = at i t q (choose_yes _ _ t ∙ ap (λ (x : Option ℕ). found_moved x raw) q) (told (has_dc (get_or (decode domains raw) i free)))
 
 pub upkeep_keeps : UpkeepKeeps
 upkeep_keeps = record { all = all_keeps; all_expired = all_expired_lem; one = one_keeps; one_expired = one_expired_lem; moved = moved_keeps }

@@ -1,12 +1,10 @@
 -- Expiring referral entries, and moving a domain's DCHint: what each call answers and leaves of the cache.
-use Rattle.std.specs.Prelude.{ℕ, ◌+◌, Bool, false, List, map, length, get_or, set, leb, ltb}
+use Rattle.std.specs.Prelude.{ℕ, ◌+◌, Bool, false, List, map, length, get_or, set, leb, ltb, Option, Some, None}
 use Rattle.laws.specs.Choice.{choose}
 use Rattle.unc.specs.names.Paths.{good_path, normalised, path_units}
 use Rattle.cache.specs.order.Entries.{Referral, Domain, Place, free, used}
 use Rattle.cache.specs.order.Memory.{referrals, domains, decode, encode, in_order}
 use Rattle.cache_lookup.specs.Lookup.{with_key, on_entry, dc_hint_to}
-use Rattle.cache_lookup.specs.declared.Found.{Found}
-use Rattle.cache_lookup.specs.declared.Found.TheVariants.{At, Nothing}
 use Rattle.cache_upkeep.specs.declared.Upkeep.{Upkeep}
 use Rattle.cache_upkeep.specs.declared.Upkeep.TheVariants.{Done, BadPath, LongPath, NotInOrder, NoEntry}
 
@@ -66,9 +64,9 @@ expire_all_call raw =
     (upkept NotInOrder raw)
 
 -- the entry that was found, expired; 27 where there is none
-unfoldable pub found_expired : Found → List ℕ → Upkept
-found_expired Nothing raw = upkept NoEntry raw
-found_expired (At i) raw = upkept Done (encode referrals (entry_changed expire_entry i (decode referrals raw)))
+unfoldable pub found_expired : Option ℕ → List ℕ → Upkept
+found_expired None raw = upkept NoEntry raw
+found_expired (Some i) raw = upkept Done (encode referrals (entry_changed expire_entry i (decode referrals raw)))
 
 -- `expire`: refusals 4, then 1 and 2 as a start has them, then 27
 unfoldable pub expire_call : List ℕ → List ℕ → Upkept
@@ -82,9 +80,9 @@ expire_call raw path =
     (upkept NotInOrder raw)
 
 -- the domain that was found, with DCHint at its next DC; 27 where there is none, or it has no DC
-unfoldable pub found_moved : Found → List ℕ → Upkept
-found_moved Nothing raw = upkept NoEntry raw
-found_moved (At i) raw =
+unfoldable pub found_moved : Option ℕ → List ℕ → Upkept
+found_moved None raw = upkept NoEntry raw
+found_moved (Some i) raw =
     choose (has_dc (get_or (decode domains raw) i free))
     (upkept Done (encode domains (entry_changed next_dc i (decode domains raw))))
     (upkept NoEntry raw)

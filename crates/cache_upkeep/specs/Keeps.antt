@@ -1,10 +1,9 @@
 -- What the calls that tend a cache keep: a refused call is the identity, the cache stays in order, every entry that is not meant stays as it was.
-use Rattle.std.specs.Prelude.{ℕ, ◌≡◌, true, List, get_or}
+use Rattle.std.specs.Prelude.{ℕ, ◌≡◌, true, List, get_or, Some}
 use Rattle.unc.specs.names.Paths.{normalised}
 use Rattle.cache.specs.order.Entries.{Referral, free, used}
 use Rattle.cache.specs.order.Memory.{Kind, referrals, domains, decode, in_order}
 use Rattle.cache_lookup.specs.Lookup.{with_key, expired}
-use Rattle.cache_lookup.specs.declared.Found.TheVariants.{At}
 use Rattle.cache_upkeep.specs.Calls.{Upkept, expire_all_call, expire_call, next_dc_call}
 use Rattle.cache_upkeep.specs.declared.Upkeep.TheVariants.{Done}
 
@@ -16,7 +15,7 @@ pub record Keeps {E : Type 0} (k : Kind E) (raw : List ℕ) (u : Upkept) : Type 
 -- of a call that means the entry of an equal key: every other entry stays
 pub record KeepsOthers {E : Type 0} (k : Kind E) (key raw : List ℕ) (u : Upkept) : Type 0 where
   pub keeps : Keeps k raw u
-  pub others : (j : ℕ) → (with_key k key (decode k raw) ≡ At j → ⊥) → get_or (decode k u.cache) j free ≡ get_or (decode k raw) j free
+  pub others : (j : ℕ) → (with_key k key (decode k raw) ≡ Some j → ⊥) → get_or (decode k u.cache) j free ≡ get_or (decode k raw) j free
 
 -- the three calls: what is expired is so at every clock
 pub record UpkeepKeeps : Type 0 where
@@ -25,6 +24,6 @@ pub record UpkeepKeeps : Type 0 where
       → get_or (decode referrals (expire_all_call raw).cache) j free ≡ used e → expired clock e ≡ true
   pub one : (raw path : List ℕ) → KeepsOthers referrals (normalised path) raw (expire_call raw path)
   pub one_expired : (raw path : List ℕ) → (expire_call raw path).answer ≡ Done → (j clock : ℕ) (e : Referral)
-      → with_key referrals (normalised path) (decode referrals raw) ≡ At j → get_or (decode referrals (expire_call raw path).cache) j free ≡ used e
+      → with_key referrals (normalised path) (decode referrals raw) ≡ Some j → get_or (decode referrals (expire_call raw path).cache) j free ≡ used e
       → expired clock e ≡ true
   pub moved : (raw name : List ℕ) → KeepsOthers domains name raw (next_dc_call raw name)

@@ -9,7 +9,6 @@ ghost use Rattle.cache_lookup.specs.Lookup.{with_key};
 ghost use Rattle.cache_upkeep.specs.Calls.{expire_entry, dc_after, entry_changed, upkept, expire_all_call, found_expired, expire_call, next_dc_call};
 
 use cache::places::{PLACE, ROOM, TTL};
-use cache_lookup::Found;
 use unc::names::Form;
 
 // What such a call answers.
@@ -54,7 +53,7 @@ fn expire_prefix(refs: &mut [u16], prefix: &[u16]) -> Upkeep
     requires { in_order referrals refs.old ≡ true }
     ensures { upkept result refs.new ≡ found_expired (with_key referrals prefix.now (decode referrals refs.old)) refs.old }
 {
-    let Found::At(i) = cache_lookup::find_prefix(refs, prefix) else {
+    let Some(i) = cache_lookup::find_prefix(refs, prefix) else {
         return Upkeep::NoEntry;
     };
     expire_at(refs, i);
@@ -98,7 +97,7 @@ pub fn next_dc(doms: &mut [u16], name: &[u16]) -> Upkeep
     if !cache::order::domains_in_order(doms) {
         return Upkeep::NotInOrder;
     }
-    let Found::At(i) = cache_lookup::find_domain(doms, name) else {
+    let Some(i) = cache_lookup::find_domain(doms, name) else {
         return Upkeep::NoEntry;
     };
     let count = cache_lookup::dc_count(doms, i);

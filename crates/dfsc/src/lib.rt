@@ -13,8 +13,6 @@ ghost use Rattle.dfsc_memory.specs.Units.{party_seen, name_seen, question_seen, 
 ghost use Rattle.dfsc_memory.specs.Listing.{list_result};
 ghost use Rattle.dfsc_memory.specs.Version.{version};
 
-use reply_read::referral::Asked;
-
 // The version of the interface, as include/dfsc.h has it.
 const VERSION: u32 = 100;
 
@@ -162,7 +160,7 @@ pub extern "C" fn dfsc_domain_request(out: &mut [u8]) -> u32
     ensures number { result ≡ request_number (length out.old) }
     ensures buffer { out.new ≡ buffer_with [] out.old }
 {
-    let Asked::Bytes(_) = cache_store::domain_cache::domain_request(out) else {
+    let Some(_) = cache_store::domain_cache::domain_request(out) else {
         return 10;
     };
     0

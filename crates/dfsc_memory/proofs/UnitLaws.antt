@@ -1,9 +1,9 @@
 -- Laws of calls over a walk in units.
+use Rattle.std.specs.Prelude.{Option, Some, None}
 use mathlib.Core.Path.{◌≡◌, refl, sym, ap, ◌∙◌}
 use mathlib.Core.Bool.{Bool, true, false, ◌&&◌}
 use mathlib.Core.List.{List, ◌++◌, append-nil}
 use mathlib.Core.Logic.{◌⊎◌, inl, inr}
-use mathlib.Core.Option.{Option}
 use Prim.Native.Nat.{ℕ, ◌+◌, ◌-◌, ◌≤◌, ◌<◌, min}
 use native.Mathlib.Omega.{arith}
 use lib.ListN.{length, take, drop, length-append, length-take, length-drop, drop_of_length-le}
@@ -18,8 +18,6 @@ use Rattle.laws.proofs.Orders.{lt_or_le}
 use Rattle.laws.proofs.Tests.{eq_or_ne}
 use Rattle.unc.specs.names.Paths.{good_path, normalised, path_units}
 use Rattle.cache.specs.order.Memory.{referrals, domains, in_order}
-use Rattle.reply_read.specs.declared.referral.Asked.{Asked}
-use Rattle.reply_read.specs.declared.referral.Asked.TheVariants.{Bytes, TooShort}
 use Rattle.cache_store.specs.domain_cache.Code as dom
 use Rattle.walk_form.specs.held.Walks.{good_limit, good_settings, lent, in_form, path_in, tried_in, boot_in}
 use Rattle.walk_form.specs.declared.held.Walk.{Walk}
@@ -28,8 +26,6 @@ use Rattle.walk_steps.specs.steps.Steps.{Turn}
 use Rattle.walk_steps.specs.steps.Held.{caches_of}
 use Rattle.walk_form.specs.held.Walks.{core_in}
 use Rattle.walk_form.specs.packed.Packing.{packed_walk, unpacked}
-use Rattle.walk_form.specs.declared.packed.Unpacked.{Unpacked}
-use Rattle.walk_form.specs.declared.packed.Unpacked.TheVariants.{Held, NotOfForm}
 use Rattle.walk_form.proofs.packed.PackLaws.{length_packed}
 use Rattle.walk_calls.specs.call_end.Closing.{Left, refused, closes}
 use Rattle.walk_calls.specs.call_end.Code.{left}
@@ -72,12 +68,12 @@ module _ (units : List ℕ) {n : ℕ} (e : n ≡ min 32 (length units)) where
   head_rest = take_all (length units - n) (drop n units) (omega (arith, length-drop n units)) ∙ head_drop
 
   -- the walk in them
-  module _ {r : Unpacked} (u : r ≡ unpacked (take n units)) where
-    pub held_none : {w : Walk} → r ≡ NotOfForm → w ≡ no_walk → w ≡ walk_in units
+  module _ {r : Option Walk} (u : r ≡ unpacked (take n units)) where
+    pub held_none : {w : Walk} → r ≡ None → w ≡ no_walk → w ≡ walk_in units
     unfolding walk_in held_in
     held_none h k = k ∙ ap held_in (sym h ∙ (u ∙ ap unpacked head_take))
 
-    pub held_some : (w : Walk) → r ≡ Held w → w ≡ walk_in units
+    pub held_some : (w : Walk) → r ≡ Some w → w ≡ walk_in units
     unfolding walk_in held_in
     held_some w h = ap held_in (sym h ∙ (u ∙ ap unpacked head_take))
 
@@ -276,19 +272,19 @@ module _ (units out : List ℕ) {n : ℕ} (e : n ≡ min 32 (length units)) {w :
   end_seen_lem h = seen_as k (h ∙ (λ j. end_call (a j) (head_rest units e j) out))
 
 -- the domain request
-module _ {v : Asked} {m : ℕ} (e : dom.asked_number v ≡ m) where
-  pub asked_bytes : (n : ℕ) → v ≡ Bytes n → 0 ≡ m
+module _ {v : Option ℕ} {m : ℕ} (e : dom.asked_number v ≡ m) where
+  pub asked_bytes : (n : ℕ) → v ≡ Some n → 0 ≡ m
   unfolding dom.asked_number
   asked_bytes n h = ap dom.asked_number (sym h) ∙ e
 
-  pub asked_short : v ≡ TooShort → 10 ≡ m
+  pub asked_short : v ≡ None → 10 ≡ m
   unfolding dom.asked_number
   asked_short h = ap dom.asked_number (sym h) ∙ e
 
 -- units that are not of the form are a walk out of form
-pub no_form : (units : List ℕ) → unpacked (take 32 units) ≡ NotOfForm → in_form (walk_in units) (drop 32 units) ≡ false
+pub no_form : (units : List ℕ) → unpacked (take 32 units) ≡ None → in_form (walk_in units) (drop 32 units) ≡ false
 unfolding in_form walk_in held_in no_walk good_settings good_limit
 no_form units h =
-    ap (λ (u : Unpacked). in_form (held_in u) (drop 32 units)) h
+    ap (λ (u : Option Walk). in_form (held_in u) (drop 32 units)) h
     ∙ and_no_right (eqb (length (drop 32 units)) 768)
     (and_no_right (same_list (lent (path_in no_walk (drop 32 units)) (tried_in no_walk (drop 32 units)) (boot_in no_walk (drop 32 units))) (drop 32 units)) refl)

@@ -1,13 +1,11 @@
 -- The calls of hosts in other languages. A walk is lent as 800 units: its packed form in the first 32 (`walk_form::packed`), then its three texts. Units
 -- of another length or not of that form are a walk out of form.
-use Rattle.std.specs.Prelude.{ℕ, ◌*◌, false, List, ◌++◌, take, drop, eqb}
+use Rattle.std.specs.Prelude.{ℕ, ◌*◌, false, List, ◌++◌, take, drop, eqb, Option, Some, None}
 use Rattle.laws.specs.Choice.{choose}
 use Rattle.walk_steps.specs.declared.steps.End.TheVariants.{Gone}
 use Rattle.walk_steps.specs.declared.steps.Next.TheVariants.{Ends}
 use Rattle.walk_form.specs.declared.held.Walk.{Walk}
 use Rattle.walk_form.specs.packed.Packing.{packed_walk, unpacked}
-use Rattle.walk_form.specs.declared.packed.Unpacked.{Unpacked}
-use Rattle.walk_form.specs.declared.packed.Unpacked.TheVariants.{Held, NotOfForm}
 use Rattle.walk_calls.specs.call_end.Closing.{Left}
 use Rattle.walk_calls.specs.calls.Calls.{refusal_number, Answered, start_call, referral_call, io_call}
 use Rattle.walk_shown.specs.question.Shown.{Given, shown_number, party_call, name_call, path_call, question_call, end_call}
@@ -19,9 +17,9 @@ unfoldable pub no_walk : Walk
 no_walk = record { limit = 0; size = 0; boot = 0; moves = 0; path = 0; tried = 0; hit = false; next = Ends Gone 0 }
 
 -- the walk in its units, and its texts
-unfoldable pub held_in : Unpacked → Walk
-held_in (Held w) = w
-held_in NotOfForm = no_walk
+unfoldable pub held_in : Option Walk → Walk
+held_in (Some w) = w
+held_in None = no_walk
 
 unfoldable pub walk_in : List ℕ → Walk
 walk_in units = held_in (unpacked (take 32 units))

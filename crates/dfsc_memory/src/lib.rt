@@ -15,7 +15,7 @@ use listing_read::read_listing::Loaded;
 use listing_write::Answer;
 use walk_calls::call_end::{Outcome, Verdict};
 use walk_form::held::Walk;
-use walk_form::packed::{HEAD, Unpacked};
+use walk_form::packed::HEAD;
 use walk_shown::question::Shown;
 use walk_steps::steps::{End, Next};
 
@@ -50,7 +50,7 @@ pub fn held(units: &[u16]) -> Walk
     ensures { result ≡ walk_in units.now }
 {
     let n = head_units(units);
-    let Unpacked::Held(walk) = walk_form::packed::unpack(&units[..n]) else {
+    let Some(walk) = walk_form::packed::unpack(&units[..n]) else {
         return no_walk();
     };
     walk

@@ -5,7 +5,6 @@ ghost use Rattle.cache.specs.order.Order.{distinct};
 ghost use Rattle.listing_read.specs.check_listing.Code.{checked};
 ghost use Rattle.listing_read.specs.check_listing.Code.{is_number_line, is_kind_line, later_line, good_line, hint_step, step_of, counted, is_ended, prefix_lines, apart_from};
 
-use listing_spelling::unspell::Number;
 use listing_write::{
     FAILBACK, HINT, INTERLINK, KIND_LINK, KIND_ROOT, LINE_END, PREFIX, TAKEN, TARGET, TTL,
 };
@@ -37,7 +36,7 @@ enum Step {
 fn number_within(key: &[u16], line: &[u16], most: u32) -> bool
     ensures { result ≡ is_number_line key.now most line.now }
 {
-    let Number::Value(n) = crate::line::number_line(key, line) else {
+    let Some(n) = crate::line::number_line(key, line) else {
         return false;
     };
     n <= most
@@ -100,7 +99,7 @@ fn hint_step(line: &[u16]) -> Step
     ensures { result ≡ hint_step line.now }
 {
     let key = HINT;
-    let Number::Value(n) = crate::line::number_line(&key, line) else {
+    let Some(n) = crate::line::number_line(&key, line) else {
         return Step::Wrong;
     };
     Step::Least(TARGET_LINE + 1 + n as usize)

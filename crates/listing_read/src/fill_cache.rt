@@ -11,7 +11,6 @@ ghost use Rattle.listing_read.specs.listing_rules.Read.{is_listing, placed};
 ghost use Rattle.listing_read.specs.fill_cache.Code.{said_at, NumberAt, NumberRead, PathAt, PathRead, TargetRead, SettingsRead, TargetsRead, EntryRead, LinesAt};
 
 use cache::places::{HEAD, PLACE, ROOM};
-use listing_spelling::unspell::Number;
 
 // The units of "prefix=" and of "target=".
 const PATH_KEY: usize = 7;
@@ -39,7 +38,7 @@ fn number_at(text: &[u16], at: usize, key: usize) -> Read
 {
     let end = crate::line::line_end(text, at);
     let from = at + key;
-    let Number::Value(value) = listing_spelling::unspell::decimal_form(&text[from..end]) else {
+    let Some(value) = listing_spelling::unspell::decimal_form(&text[from..end]) else {
         return Read {
             value: 0,
             next: end + 1,

@@ -6,7 +6,6 @@ ghost use Rattle.listing_spelling.specs.unspell.Reading.{unspelled, is_spelled};
 ghost use Rattle.listing_read.specs.line.Lines.{line_length, line_has_key, number_said};
 ghost use Rattle.listing_read.specs.line.Code.{is_path_line};
 
-use listing_spelling::unspell::{Number, Spelled};
 use listing_write::LINE_END;
 use unc::path_form::PATH_UNITS;
 
@@ -80,18 +79,18 @@ pub fn path_line(key: &[u16], line: &[u16]) -> bool
         return false;
     }
     let from = key.len();
-    let Spelled::Units(n) = listing_spelling::unspell::spelled_form(&line[from..]) else {
+    let Some(n) = listing_spelling::unspell::spelled_form(&line[from..]) else {
         return false;
     };
     good_value(&line[from..], n)
 }
 
 // The number that a line with this key says.
-pub fn number_line(key: &[u16], line: &[u16]) -> Number
+pub fn number_line(key: &[u16], line: &[u16]) -> Option<u32>
     ensures { result ≡ number_said key.now line.now }
 {
     if !has_key(key, line) {
-        return Number::None;
+        return None;
     }
     let from = key.len();
     listing_spelling::unspell::decimal_form(&line[from..])

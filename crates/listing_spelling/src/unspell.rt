@@ -9,21 +9,6 @@ const TILDE: u16 = 126;
 
 const MOST: u64 = 4294967295;
 
-// What a text is as a spelling.
-#[derive(Drop)]
-pub enum Spelled {
-    Bad,
-    // the spelling of a text of so many units
-    Units(usize),
-}
-
-// What a text is as a number of 32 bits.
-#[derive(Drop)]
-pub enum Number {
-    None,
-    Value(u32),
-}
-
 // Whether a unit is an upper-case hex digit.
 fn hex_digit(u: u16) -> bool
     ensures { result ≡ hex_digit u }
@@ -99,7 +84,7 @@ fn is_escape(s: &[u16], i: usize) -> bool
 }
 
 // Whether a text is a spelling, and of how many units.
-pub fn spelled_form(s: &[u16]) -> Spelled
+pub fn spelled_form(s: &[u16]) -> Option<usize>
     ensures { result ≡ spelled_form s.now }
 {
     let mut n = 0;
@@ -111,12 +96,12 @@ pub fn spelled_form(s: &[u16]) -> Spelled
             continue;
         }
         if !is_escape(s, i) {
-            return Spelled::Bad;
+            return None;
         }
         n += 1;
         i += 5;
     }
-    Spelled::Units(n)
+    Some(n)
 }
 
 // What a spelling says, into a lent buffer from `at` on; answers where it ends.
@@ -171,7 +156,7 @@ fn decimal_digit(u: u16) -> u64
 }
 
 // Whether a text is the decimal of a number of 32 bits, and of which.
-pub fn decimal_form(s: &[u16]) -> Number
+pub fn decimal_form(s: &[u16]) -> Option<u32>
     ensures { result ≡ decimal_form s.now }
 {
     let mut v: u64 = 0;
@@ -179,13 +164,13 @@ pub fn decimal_form(s: &[u16]) -> Number
     while i < s.len() {
         v = 10 * v + decimal_digit(s[i]);
         if MOST < v {
-            return Number::None;
+            return None;
         }
         i += 1;
     }
     let n = v as u32;
     if !is_decimal(s, n) {
-        return Number::None;
+        return None;
     }
-    Number::Value(n)
+    Some(n)
 }

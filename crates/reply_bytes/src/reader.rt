@@ -5,7 +5,7 @@ ghost use Rattle.reply_bytes.specs.texts.Bytes.{u16_at, u32_at, text_from};
 ghost use Rattle.reply_bytes.specs.texts.Code.{text_end};
 ghost use Rattle.reply_bytes.specs.reader.Code.{header_of, start_of, entry_marks, offsets_of};
 
-use crate::texts::Read;
+use crate::texts::Span;
 
 #[derive(Clone, Copy)]
 pub struct Reader<'a> {
@@ -36,7 +36,7 @@ pub fn word<'a>(r: Reader<'a>) -> u32
 }
 
 // The text at the position.
-pub fn text<'a>(r: Reader<'a>) -> Read
+pub fn text<'a>(r: Reader<'a>) -> Option<Span>
     ensures { result ≡ text_end r.entry.at 0 (text_from r.entry.src.now r.entry.at) }
 {
     crate::texts::read_text(r.src, r.at)
@@ -145,7 +145,7 @@ pub fn read_unit(src: &[u8], at: usize) -> u16
 }
 
 // The text that starts at a byte.
-pub fn read_text(src: &[u8], at: usize) -> Read
+pub fn read_text(src: &[u8], at: usize) -> Option<Span>
     ensures { result ≡ text_end at 0 (text_from src.now at) }
 {
     let r = new(src, at);

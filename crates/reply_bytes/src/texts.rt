@@ -16,14 +16,6 @@ pub struct Span {
     pub units: usize,
 }
 
-// What reading a text answers.
-#[derive(Drop)]
-pub enum Read {
-    // the units before its unit 0
-    Ended(Span),
-    Unended,
-}
-
 pub fn unit_at(r: &[u8], at: usize) -> u16
     requires { at + 1 < length r.now }
     ensures { result ≡ u16_at r.now at }
@@ -41,22 +33,22 @@ pub fn word_at(r: &[u8], at: usize) -> u32
 }
 
 // The text that starts at a byte: it ends with a unit 0 inside the bytes, or there is none.
-pub fn read_text(r: &[u8], at: usize) -> Read
+pub fn read_text(r: &[u8], at: usize) -> Option<Span>
     ensures { result ≡ text_end at 0 (text_from r.now at) }
 {
     let mut i = at;
     let mut n = 0;
     while i < r.len() {
         if r.len() - i < 2 {
-            return Read::Unended;
+            return None;
         }
         if unit_at(r, i) == 0 {
-            return Read::Ended(Span { from: at, units: n });
+            return Some(Span { from: at, units: n });
         }
         n += 1;
         i += 2;
     }
-    Read::Unended
+    None
 }
 
 // Unit k of a span.

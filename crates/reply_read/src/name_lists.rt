@@ -8,8 +8,8 @@ ghost use Rattle.reply_read.specs.referral.Code.{is_inside, text_shown, text_ins
 ghost use Rattle.reply_read.specs.name_lists.NameLists.{bare, dc_of, domain_said, bytes_past, texts_at, dc_names, good_dcs, read_dcs, domain_at, good_domain_name, read_domains};
 ghost use Rattle.reply_read.specs.name_lists.Code.{dc_shown, dc_placed, denoted_dcs, DcsInside, no_dcs, answer_of};
 
-use crate::referral::{Answer, TextRead};
-use reply_bytes::texts::{Read, Span};
+use crate::referral::Answer;
+use reply_bytes::texts::Span;
 use unc::names::BACKSLASH;
 
 // A DC reply: the first `count` places of `kept` are the DC names, as spans of the reply.
@@ -37,47 +37,47 @@ fn bare(r: &[u8], s: Span) -> Span
 }
 
 // The DC name in a text.
-fn dc_span(r: &[u8], s: Span) -> TextRead
+fn dc_span(r: &[u8], s: Span) -> Option<Span>
     requires { Inside r.now s }
     ensures name { text_shown r.now result ≡ dc_of (terminated (spanned r.now s)) }
     ensures inside { text_inside r.now result ≡ true }
 {
     let b = bare(r, s);
     if reply_bytes::texts::good_name(r, b) {
-        return TextRead::Good(b);
+        return Some(b);
     }
-    TextRead::Bad
+    None
 }
 
 // The domain name in a text "\domain".
-fn domain_span(r: &[u8], s: Span) -> TextRead
+fn domain_span(r: &[u8], s: Span) -> Option<Span>
     requires { Inside r.now s }
     ensures name { text_shown r.now result ≡ domain_said (terminated (spanned r.now s)) }
     ensures inside { text_inside r.now result ≡ true }
 {
     let n = s.units;
     if n == 0 {
-        return TextRead::Bad;
+        return None;
     }
     if reply_bytes::texts::unit_of(r, s, 0) != BACKSLASH {
-        return TextRead::Bad;
+        return None;
     }
     let b = reply_bytes::texts::part(s, 1, n);
     if reply_bytes::texts::good_name(r, b) {
-        return TextRead::Good(b);
+        return Some(b);
     }
-    TextRead::Bad
+    None
 }
 
 // The domain name of the entry at e.
-pub fn domain_at(r: &[u8], e: usize) -> TextRead
+pub fn domain_at(r: &[u8], e: usize) -> Option<Span>
     requires { (e + 13 < length r.now) × (length r.now < 4294967296) }
     ensures name { text_shown r.now result ≡ domain_at r.now e }
     ensures inside { text_inside r.now result ≡ true }
 {
     let o = reply_bytes::reader::read_unit(r, e + 12) as usize;
-    let Read::Ended(s) = reply_bytes::reader::read_text(r, e + o) else {
-        return TextRead::Bad;
+    let Some(s) = reply_bytes::reader::read_text(r, e + o) else {
+        return None;
     };
     domain_span(r, s)
 }
@@ -95,10 +95,10 @@ fn dc_at(r: &[u8], at: usize) -> DcRead
     ensures name { dc_shown r.now result ≡ dc_of (text_from r.now at) }
     ensures placed { dc_placed r.now (at + bytes_past (text_from r.now at)) result ≡ true }
 {
-    let Read::Ended(s) = reply_bytes::reader::read_text(r, at) else {
+    let Some(s) = reply_bytes::reader::read_text(r, at) else {
         return DcRead::NoName;
     };
-    let TextRead::Good(name) = dc_span(r, s) else {
+    let Some(name) = dc_span(r, s) else {
         return DcRead::NoName;
     };
     DcRead::Name {
@@ -235,7 +235,7 @@ fn good_domain(r: &[u8], e: usize) -> bool
     if !crate::referral::has_flag(2, m.flags as u32) {
         return false;
     }
-    let TextRead::Good(_) = domain_at(r, e) else {
+    let Some(_) = domain_at(r, e) else {
         return false;
     };
     true

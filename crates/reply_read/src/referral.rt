@@ -8,7 +8,7 @@ ghost use Rattle.reply_read.specs.referral.Replies.{referral_count, version_at, 
 ghost use Rattle.reply_read.specs.referral.Replies.{good_fields, good_entry, prefix_at, target_at, referral_in, read_or, read_referral};
 ghost use Rattle.reply_read.specs.referral.Code.{text_shown, text_inside, FirstEntry, GoodReply, ReferralInside, no_referral, opens_at, kept_from, kept_inside, target_shown, denoted, asked};
 
-use reply_bytes::texts::{Read, Span};
+use reply_bytes::texts::Span;
 use unc::path_form::PATH_UNITS;
 
 // What a reply is read as.
@@ -17,15 +17,6 @@ pub enum Answer {
     Malformed,
     Nothing,
     Says,
-}
-
-// What reading a path or a name answers.
-#[derive(Drop)]
-pub enum TextRead {
-    // where its units stand
-    Good(Span),
-    // bad, too long or without an end
-    Bad,
 }
 
 // A kept target, and whether a target set opens before it.
@@ -51,13 +42,6 @@ pub struct ReferralFound {
     pub targets: usize,
 }
 
-// What writing a request answers.
-#[derive(Drop)]
-pub enum Asked {
-    Bytes(usize),
-    TooShort,
-}
-
 // Whether the flag m, a power of two, is set.
 pub fn has_flag(m: u32, f: u32) -> bool
     requires { 0 < m }
@@ -67,39 +51,39 @@ pub fn has_flag(m: u32, f: u32) -> bool
 }
 
 // The path in a text, normalised; bad too where it has less than 2 components.
-fn path_span(r: &[u8], s: Span) -> TextRead
+fn path_span(r: &[u8], s: Span) -> Option<Span>
     requires { Inside r.now s }
     ensures path { text_shown r.now result ≡ path_of (terminated (spanned r.now s)) }
     ensures inside { text_inside r.now result ≡ true }
 {
     let from = reply_bytes::texts::lead(r, s);
     if from == 0 {
-        return TextRead::Bad;
+        return None;
     }
     let to = reply_bytes::texts::trail(r, s, from);
     let n = reply_bytes::texts::good_count(r, reply_bytes::texts::part(s, from, to));
     if n < 2 {
-        return TextRead::Bad;
+        return None;
     }
     if PATH_UNITS < to - from + 1 {
-        return TextRead::Bad;
+        return None;
     }
-    TextRead::Good(reply_bytes::texts::part(s, from - 1, to))
+    Some(reply_bytes::texts::part(s, from - 1, to))
 }
 
 // The path at a byte.
-fn path_at(r: &[u8], at: usize) -> TextRead
+fn path_at(r: &[u8], at: usize) -> Option<Span>
     ensures path { text_shown r.now result ≡ path_of (text_from r.now at) }
     ensures inside { text_inside r.now result ≡ true }
 {
-    let Read::Ended(s) = reply_bytes::reader::read_text(r, at) else {
-        return TextRead::Bad;
+    let Some(s) = reply_bytes::reader::read_text(r, at) else {
+        return None;
     };
     path_span(r, s)
 }
 
 // The DFSPath of the entry at e.
-fn prefix_of(r: &[u8], e: usize) -> TextRead
+fn prefix_of(r: &[u8], e: usize) -> Option<Span>
     requires { (e + 17 < length r.now) × (length r.now < 4294967296) }
     ensures path { text_shown r.now result ≡ prefix_at r.now e }
     ensures inside { text_inside r.now result ≡ true }
@@ -109,7 +93,7 @@ fn prefix_of(r: &[u8], e: usize) -> TextRead
 }
 
 // The target of the entry at e.
-fn target_of(r: &[u8], e: usize) -> TextRead
+fn target_of(r: &[u8], e: usize) -> Option<Span>
     requires { (e + 17 < length r.now) × (length r.now < 4294967296) }
     ensures path { text_shown r.now result ≡ target_at r.now e }
     ensures inside { text_inside r.now result ≡ true }
@@ -189,13 +173,13 @@ fn good_entry(r: &[u8], e: usize, version: u16, kind: u16, first: Span) -> bool
     if !good_fields(r, e, version, kind) {
         return false;
     }
-    let TextRead::Good(p) = prefix_of(r, e) else {
+    let Some(p) = prefix_of(r, e) else {
         return false;
     };
     if !reply_bytes::texts::same_spans(r, p, first) {
         return false;
     }
-    let TextRead::Good(_) = target_of(r, e) else {
+    let Some(_) = target_of(r, e) else {
         return false;
     };
     true
@@ -215,7 +199,7 @@ fn good_entries(r: &[u8]) -> bool
     let version = s.version;
     let m = reply_bytes::reader::read_marks(r, 8);
     let kind = m.kind;
-    let TextRead::Good(first) = prefix_of(r, 8) else {
+    let Some(first) = prefix_of(r, 8) else {
         return false;
     };
     let mut e = 8;
@@ -270,7 +254,7 @@ fn targets(r: &[u8]) -> [Kept; 8]
     let mut i = 0;
     while i < m {
         // the entries are good: none is without a target
-        let TextRead::Good(path) = target_of(r, e) else {
+        let Some(path) = target_of(r, e) else {
             return kept;
         };
         let opens = opens_at(r, e, i);
@@ -360,7 +344,7 @@ pub fn read_referral(r: &[u8], size: u32, asked: &[u16]) -> ReferralFound
     if !good_entries(r) {
         return no_referral(Answer::Malformed);
     }
-    let TextRead::Good(prefix) = prefix_of(r, 8) else {
+    let Some(prefix) = prefix_of(r, 8) else {
         return no_referral(Answer::Malformed);
     };
     if !reply_bytes::texts::span_matches(r, prefix, asked) {

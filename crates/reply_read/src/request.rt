@@ -5,8 +5,6 @@ ghost use Rattle.reply_read.specs.referral.Request.{bytes_of, request};
 ghost use Rattle.reply_read.specs.referral.Code.{asked};
 ghost use Rattle.reply_read.specs.referral.Request.{buffer_with};
 
-use crate::referral::Asked;
-
 // The least and the most bytes of a reply that may be asked for.
 pub const LEAST_SIZE: u32 = 1024;
 
@@ -41,16 +39,16 @@ fn put_units(out: &mut [u8], at: usize, name: &[u16])
 }
 
 // The request for a name, the empty one for domains, into a lent buffer. A buffer that is too short is told before anything is written.
-pub fn request(name: &[u16], out: &mut [u8]) -> Asked
+pub fn request(name: &[u16], out: &mut [u8]) -> Option<usize>
     ensures answer { result ≡ asked (length out.old) name.now }
     ensures buffer { out.new ≡ buffer_with name.now out.old }
 {
     let n = request_length(name);
     if out.len() < n {
-        return Asked::TooShort;
+        return None;
     }
     put_pair(out, 0, 4);
     put_units(out, 2, name);
     put_pair(out, n - 2, 0);
-    Asked::Bytes(n)
+    Some(n)
 }

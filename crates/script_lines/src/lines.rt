@@ -6,7 +6,6 @@ ghost use Rattle.script_lines.specs.lines.Script.{reply_key, status_said, takes_
 ghost use Rattle.script_lines.specs.lines.Script.{text_read, text_taken};
 
 use crate::line_bytes::Rest;
-use listing_spelling::unspell::{Number, Spelled};
 
 const PATH: [u16; 5] = [112, 97, 116, 104, 61];
 
@@ -106,37 +105,37 @@ pub fn with_last(s: Script, last: Last) -> Script
 }
 
 // What a line with this key spells, into a lent buffer.
-fn text_line(key: &[u16], line: &[u16], out: &mut [u16]) -> Spelled
+fn text_line(key: &[u16], line: &[u16], out: &mut [u16]) -> Option<usize>
     ensures { text_read result out.new ≡ text_taken key.now line.now out.old }
 {
     if !listing_read::line::has_key(key, line) {
-        return Spelled::Bad;
+        return None;
     }
     let from = key.len();
-    let Spelled::Units(n) = listing_spelling::unspell::spelled_form(&line[from..]) else {
-        return Spelled::Bad;
+    let Some(n) = listing_spelling::unspell::spelled_form(&line[from..]) else {
+        return None;
     };
     if out.len() < n {
-        return Spelled::Bad;
+        return None;
     }
     listing_spelling::unspell::unspell(&line[from..], out, 0);
-    Spelled::Units(n)
+    Some(n)
 }
 
-fn status_of(line: &[u16]) -> Number
+fn status_of(line: &[u16]) -> Option<u32>
     ensures { result ≡ status_said line.now }
 {
     let key = STATUS;
     if !listing_read::line::has_key(&key, line) {
-        return Number::None;
+        return None;
     }
     if line.len() != 15 {
-        return Number::None;
+        return None;
     }
     if !crate::line_bytes::all_hex(&line[7..]) {
-        return Number::None;
+        return None;
     }
-    Number::Value(crate::line_bytes::number(&line[7..]))
+    Some(crate::line_bytes::number(&line[7..]))
 }
 
 // Whether the digits of a reply are whole bytes: n that are kept, and the rest.
@@ -155,7 +154,7 @@ pub fn take_path(s: Script, line: &[u16], path: &mut [u16]) -> Script
     ensures { read_into result path.new ≡ takes_path s line.now path.old }
 {
     let key = PATH;
-    let Spelled::Units(n) = text_line(&key, line, path) else {
+    let Some(n) = text_line(&key, line, path) else {
         return with_last(s, Last::Other);
     };
     let mut t = s;
@@ -167,7 +166,7 @@ pub fn take_boot(s: Script, line: &[u16], boot: &mut [u16]) -> Script
     ensures { read_into result boot.new ≡ takes_boot s line.now boot.old }
 {
     let key = BOOT;
-    let Spelled::Units(n) = text_line(&key, line, boot) else {
+    let Some(n) = text_line(&key, line, boot) else {
         return with_last(s, Last::Other);
     };
     let mut t = s;
@@ -179,7 +178,7 @@ pub fn take_limit(s: Script, line: &[u16]) -> Script
     ensures { result ≡ takes_limit s line.now }
 {
     let key = LIMIT;
-    let Number::Value(n) = listing_read::line::number_line(&key, line) else {
+    let Some(n) = listing_read::line::number_line(&key, line) else {
         return with_last(s, Last::Other);
     };
     let mut t = s;
@@ -191,7 +190,7 @@ pub fn take_size(s: Script, line: &[u16]) -> Script
     ensures { result ≡ takes_size s line.now }
 {
     let key = SIZE;
-    let Number::Value(n) = listing_read::line::number_line(&key, line) else {
+    let Some(n) = listing_read::line::number_line(&key, line) else {
         return with_last(s, Last::Other);
     };
     let mut t = s;
@@ -204,7 +203,7 @@ pub fn take_clock(s: Script, line: &[u16], last: Last) -> Script
     ensures { result ≡ takes_clock last s line.now }
 {
     let key = NOW;
-    let Number::Value(n) = listing_read::line::number_line(&key, line) else {
+    let Some(n) = listing_read::line::number_line(&key, line) else {
         return with_last(s, Last::Other);
     };
     let mut t = s;
@@ -215,7 +214,7 @@ pub fn take_clock(s: Script, line: &[u16], last: Last) -> Script
 pub fn take_status(s: Script, line: &[u16]) -> Script
     ensures { result ≡ takes_status s line.now }
 {
-    let Number::Value(n) = status_of(line) else {
+    let Some(n) = status_of(line) else {
         return with_last(s, Last::Other);
     };
     let mut t = s;

@@ -3,8 +3,6 @@ ghost use Rattle.std.specs.Prelude.{◌≡◌};
 ghost use Rattle.cache.specs.order.Memory.{referrals, decode, in_order, most_places};
 ghost use Rattle.cache_lookup.specs.Lookup.{longest_match, found_or};
 
-use cache_lookup::Found;
-
 // Whether a referral cache is in order.
 #[unsafe(no_mangle)]
 pub extern "C" fn probe_in_order(cache: &[u16]) -> bool
@@ -18,7 +16,7 @@ pub extern "C" fn probe_in_order(cache: &[u16]) -> bool
 pub extern "C" fn probe_find(cache: &[u16], path: &[u16]) -> usize
     ensures { result ≡ found_or most_places (longest_match path.now (decode referrals cache.now)) }
 {
-    let Found::At(i) = cache_lookup::find(cache, path) else {
+    let Some(i) = cache_lookup::find(cache, path) else {
         return cache::order::PLACES;
     };
     i

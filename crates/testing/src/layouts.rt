@@ -6,7 +6,7 @@ ghost use Rattle.testing.specs.layouts.Code.{answer_number, bit_of, bits_of, fou
 ghost use Rattle.reply_read.specs.referral.Replies.{referral_count, entries};
 ghost use Rattle.reply_read.specs.declared.referral.Answer.TheVariants.{Says};
 
-use reply_read::referral::{Answer, Kept, ReferralFound, TextRead};
+use reply_read::referral::{Answer, Kept, ReferralFound};
 
 fn bit(b: bool) -> u64
     ensures { result ≡ bit_of b }
@@ -169,7 +169,7 @@ fn domain_number(r: &[u8], i: usize, k: usize) -> u64
 {
     let e = entry_at(r, i);
     // the reply is good: none of its entries is without a name
-    let TextRead::Good(s) = reply_read::name_lists::domain_at(r, e) else {
+    let Some(s) = reply_read::name_lists::domain_at(r, e) else {
         return 0;
     };
     if k == 0 {

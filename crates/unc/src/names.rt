@@ -27,13 +27,6 @@ pub enum Form {
     Good { units: usize, components: usize },
 }
 
-// What writing a text into a room answers.
-#[derive(Drop)]
-pub enum Written {
-    Units(usize),
-    TooLong,
-}
-
 // The unit by which a unit is compared.
 pub fn fold(u: u16) -> u16
     ensures { result ≡ folded u }

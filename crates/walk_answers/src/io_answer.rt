@@ -14,7 +14,6 @@ ghost use Rattle.walk_answers.specs.declared.io_answer.Failure.TheVariants.{Trie
 
 use crate::referral_answer::SEVERITY;
 use cache::places::ROOM;
-use cache_lookup::Found;
 use walk_steps::steps::{Asking, End, Kind, Next, Progress, Rested};
 use walk_store::reply_taken::PATH_NOT_COVERED;
 
@@ -28,20 +27,20 @@ pub enum Failure {
 }
 
 // The place of the entry of this prefix, if it has both targets.
-fn place(refs: &[u16], prefix: &[u16], party: u16, began: u16) -> Found
+fn place(refs: &[u16], prefix: &[u16], party: u16, began: u16) -> Option<usize>
     ensures { result ≡ place_in_use prefix.now refs.now party began }
 {
-    let Found::At(i) = cache_lookup::find_prefix(refs, prefix) else {
-        return Found::Nothing;
+    let Some(i) = cache_lookup::find_prefix(refs, prefix) else {
+        return None;
     };
     let n = cache_lookup::target_count(refs, i);
     if n <= party as usize {
-        return Found::Nothing;
+        return None;
     }
     if n <= began as usize {
-        return Found::Nothing;
+        return None;
     }
-    Found::At(i)
+    Some(i)
 }
 
 // PATH_NOT_COVERED: a root's target is asked for the link, the one just tried first.
@@ -125,7 +124,7 @@ pub fn io_answer(
     ensures { left_by result rooms.new refs.new doms.now ≡ leaves g refs.old doms.now (io_answered (caches_of refs.old doms.now) (core_at g rooms.old) (question_of q (tried_room tried rooms.old)) status) }
 {
     let entry = q.entry as usize;
-    let Found::At(i) = place(refs, &rooms[..entry], q.party, q.began) else {
+    let Some(i) = place(refs, &rooms[..entry], q.party, q.began) else {
         memory::clear_units(rooms, ROOM, ROOM);
         return walk_steps::steps::rest(Next::Ends(End::Gone, 0), g);
     };

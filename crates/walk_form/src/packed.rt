@@ -12,13 +12,6 @@ use walk_steps::steps::{Asking, End, Kind, Next};
 // The units of a packed walk.
 pub const HEAD: usize = 32;
 
-// The walk that units hold, if they are of the form.
-#[derive(Clone, Copy)]
-pub enum Unpacked {
-    Held(Walk),
-    NotOfForm,
-}
-
 pub fn kind_number(kind: Kind) -> u16
     ensures { result ≡ kind_number kind }
 {
@@ -246,17 +239,17 @@ fn same_units(a: &[u16], b: &[u16]) -> bool
 }
 
 // The walk that is packed in these units: they have to be what that walk is packed into.
-pub fn unpack(units: &[u16]) -> Unpacked
+pub fn unpack(units: &[u16]) -> Option<Walk>
     ensures { result ≡ unpacked units.now }
 {
     if units.len() != HEAD {
-        return Unpacked::NotOfForm;
+        return None;
     }
     let walk = walk_at(units);
     let mut again = [0; 32];
     pack(walk, &mut again);
     if !same_units(&again, units) {
-        return Unpacked::NotOfForm;
+        return None;
     }
-    Unpacked::Held(walk)
+    Some(walk)
 }

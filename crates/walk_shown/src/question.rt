@@ -11,9 +11,7 @@ ghost use Rattle.walk_shown.specs.question.Shown.{given, shows, shows_some, dc_a
 ghost use Rattle.walk_shown.specs.question.Code.{root_party, Showable};
 ghost use Rattle.walk_shown.specs.question.Shown.{party_call, name_call};
 
-use cache_lookup::Found;
 use walk_form::held::Walk;
-use walk_steps::question_request::Name;
 use walk_steps::steps::{Asking, Kind, Next};
 
 // The units or numbers that were put into the buffer, or why there are none.
@@ -55,7 +53,7 @@ fn put_dc(doms: &[u16], path: &[u16], party: u16, out: &mut [u16]) -> Shown
     requires { (good_prefix path.now ≡ true) × (party < dcs_named path.now doms.now) }
     ensures { given result out.new ≡ shows_some (dc_at_place party (domain_named (get_or (components path.now) 0 []) (decode domains doms.now))) out.old }
 {
-    let Found::At(i) = cache_lookup::find_domain(doms, walk_steps::steps::host(path)) else {
+    let Some(i) = cache_lookup::find_domain(doms, walk_steps::steps::host(path)) else {
         return Shown::NoEntry;
     };
     put(cache_lookup::dc(doms, i, party as usize), out)
@@ -66,7 +64,7 @@ fn put_target(refs: &[u16], prefix: &[u16], party: u16, out: &mut [u16]) -> Show
     requires { party < targets_under prefix.now refs.now }
     ensures { given result out.new ≡ shows_some (target_at_place party (prefixed prefix.now (decode referrals refs.now))) out.old }
 {
-    let Found::At(i) = cache_lookup::find_prefix(refs, prefix) else {
+    let Some(i) = cache_lookup::find_prefix(refs, prefix) else {
         return Shown::NoEntry;
     };
     put(cache_lookup::target(refs, i, party as usize), out)
@@ -152,7 +150,7 @@ fn put_name(path: &[u16], tried: &[u16], q: Asking, out: &mut [u16]) -> Shown
     requires { (length path.now ≤ 256) × (length tried.now ≤ 256) }
     ensures { given result out.new ≡ shows (name_asked (core_of path.now 0 true) (question_of q tried.now)) out.old }
 {
-    let Name::First(n) = walk_steps::question_request::next_units(Next::Asks(q), path) else {
+    let Some(n) = walk_steps::question_request::next_units(Next::Asks(q), path) else {
         return put(tried, out);
     };
     put(&path[..n], out)

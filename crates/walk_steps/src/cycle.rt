@@ -1,6 +1,6 @@
 // The steps that call each other: lookup, domain, link and interlink. Moves left and step rank fall. They hand on a point of the steps as
 // one number (specs/cycle/Code.antt), and the rest is made of the last one.
-ghost use Rattle.std.specs.Prelude.{◌≡◌, Bool, true, false, List, ℕ, ◌≤◌, ◌<◌, length, take};
+ghost use Rattle.std.specs.Prelude.{◌≡◌, Bool, true, false, List, ℕ, ◌≤◌, ◌<◌, length, take, Some};
 ghost use Rattle.unc.specs.names.Code.{written_within};
 ghost use Rattle.unc.specs.names.Paths.{is_sysvol, replaced};
 ghost use Rattle.walk_steps.specs.walk_texts.Code.{Standing, with_tried};
@@ -9,7 +9,6 @@ ghost use Rattle.cache.specs.order.Order.{good_prefix};
 ghost use Rattle.cache.specs.order.Memory.{referrals, domains, decode};
 ghost use Rattle.cache_lookup.specs.Lookup.{target_path};
 ghost use Rattle.cache_lookup.specs.Code.{entry_at};
-ghost use Rattle.cache_lookup.specs.declared.Found.TheVariants.{At};
 ghost use Rattle.walk_steps.specs.steps.Steps.{Caches, asks, asking, step3, step5, step8, from_step2, goes, turned};
 ghost use Rattle.walk_steps.specs.steps.Held.{caches_of, core_of, asking_of};
 ghost use Rattle.walk_steps.specs.steps.Code.{core_at};
@@ -18,11 +17,9 @@ ghost use Rattle.walk_steps.specs.cycle.Code.{due2, due5, due9, due7, due11, ask
 ghost use Rattle.walk_steps.specs.cycle.Code.{FoundAt, DcAt, Sought, after_match, Matched, replaced_at, moved_to, steps_at, Point, Halted, SameSteps, SameRest};
 
 use crate::steps::{Asking, End, Kind, Next, Progress, Rested};
-use cache_lookup::Found;
-use unc::names::Written;
 
 // The prefix of the path replaced by a target's path, put as the path tried.
-fn put_target(refs: &[u16], texts: &mut [u16], len: usize, i: usize, party: u16) -> Written
+fn put_target(refs: &[u16], texts: &mut [u16], len: usize, i: usize, party: u16) -> Option<usize>
     requires { Standing len texts.old × (Usable refs.now (take len texts.old) i × (party < length (entry_at referrals i refs.now).targets)) }
     ensures answer { result ≡ written_within 256 (replaced (target_path party (entry_at referrals i refs.now)) (length (entry_at referrals i refs.now).prefix) (take len texts.old)) }
     ensures texts { texts.new ≡ with_tried (replaced (target_path party (entry_at referrals i refs.now)) (length (entry_at referrals i refs.now).prefix) (take len texts.old)) texts.old }
@@ -49,7 +46,7 @@ fn step8(
     if left == 0 {
         return crate::steps::end_at(End::LimitReached, 0, len, left, hit);
     }
-    let Written::Units(n) = put_target(refs, texts, len, i, party) else {
+    let Some(n) = put_target(refs, texts, len, i, party) else {
         return crate::steps::end_at(End::TooLong, 0, len, left, hit);
     };
     let k = cache_lookup::prefix(refs, i).len();
@@ -173,13 +170,13 @@ const NOWHERE: u64 = 65536;
 
 const NO_DC: u64 = 65537;
 
-fn number(found: Found) -> u64
-    requires { (i : ℕ) → found ≡ At i → i < 65536 }
+fn number(found: Option<usize>) -> u64
+    requires { (i : ℕ) → found ≡ Some i → i < 65536 }
     ensures { FoundAt found result }
 {
     match found {
-        Found::At(i) => i as u64,
-        Found::Nothing => NOWHERE,
+        Some(i) => i as u64,
+        None => NOWHERE,
     }
 }
 
@@ -188,7 +185,7 @@ fn dc_sought(doms: &[u16], path: &[u16]) -> u64
     requires { good_prefix path.now ≡ true }
     ensures { DcAt doms.now path.now result }
 {
-    let Found::At(i) = cache_lookup::find_domain(doms, crate::steps::host(path)) else {
+    let Some(i) = cache_lookup::find_domain(doms, crate::steps::host(path)) else {
         return NOWHERE;
     };
     if cache_lookup::dc_count(doms, i) == 0 {
@@ -281,18 +278,18 @@ fn step9(refs: &[u16], doms: &[u16], texts: &[u16], n: u64) -> u64
 }
 
 // Step 11: the prefix of the path replaced by the target hinted at.
-fn step11(refs: &[u16], texts: &mut [u16], n: u64) -> Written
+fn step11(refs: &[u16], texts: &mut [u16], n: u64) -> Option<usize>
     requires { Point refs.now texts.old n × (what_of n ≡ due11) }
     ensures answer { result ≡ written_within 256 (replaced_at refs.now texts.old n) }
     ensures texts { texts.new ≡ moved_to (replaced_at refs.now texts.old n) texts.old }
 {
     let i = place(n);
     let hint = cache_lookup::target_hint(refs, i);
-    let Written::Units(len) = put_target(refs, texts, units(n), i, hint) else {
-        return Written::TooLong;
+    let Some(len) = put_target(refs, texts, units(n), i, hint) else {
+        return None;
     };
     crate::walk_texts::take_tried(texts);
-    Written::Units(len)
+    Some(len)
 }
 
 // The four members. The compiler makes one frame of them, 128 bytes a move (docs/DECISIONS.md 74): so they hand on a number that each
@@ -352,7 +349,7 @@ fn interlink(refs: &[u16], doms: &[u16], texts: &mut [u16], n: u64, clock: u32) 
     if n / LEFT == 0 {
         return n;
     }
-    let Written::Units(len) = step11(refs, texts, n) else {
+    let Some(len) = step11(refs, texts, n) else {
         return case_at(n, TOO_LONG, 0);
     };
     lookup(

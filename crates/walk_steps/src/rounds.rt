@@ -10,7 +10,6 @@ ghost use Rattle.walk_steps.specs.steps.Code.{called_of};
 ghost use Rattle.walk_steps.specs.rounds.Code.{domain_there, dcs_named, targets_under, in_round, again, failed_dc, failed_root, failed_link};
 
 use crate::steps::{Asking, End, Kind, Next, Progress};
-use cache_lookup::Found;
 
 const OVERFLOW: u32 = 0x80000005;
 
@@ -24,7 +23,7 @@ const NEXT: [u32; 6] = [
 ];
 
 // The place of the domain of the path's first component.
-fn domain_place(doms: &[u16], path: &[u16]) -> Found
+fn domain_place(doms: &[u16], path: &[u16]) -> Option<usize>
     requires { good_prefix path.now ≡ true }
     ensures { result ≡ with_key domains (get_or (components path.now) 0 []) (decode domains doms.now) }
 {
@@ -35,7 +34,7 @@ fn domain_there(doms: &[u16], path: &[u16]) -> bool
     requires { good_prefix path.now ≡ true }
     ensures { result ≡ domain_there path.now doms.now }
 {
-    let Found::At(_) = domain_place(doms, path) else {
+    let Some(_) = domain_place(doms, path) else {
         return false;
     };
     true
@@ -46,7 +45,7 @@ fn dcs(doms: &[u16], path: &[u16]) -> usize
     requires { good_prefix path.now ≡ true }
     ensures { result ≡ dcs_named path.now doms.now }
 {
-    let Found::At(i) = domain_place(doms, path) else {
+    let Some(i) = domain_place(doms, path) else {
         return 0;
     };
     cache_lookup::dc_count(doms, i)
@@ -55,7 +54,7 @@ fn dcs(doms: &[u16], path: &[u16]) -> usize
 fn targets(refs: &[u16], prefix: &[u16]) -> usize
     ensures { result ≡ targets_under prefix.now refs.now }
 {
-    let Found::At(i) = cache_lookup::find_prefix(refs, prefix) else {
+    let Some(i) = cache_lookup::find_prefix(refs, prefix) else {
         return 0;
     };
     cache_lookup::target_count(refs, i)

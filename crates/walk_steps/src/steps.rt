@@ -4,8 +4,6 @@ ghost use Rattle.unc.specs.names.Paths.{components};
 ghost use Rattle.cache.specs.order.Order.{good_prefix};
 ghost use Rattle.walk_steps.specs.steps.Code.{ended_at, asked_at, rested_at, domain_asking, root_in};
 
-use cache_lookup::Found;
-
 // The kinds of question.
 #[derive(Clone, Copy)]
 pub enum Kind {
@@ -112,17 +110,17 @@ pub fn rest(next: Next, g: Progress) -> Rested
 }
 
 // Step 9's root entry: that of the first two components.
-pub fn root_entry(refs: &[u16], path: &[u16]) -> Found
+pub fn root_entry(refs: &[u16], path: &[u16]) -> Option<usize>
     ensures { result ≡ root_in path.now refs.now }
 {
     let n = unc::prefix::first_end(path, 2);
-    let Found::At(i) = cache_lookup::find_prefix(refs, &path[..n]) else {
-        return Found::Nothing;
+    let Some(i) = cache_lookup::find_prefix(refs, &path[..n]) else {
+        return None;
     };
     if cache_lookup::is_root(refs, i) {
-        return Found::At(i);
+        return Some(i);
     }
-    Found::Nothing
+    None
 }
 
 // A request that names the domain of the first component.

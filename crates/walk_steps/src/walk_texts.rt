@@ -5,8 +5,6 @@ ghost use Rattle.unc.specs.names.Paths.{replaced};
 ghost use Rattle.unc.specs.names.Code.{written_within};
 ghost use Rattle.walk_steps.specs.walk_texts.Code.{with_tried};
 
-use unc::names::Written;
-
 // The units of a room.
 const ROOM: usize = 256;
 
@@ -24,20 +22,20 @@ fn copy_within(dst: &mut [u16], from: usize, at: usize, count: usize)
 
 // The path, its first `k` units replaced by the target, into the room of the path tried. One of more than 256 units is told before
 // anything is written.
-pub fn put_tried(texts: &mut [u16], len: usize, k: usize, target: &[u16]) -> Written
+pub fn put_tried(texts: &mut [u16], len: usize, k: usize, target: &[u16]) -> Option<usize>
     requires { (512 ≤ length texts.old) × ((len ≤ 256) × (k ≤ len)) }
     ensures answer { result ≡ written_within 256 (replaced target.now k (take len texts.old)) }
     ensures texts { texts.new ≡ with_tried (replaced target.now k (take len texts.old)) texts.old }
 {
     let rest = len - k;
     if ROOM - rest < target.len() {
-        return Written::TooLong;
+        return None;
     }
     let n = target.len() + rest;
     memory::copy_units(texts, ROOM, target);
     copy_within(texts, k, ROOM + target.len(), rest);
     memory::clear_units(texts, ROOM + n, ROOM - n);
-    Written::Units(n)
+    Some(n)
 }
 
 // The path tried becomes the path, and there is no path tried.

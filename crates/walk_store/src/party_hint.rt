@@ -7,7 +7,6 @@ ghost use Rattle.walk_steps.specs.steps.Held.{caches_of, core_of, question_of};
 ghost use Rattle.walk_steps.specs.rounds.Code.{targets_under, dcs_named};
 ghost use Rattle.walk_store.specs.party_hint.Code.{whose_of, lent_caches, unhinted, Unhintable, Hinting, Using};
 
-use cache_lookup::Found;
 use walk_steps::steps::{Asking, Kind};
 
 // The hint that was set, with its old value: of the targets or the DCs of the entry at a place.
@@ -50,7 +49,7 @@ fn hint_target(refs: &mut [u16], path: &[u16], q: Asking) -> Hinted
     ensures { (doms : List ℕ) (size : ℕ) (hit : Bool) → in_order domains doms ≡ true → Hinting refs.old doms result refs.new doms (target_hint_set (caches_of refs.old doms) (core_of path.now size hit) (question_of q [])) }
 {
     let entry = q.entry as usize;
-    let Found::At(i) = cache_lookup::find_prefix(refs, &path[..entry]) else {
+    let Some(i) = cache_lookup::find_prefix(refs, &path[..entry]) else {
         return Hinted::Unset;
     };
     let old = cache_lookup::target_hint(refs, i);
@@ -63,7 +62,7 @@ fn hint_dc(doms: &mut [u16], path: &[u16], q: Asking) -> Hinted
     requires { (in_order domains doms.old ≡ true) × ((good_prefix path.now ≡ true) × (q.party < dcs_named path.now doms.old)) }
     ensures { (refs : List ℕ) (size : ℕ) (hit : Bool) → in_order referrals refs ≡ true → Hinting refs doms.old result refs doms.new (dc_hint_set (caches_of refs doms.old) (core_of path.now size hit) q.party) }
 {
-    let Found::At(i) = cache_lookup::find_domain(doms, walk_steps::steps::host(path)) else {
+    let Some(i) = cache_lookup::find_domain(doms, walk_steps::steps::host(path)) else {
         return Hinted::Unset;
     };
     let old = cache_lookup::dc_hint(doms, i);

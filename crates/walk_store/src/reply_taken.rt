@@ -18,7 +18,6 @@ ghost use Rattle.walk_store.specs.reply_taken.Code.{covers_no_more, said_of, sav
 
 use crate::party_hint::Hinted;
 use cache::places::PLACE;
-use cache_lookup::Found;
 use reply_read::referral::{Answer, ReferralFound};
 use walk_steps::steps::{Asking, End, Kind, Progress};
 
@@ -179,7 +178,7 @@ fn take_dcs(
     ensures back { length saved.old ≡ 2336 → put_back result saved.new refs.now doms.new ≡ lent_caches refs.now doms.old }
     ensures after { TakenIn (length saved.old) result saved.new path.now refs.now doms.new }
 {
-    let Found::At(i) = cache_lookup::find_domain(doms, walk_steps::steps::host(path)) else {
+    let Some(i) = cache_lookup::find_domain(doms, walk_steps::steps::host(path)) else {
         // cannot come: the domain was found to be there
         return Taken::Ends(End::Gone, 0);
     };

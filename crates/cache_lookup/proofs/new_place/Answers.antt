@@ -6,4 +6,4 @@ pub returns-in_default : goal.returns-in_default
 returns-in_default c = new_oldest _ _ c.first_free.ensures c.in_default.is c.oldest_place.ensures
 
 pub returns : goal.returns
-returns c = new_free _ _ c.first_free.ensures c.in-At.is
+returns c = new_free _ _ c.first_free.ensures c.in-Some.is

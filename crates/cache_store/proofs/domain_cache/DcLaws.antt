@@ -1,4 +1,5 @@
 -- Laws of a DC reply stored into its domain entry.
+use Rattle.std.specs.Prelude.{Some}
 use mathlib.Core.Path.{◌≡◌, refl, sym, ap, ◌∙◌}
 use mathlib.Core.Bool.{true}
 use mathlib.Core.List.{List, [], ◌∷◌, map}
@@ -29,7 +30,6 @@ use Rattle.cache.proofs.order.KindLaws.{domain_told, good_domain_lem, domain_sha
 use Rattle.cache.proofs.order.PlaceLaws.{hint_good}
 use Rattle.cache_lookup.specs.Code.{entry_at}
 use Rattle.cache_lookup.specs.Lookup.{with_key}
-use Rattle.cache_lookup.specs.declared.Found.TheVariants.{At}
 use Rattle.cache_lookup.proofs.LookupLaws.{KeyAt, key_found, used_inside}
 use Rattle.cache_lookup.proofs.StoreLaws.{entry_good, entry_is, entry_start, kept_in_order}
 use Rattle.reply_read.specs.referral.Code.{is_inside}
@@ -110,7 +110,7 @@ module _ (d : Domain) (good : good_domain d ≡ true) (names : List (List ℕ)) 
       b dcs_units long (domains_lawful.long (dcs_of d names) dcs_good)
 
 -- an entry that was found by its name is held
-pub domain_found : (raw : List ℕ) → in_order domains raw ≡ true → (name : List ℕ) (i : ℕ) → with_key domains name (decode domains raw) ≡ At i → DomainAt i raw
+pub domain_found : (raw : List ℕ) → in_order domains raw ≡ true → (name : List ℕ) (i : ℕ) → with_key domains name (decode domains raw) ≡ Some i → DomainAt i raw
 domain_found raw order name i h =
     let k : KeyAt domains name (decode domains raw) i = key_found domains name (decode domains raw) i h in
     let u : i < place_count raw = rw (← length_decode domains raw) (used_inside (decode domains raw) i k.entry k.here) in

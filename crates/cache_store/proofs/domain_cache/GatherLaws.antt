@@ -1,4 +1,5 @@
 -- Laws of the loop over the entries of a domain reply.
+use Rattle.std.specs.Prelude.{Option, Some, None}
 use mathlib.Core.Path.{◌≡◌, sym, ap, ◌∙◌}
 use mathlib.Core.Bool.{true}
 use mathlib.Core.List.{List, ◌∷◌, ◌++◌, map}
@@ -17,8 +18,6 @@ use Rattle.reply_read.proofs.referral.EntryLaws.{starts_cons, starts_none, entri
 use Rattle.reply_read.specs.name_lists.NameLists.{good_domain_name, domain_at}
 use Rattle.reply_read.specs.name_lists.Code.{domain_name}
 use Rattle.reply_read.specs.referral.Code.{text_shown, text_inside}
-use Rattle.reply_read.specs.declared.referral.TextRead.{TextRead}
-use Rattle.reply_read.specs.declared.referral.TextRead.TheVariants.{Good, Bad}
 use Rattle.reply_read.proofs.referral.TextLaws.{text_inside_lem}
 use Rattle.reply_read.proofs.name_lists.SaysLaws.{name_taken, left_fits, left_name, left_next, left_read}
 use Rattle.cache_store.specs.entry_after_reply.Stored.{once}
@@ -60,11 +59,11 @@ module _ (r : List ℕ) (n : ℕ) (v : Names) (e i : ℕ) (g : Going r n v e i) 
     going_fits = left_fits r n i e h g.left
 
     -- the name at e, taken
-    module _ {t : TextRead} (d : text_shown r t ≡ domain_at r e) where
-      pub going_none : t ≡ Bad → ⊥
+    module _ {t : Option Span} (d : text_shown r t ≡ domain_at r e) where
+      pub going_none : t ≡ None → ⊥
       going_none = left_read r n i e h g.left d
 
-      pub going_name : (s : Span) → t ≡ Good s → text_inside r t ≡ true → good_name_span r s ≡ true
+      pub going_name : (s : Span) → t ≡ Some s → text_inside r t ≡ true → good_name_span r s ≡ true
       unfolding good_name_span is_inside
       going_name s k u =
           and_both (le-leb (s.from + 2 * s.units) (length r) (text_inside_lem r s k u)) (ap good_name (name_taken r e s d k) ∙ left_name r n i e h g.left)

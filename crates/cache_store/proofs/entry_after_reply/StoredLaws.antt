@@ -1,9 +1,9 @@
 -- Laws of the cache after a store: the place, the entry, and that the cache stays in order.
+use Rattle.std.specs.Prelude.{Some, Option, None}
 use mathlib.Core.Path.{◌≡◌, refl, sym, ap, ◌∙◌}
 use mathlib.Core.Bool.{Bool, true, false}
 use mathlib.Core.List.{List, [], ◌∷◌, map}
 use mathlib.Core.Logic.{◌⊎◌, inl, inr}
-use mathlib.Core.Option.{some}
 use Prim.Native.Nat.{ℕ, ◌+◌, ◌*◌, ◌<◌}
 use lib.ListN.{length, get_or, take, set}
 use lib.Dec.{leb}
@@ -20,8 +20,6 @@ use Rattle.cache.proofs.order.MemoryLaws.{cache_told, order_good, length_decode,
 use Rattle.cache.proofs.order.KindLaws.{referral_told, referrals_lawful}
 use Rattle.cache_lookup.specs.Code.{entry_at}
 use Rattle.cache_lookup.specs.Lookup.{with_key, new_place, found_or}
-use Rattle.cache_lookup.specs.declared.Found.{Found}
-use Rattle.cache_lookup.specs.declared.Found.TheVariants.{At, Nothing}
 use Rattle.cache_lookup.proofs.LookupLaws.{KeyAt, key_found, used_inside, new_inside}
 use Rattle.cache_lookup.proofs.EntryLaws.{target_hint_good}
 use Rattle.cache_lookup.proofs.StoreLaws.{entry_good, entry_units, entry_is, kept_in_order, new_in_order}
@@ -73,11 +71,11 @@ refreshed_good e q interlink clock h k = go (told (equivalent q.version e.target
 
 -- the place of a store
 module _ (clock : ℕ) (prefix : List ℕ) (ps : List (Place Referral)) where
-  pub place_found : {f : Found} {i : ℕ} → f ≡ with_key referrals prefix ps → f ≡ At i → i ≡ store_place clock prefix ps
+  pub place_found : {f : Option ℕ} {i : ℕ} → f ≡ with_key referrals prefix ps → f ≡ Some i → i ≡ store_place clock prefix ps
   unfolding store_place found_or
   place_found e h = sym (ap (found_or (new_place clock ps)) (sym e ∙ h))
 
-  pub place_new : {f : Found} {n : ℕ} → f ≡ with_key referrals prefix ps → f ≡ Nothing → n ≡ new_place clock ps → n ≡ store_place clock prefix ps
+  pub place_new : {f : Option ℕ} {n : ℕ} → f ≡ with_key referrals prefix ps → f ≡ None → n ≡ new_place clock ps → n ≡ store_place clock prefix ps
   unfolding store_place found_or
   place_new e h k = k ∙ sym (ap (found_or (new_place clock ps)) (sym e ∙ h))
 
@@ -89,7 +87,7 @@ module _ (raw : List ℕ) (order : in_order referrals raw ≡ true) where
   pub new_fits : {n : ℕ} (clock : ℕ) → n ≡ new_place clock (decode referrals raw) → n < place_count raw
   new_fits clock e = rw (e, ← length_decode referrals raw) (new_inside clock (decode referrals raw) places_some)
 
-  module _ (prefix : List ℕ) (i : ℕ) (h : with_key referrals prefix (decode referrals raw) ≡ At i) where
+  module _ (prefix : List ℕ) (i : ℕ) (h : with_key referrals prefix (decode referrals raw) ≡ Some i) where
     at : KeyAt referrals prefix (decode referrals raw) i
     at = key_found referrals prefix (decode referrals raw) i h
 
@@ -106,7 +104,7 @@ module _ (raw : List ℕ) (order : in_order referrals raw ≡ true) where
       units = entry_units referrals referrals_lawful raw i order fits at.entry at.here ∙ ap referral_units (sym entry_here);
     }
 
-    prefixed_there : prefixed prefix (decode referrals raw) ≡ some (entry_at referrals i raw)
+    prefixed_there : prefixed prefix (decode referrals raw) ≡ Some (entry_at referrals i raw)
     unfolding prefixed held held_at
     prefixed_there = rw (h, at.here, entry_here)
 
@@ -116,7 +114,7 @@ module _ (raw : List ℕ) (order : in_order referrals raw ≡ true) where
         → o ≡ encode referrals (stored (referral_shown r f) interlink clock (decode referrals raw))
     unfolding stored referral_shown stored_entry piece_of good_place
     stored_refreshed r f interlink clock s p e =
-        let w : with_key referrals (spanned r f.prefix) (decode referrals raw) ≡ At i = ap (λ (x : List ℕ). with_key referrals x (decode referrals raw)) (sym p) ∙ h in
+        let w : with_key referrals (spanned r f.prefix) (decode referrals raw) ≡ Some i = ap (λ (x : List ℕ). with_key referrals x (decode referrals raw)) (sym p) ∙ h in
         e
         ∙ (changed_encode referrals referrals_lawful raw i (used (refreshed (entry_at referrals i raw) (referral_shown r f) interlink clock)) order
         (refreshed_good (entry_at referrals i raw) (referral_shown r f) interlink clock held_there.good s.good) fits
@@ -124,8 +122,8 @@ module _ (raw : List ℕ) (order : in_order referrals raw ≡ true) where
         (used (stored_entry (sym (ap (λ (x : List ℕ). prefixed x (decode referrals raw)) (sym p) ∙ prefixed_there) j) (referral_shown r f) interlink clock)))))
 
   -- a new entry is what the store leaves where none was found
-  pub stored_inserted : (r : List ℕ) (f : ReferralFound) (interlink : Bool) (clock n : ℕ) {g : Found} {o : List ℕ} → Storable r f
-      → g ≡ with_key referrals (spanned r f.prefix) (decode referrals raw) → g ≡ Nothing → n ≡ new_place clock (decode referrals raw)
+  pub stored_inserted : (r : List ℕ) (f : ReferralFound) (interlink : Bool) (clock n : ℕ) {g : Option ℕ} {o : List ℕ} → Storable r f
+      → g ≡ with_key referrals (spanned r f.prefix) (decode referrals raw) → g ≡ None → n ≡ new_place clock (decode referrals raw)
       → o ≡ changed n (λ q. referral_units (fresh (referral_shown r f) interlink clock)) raw
       → o ≡ encode referrals (stored (referral_shown r f) interlink clock (decode referrals raw))
   unfolding stored referral_shown stored_entry piece_of good_place prefixed held
@@ -142,14 +140,14 @@ place_holds : (raw : List ℕ) → in_order referrals raw ≡ true → (i : ℕ)
 unfolding piece_of good_place
 place_holds raw order i u e g = changed_encode referrals referrals_lawful raw i (used e) order g u
 
-fresh_prefix : (r : List ℕ) (f : ReferralFound) (interlink : Bool) (clock : ℕ) (raw : List ℕ) → with_key referrals (spanned r f.prefix) (decode referrals raw) ≡ Nothing
-    → with_key referrals (fresh (referral_shown r f) interlink clock).prefix (decode referrals raw) ≡ Nothing
+fresh_prefix : (r : List ℕ) (f : ReferralFound) (interlink : Bool) (clock : ℕ) (raw : List ℕ) → with_key referrals (spanned r f.prefix) (decode referrals raw) ≡ None
+    → with_key referrals (fresh (referral_shown r f) interlink clock).prefix (decode referrals raw) ≡ None
 unfolding fresh referral_shown settings_said
 fresh_prefix r f interlink clock raw h = h
 
 -- a store keeps a cache in order
 module _ (raw : List ℕ) (order : in_order referrals raw ≡ true) (r : List ℕ) (f : ReferralFound) (s : Storable r f) (interlink : Bool) (clock : ℕ) where
-  order_refreshed : (i : ℕ) → with_key referrals (spanned r f.prefix) (decode referrals raw) ≡ At i
+  order_refreshed : (i : ℕ) → with_key referrals (spanned r f.prefix) (decode referrals raw) ≡ Some i
       → in_order referrals (encode referrals (stored (referral_shown r f) interlink clock (decode referrals raw))) ≡ true
   unfolding refreshed settings_said
   order_refreshed i h =
@@ -163,7 +161,7 @@ module _ (raw : List ℕ) (order : in_order referrals raw ≡ true) (r : List �
       ∙ (ap (in_order referrals) (place_holds raw order i p.fits e g)
       ∙ kept_in_order referrals referrals_lawful raw i order p.fits (entry_at referrals i raw) u e g refl)
 
-  order_inserted : with_key referrals (spanned r f.prefix) (decode referrals raw) ≡ Nothing
+  order_inserted : with_key referrals (spanned r f.prefix) (decode referrals raw) ≡ None
       → in_order referrals (encode referrals (stored (referral_shown r f) interlink clock (decode referrals raw))) ≡ true
   order_inserted h =
       let n = new_place clock (decode referrals raw) in
@@ -176,7 +174,7 @@ module _ (raw : List ℕ) (order : in_order referrals raw ≡ true) (r : List �
   pub store_in_order : in_order referrals (encode referrals (stored (referral_shown r f) interlink clock (decode referrals raw))) ≡ true
   store_in_order = go (with_key referrals (spanned r f.prefix) (decode referrals raw)) refl
     where
-      go : (g : Found) → with_key referrals (spanned r f.prefix) (decode referrals raw) ≡ g
+      go : (g : Option ℕ) → with_key referrals (spanned r f.prefix) (decode referrals raw) ≡ g
           → in_order referrals (encode referrals (stored (referral_shown r f) interlink clock (decode referrals raw))) ≡ true
-      go (At i) e = order_refreshed i e
-      go Nothing e = order_inserted e
+      go (Some i) e = order_refreshed i e
+      go None e = order_inserted e

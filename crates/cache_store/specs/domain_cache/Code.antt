@@ -1,5 +1,5 @@
 -- Shapes of the code, proved equal to the rules; nothing here is to be believed.
-use Rattle.std.specs.Prelude.{ℕ, ◌≤◌, ◌<◌, ◌≡◌, Bool, true, ◌&&◌, not, List, [], ◌∷◌, ◌++◌, map, length, get_or, take}
+use Rattle.std.specs.Prelude.{ℕ, ◌≤◌, ◌<◌, ◌≡◌, Bool, true, ◌&&◌, not, List, [], ◌∷◌, ◌++◌, map, length, get_or, take, Option, Some, None}
 use Rattle.laws.specs.Choice.{choose}
 use Rattle.laws.specs.Lists.{every}
 use Rattle.unc.specs.names.Names.{good_name, same_name}
@@ -10,8 +10,6 @@ use Rattle.cache_lookup.specs.Code.{entry_at}
 use Rattle.reply_bytes.specs.texts.Code.{spanned}
 use Rattle.reply_bytes.specs.declared.texts.Span.{Span}
 use Rattle.reply_read.specs.referral.Code.{is_inside}
-use Rattle.reply_read.specs.declared.referral.Asked.{Asked}
-use Rattle.reply_read.specs.declared.referral.Asked.TheVariants.{Bytes, TooShort}
 use Rattle.reply_read.specs.referral.Replies.{entries}
 use Rattle.reply_read.specs.declared.name_lists.DcsFound.{DcsFound}
 use Rattle.reply_read.specs.name_lists.NameLists.{good_domain_name}
@@ -45,9 +43,9 @@ domains_refusal TooMany = 6
 domains_refusal Unreadable = 7
 
 -- the request for a domain reply: 0 where it is written, 10 where the buffer is shorter
-unfoldable pub asked_number : Asked → ℕ
-asked_number (Bytes n) = 0
-asked_number TooShort = 10
+unfoldable pub asked_number : Option ℕ → ℕ
+asked_number (Some n) = 0
+asked_number None = 10
 
 -- Words of the functions that gather the different names of a domain reply and write them.
 

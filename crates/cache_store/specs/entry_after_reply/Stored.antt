@@ -1,6 +1,5 @@
 -- A reply stored: document 01, "Storing", and source document 001.
-use Rattle.std.specs.Prelude.{ℕ, suc, ◌-◌, Bool, true, false, ◌&&◌, not, List, [], ◌∷◌, ◌++◌, map, length, get_or, take, drop, set, replicate}
-use Rattle.std.proofs.Math.Option.{Option, none, some}
+use Rattle.std.specs.Prelude.{ℕ, suc, ◌-◌, Bool, true, false, ◌&&◌, not, List, [], ◌∷◌, ◌++◌, map, length, get_or, take, drop, set, replicate, Option, None, Some}
 use Rattle.laws.specs.Choice.{choose}
 use Rattle.laws.specs.Lists.{every}
 use Rattle.unc.specs.names.Names.{same_name}
@@ -8,8 +7,6 @@ use Rattle.unc.specs.names.Paths.{Target}
 use Rattle.cache.specs.order.Entries.{Settings, Referral, Domain, Place, free, used}
 use Rattle.cache.specs.order.Memory.{referrals}
 use Rattle.cache_lookup.specs.Lookup.{with_key, new_place, found_or}
-use Rattle.cache_lookup.specs.declared.Found.{Found}
-use Rattle.cache_lookup.specs.declared.Found.TheVariants.{At, Nothing}
 use Rattle.reply_read.specs.referral.Replies as replies
 use Rattle.cache_entry.specs.equivalent_targets.Equivalence.{equivalent}
 
@@ -66,12 +63,12 @@ store_place clock prefix ps = found_or (new_place clock ps) (with_key referrals 
 
 -- the entry at a place that was found
 unfoldable pub held_at : {E : Type 0} → Place E → Option E
-held_at free = none
-held_at (used e) = some e
+held_at free = None
+held_at (used e) = Some e
 
-unfoldable pub held : {E : Type 0} → Found → List (Place E) → Option E
-held Nothing ps = none
-held (At i) ps = held_at (get_or ps i free)
+unfoldable pub held : {E : Type 0} → Option ℕ → List (Place E) → Option E
+held None ps = None
+held (Some i) ps = held_at (get_or ps i free)
 
 -- the entry of an equal prefix
 unfoldable pub prefixed : List ℕ → List (Place Referral) → Option Referral
@@ -79,8 +76,8 @@ prefixed prefix ps = held (with_key referrals prefix ps) ps
 
 -- "if an entry has an equal prefix it is refreshed", else the entry is new
 unfoldable pub stored_entry : Option Referral → replies.ReferralReply → Bool → ℕ → Referral
-stored_entry none q interlink clock = fresh q interlink clock
-stored_entry (some e) q interlink clock = refreshed e q interlink clock
+stored_entry None q interlink clock = fresh q interlink clock
+stored_entry (Some e) q interlink clock = refreshed e q interlink clock
 
 -- the cache then: every other place stays as it was
 unfoldable pub stored : replies.ReferralReply → Bool → ℕ → List (Place Referral) → List (Place Referral)

@@ -8,7 +8,7 @@ returns-in_default c = prefix_none _ _ c.find_prefix.ensures c.in_default.is
 
 pub expire_at-requires : goal.expire_at-requires
 expire_at-requires c =
-    (c.requires, found_fits referrals c.args.refs.now c.args.prefix.now _ c.find_prefix.ensures c.in-At.is)
+    (c.requires, found_fits referrals c.args.refs.now c.args.prefix.now _ c.find_prefix.ensures c.in-Some.is)
 
 pub returns : goal.returns
-returns c = prefix_found _ _ c.find_prefix.ensures _ c.in-At.is c.expire_at.ensures
+returns c = prefix_found _ _ c.find_prefix.ensures _ c.in-Some.is c.expire_at.ensures

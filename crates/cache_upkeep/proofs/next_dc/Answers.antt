@@ -13,19 +13,19 @@ returns-in_default c = dc_none _ _ c.domains_in_order.ensures c.if-not-domains_i
 
 pub dc_count-count-requires : goal.dc_count-count-requires
 dc_count-count-requires c =
-    dc_fits c.args.doms.now c.args.name.now c.domains_in_order.ensures c.if-not-domains_in_order.false c.find_domain.ensures _ c.in-At.is
+    dc_fits c.args.doms.now c.args.name.now c.domains_in_order.ensures c.if-not-domains_in_order.false c.find_domain.ensures _ c.in-Some.is
 
 pub returns-then-count-eq0 : goal.returns-then-count-eq0
 returns-then-count-eq0 c =
-    dc_bare _ _ c.domains_in_order.ensures c.if-not-domains_in_order.false c.find_domain.ensures _ c.in-At.is
+    dc_bare _ _ c.domains_in_order.ensures c.if-not-domains_in_order.false c.find_domain.ensures _ c.in-Some.is
     c.dc_count-count.ensures c.if-count-eq0.true
 
 pub dc_hint-requires : goal.dc_hint-requires
 dc_hint-requires c =
-    dc_fits c.args.doms.now c.args.name.now c.domains_in_order.ensures c.if-not-domains_in_order.false c.find_domain.ensures _ c.in-At.is
+    dc_fits c.args.doms.now c.args.name.now c.domains_in_order.ensures c.if-not-domains_in_order.false c.find_domain.ensures _ c.in-Some.is
 
 pub after-hint-requires : goal.after-hint-requires
-after-hint-requires c = omega (arith, c.dc_count-count.ensures, count_dcs c.args.doms.now c.in-At.i)
+after-hint-requires c = omega (arith, c.dc_count-count.ensures, count_dcs c.args.doms.now c.in-Some.i)
 
 pub set_dc_hint-requires : goal.set_dc_hint-requires
 set_dc_hint-requires c =
@@ -33,13 +33,13 @@ set_dc_hint-requires c =
     let found = c.find_domain.ensures in (
       sym order ∙ c.if-not-domains_in_order.false,
       (
-        dc_fits c.args.doms.now c.args.name.now order c.if-not-domains_in_order.false found _ c.in-At.is,
-        dc_below c.args.doms.now c.args.name.now order c.if-not-domains_in_order.false found _ c.in-At.is
+        dc_fits c.args.doms.now c.args.name.now order c.if-not-domains_in_order.false found _ c.in-Some.is,
+        dc_below c.args.doms.now c.args.name.now order c.if-not-domains_in_order.false found _ c.in-Some.is
             c.dc_count-count.ensures c.if-count-eq0.false c.dc_hint.ensures c.after-hint.ensures,
       ),
     )
 
 pub returns : goal.returns
 returns c =
-    dc_moved _ _ c.domains_in_order.ensures c.if-not-domains_in_order.false c.find_domain.ensures _ c.in-At.is
+    dc_moved _ _ c.domains_in_order.ensures c.if-not-domains_in_order.false c.find_domain.ensures _ c.in-Some.is
     c.dc_count-count.ensures c.if-count-eq0.false c.dc_hint.ensures c.after-hint.ensures c.set_dc_hint.ensures

@@ -8,4 +8,4 @@ pub returns-in_default : goal.returns-in_default
 returns-in_default c = held_none _ c.head_units-n.ensures c.unpack.ensures c.in_default.is c.no_walk.ensures
 
 pub returns : goal.returns
-returns c = held_some _ c.head_units-n.ensures c.unpack.ensures _ c.in-Held.is
+returns c = held_some _ c.head_units-n.ensures c.unpack.ensures _ c.in-Some.is

@@ -1,4 +1,5 @@
 -- Laws of the lines of an entry: that they pass the tests line by line is that they list an entry that a listing can say.
+use Rattle.std.specs.Prelude.{Option, None, Some}
 use mathlib.Core.Path.{◌≡◌, refl, sym, ap, subst, ◌∙◌}
 use mathlib.Core.Bool.{Bool, true, false, true≢false, ◌&&◌, not}
 use mathlib.Core.List.{List, [], ◌∷◌, ◌++◌, map}
@@ -22,8 +23,6 @@ use Rattle.cache.specs.order.Order.{good_prefix, good_target, first_opens_none}
 use Rattle.cache.proofs.order.KindLaws.{GoodReferral, referral_told, good_referral_lem}
 use Rattle.listing_spelling.specs.spell.Spelling.{spelled, decimal}
 use Rattle.listing_spelling.specs.unspell.Reading.{unit, unspelled, is_spelled, decimal_of}
-use Rattle.listing_spelling.specs.declared.unspell.Number.{Number}
-use Rattle.listing_spelling.specs.declared.unspell.Number.TheVariants.{None, Value}
 use Rattle.listing_spelling.proofs.unspell.UnspelledLaws.{unspelled_spelled}
 use Rattle.listing_spelling.proofs.unspell.NumberLaws.{decimal_says}
 use Rattle.listing_write.specs.Form.{prefix_key, kind_key, interlink_key, failback_key, ttl_key, taken_key, hint_key, target_key, kind_word, path_line, number_line, target_lines, setting_lines, count_lines, entry_lines}
@@ -73,7 +72,7 @@ pub record NumberTold (key : List ℕ) (most : ℕ) (line : List ℕ) : Type 0 w
 number_test : (key line : List ℕ) → Bool
 number_test key line = ltb (decimal_of (value_of key line)) 4294967296 && same_list (number_line key (decimal_of (value_of key line))) line
 
-number_yes : (key line : List ℕ) → number_test key line ≡ true → number_said key line ≡ Value (decimal_of (value_of key line))
+number_yes : (key line : List ℕ) → number_test key line ≡ true → number_said key line ≡ Some (decimal_of (value_of key line))
 unfolding number_said number_test
 number_yes key line h = choose_yes _ _ h
 
@@ -97,11 +96,11 @@ number_told key most line h = go (told (number_test key line))
     go (inl k) = test_told key most line k (leb-true _ most (sym (ap (at_most most) (number_yes key line k)) ∙ h))
     go (inr k) = absurd (true≢false (sym h ∙ ap (at_most most) (number_no key line k)))
 
-number_passes : (key : List ℕ) (n : ℕ) → n < 4294967296 → number_said key (number_line key n) ≡ Value n
+number_passes : (key : List ℕ) (n : ℕ) → n < 4294967296 → number_said key (number_line key n) ≡ Some n
 unfolding number_said number_line
 number_passes key n h =
     let e : decimal_of (value_of key (key ++ decimal n)) ≡ n = ap decimal_of (value_of_lem key (decimal n)) ∙ decimal_says n h in
-    choose_yes _ _ (and_both (lt-ltb _ _ (subst (λ (x : ℕ). x < 4294967296) (sym e) h)) (same_same_list _ _ (ap (λ (x : ℕ). key ++ decimal x) e))) ∙ ap Value e
+    choose_yes _ _ (and_both (lt-ltb _ _ (subst (λ (x : ℕ). x < 4294967296) (sym e) h)) (same_same_list _ _ (ap (λ (x : ℕ). key ++ decimal x) e))) ∙ ap Some e
 
 pub number_good : (key : List ℕ) (most n : ℕ) → n < 4294967296 → n ≤ most → is_number_line key most (number_line key n) ≡ true
 unfolding is_number_line at_most
@@ -168,11 +167,11 @@ hint_cons m l ls = go (told (number_test hint_key l))
     go (inl k) =
         let d : ℕ = decimal_of (value_of hint_key l) in
         let z = test_told hint_key d l k (omega arith) in
-        ap (λ (x : Number). tested_after (least_for x) (λ (i : ℕ). good_lines 7 i ls)) (number_yes hint_key l k)
-        ∙ sym (ap (λ (x : Number). at_most 4294967295 x && good_lines 7 (8 + d) ls) (number_yes hint_key l k) ∙ and_yes_left (good_lines 7 (8 + d) ls) (le-leb d 4294967295 (omega (arith, z.small))))
+        ap (λ (x : Option ℕ). tested_after (least_for x) (λ (i : ℕ). good_lines 7 i ls)) (number_yes hint_key l k)
+        ∙ sym (ap (λ (x : Option ℕ). at_most 4294967295 x && good_lines 7 (8 + d) ls) (number_yes hint_key l k) ∙ and_yes_left (good_lines 7 (8 + d) ls) (le-leb d 4294967295 (omega (arith, z.small))))
     go (inr k) =
-        ap (λ (x : Number). tested_after (least_for x) (λ (i : ℕ). good_lines 7 i ls)) (number_no hint_key l k)
-        ∙ sym (ap (λ (x : Number). at_most 4294967295 x && good_lines 7 (8 + decimal_of (value_of hint_key l)) ls) (number_no hint_key l k))
+        ap (λ (x : Option ℕ). tested_after (least_for x) (λ (i : ℕ). good_lines 7 i ls)) (number_no hint_key l k)
+        ∙ sym (ap (λ (x : Option ℕ). at_most 4294967295 x && good_lines 7 (8 + decimal_of (value_of hint_key l)) ls) (number_no hint_key l k))
 
 -- the lines of targets
 pub record TargetsTold (ts : List (List ℕ)) (j m : ℕ) : Type 0 where

@@ -1,4 +1,5 @@
 -- Laws of the tests of one line.
+use Rattle.std.specs.Prelude.{Option, None, Some}
 use mathlib.Core.Path.{◌≡◌, refl, sym, ap, ◌∙◌}
 use mathlib.Core.Bool.{Bool, true, false, ◌&&◌, ◌||◌}
 use mathlib.Core.List.{List, [], ◌∷◌}
@@ -9,8 +10,6 @@ use borrow.Author.Tests.{eq-eqb, ne_eqb, le-ltb, lt-ltb}
 use Rattle.laws.specs.Choice.{choose}
 use Rattle.laws.specs.Listed.{same_list}
 use Rattle.laws.proofs.Choices.{choose_yes, choose_no, and_no_left, and_yes_left}
-use Rattle.listing_spelling.specs.declared.unspell.Number.{Number}
-use Rattle.listing_spelling.specs.declared.unspell.Number.TheVariants.{None, Value}
 use Rattle.listing_write.specs.Form.{prefix_key, interlink_key, failback_key, ttl_key, taken_key, hint_key, target_key, kind_word}
 use Rattle.listing_read.specs.line.Code.{is_path_line}
 use Rattle.listing_read.specs.line.Lines.{number_said}
@@ -19,21 +18,21 @@ use Rattle.listing_read.specs.declared.check_listing.Step.TheVariants.{Wrong, Le
 use Rattle.listing_read.specs.check_listing.Code.{at_most, is_number_line, is_kind_line, later_line, good_line, least_for, hint_step, step_of}
 
 -- a number
-module _ (key : List ℕ) (most : ℕ) (line : List ℕ) {r : Number} (said : r ≡ number_said key line) where
+module _ (key : List ℕ) (most : ℕ) (line : List ℕ) {r : Option ℕ} (said : r ≡ number_said key line) where
   pub within_none : r ≡ None → false ≡ is_number_line key most line
   unfolding is_number_line at_most
   within_none h = ap (at_most most) (sym h ∙ said)
 
-  pub within_some : {n : ℕ} → r ≡ Value n → leb n most ≡ is_number_line key most line
+  pub within_some : {n : ℕ} → r ≡ Some n → leb n most ≡ is_number_line key most line
   unfolding is_number_line at_most
   within_some h = ap (at_most most) (sym h ∙ said)
 
 -- the hint
-pub hint_none : (line : List ℕ) {r : Number} → r ≡ number_said hint_key line → r ≡ None → Wrong ≡ hint_step line
+pub hint_none : (line : List ℕ) {r : Option ℕ} → r ≡ number_said hint_key line → r ≡ None → Wrong ≡ hint_step line
 unfolding hint_step least_for
 hint_none line said h = ap least_for (sym h ∙ said)
 
-pub hint_some : (line : List ℕ) {r : Number} {n : ℕ} → r ≡ number_said hint_key line → r ≡ Value n → Least (8 + n) ≡ hint_step line
+pub hint_some : (line : List ℕ) {r : Option ℕ} {n : ℕ} → r ≡ number_said hint_key line → r ≡ Some n → Least (8 + n) ≡ hint_step line
 unfolding hint_step least_for
 hint_some line said h = ap least_for (sym h ∙ said)
 

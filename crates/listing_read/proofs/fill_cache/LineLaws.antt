@@ -1,4 +1,5 @@
 -- Laws of a text that begins with a line: where the line ends, what it says, and what stands after it.
+use Rattle.std.specs.Prelude.{Option, None, Some}
 use mathlib.Core.Path.{◌≡◌, refl, sym, ap, ◌∙◌}
 use mathlib.Core.Bool.{true, false}
 use mathlib.Core.List.{List, [], ◌∷◌, ◌++◌, append_assoc}
@@ -25,8 +26,6 @@ use Rattle.listing_spelling.proofs.unspell.UnspelledLaws.{unspelled_spelled}
 use Rattle.listing_spelling.proofs.unspell.NumberLaws.{decimal_says}
 use Rattle.listing_read.specs.listing_rules.Entries.{on_first, lines_of}
 use Rattle.listing_read.proofs.listing_rules.LineLaws.{later, line_cut, entry_later}
-use Rattle.listing_spelling.specs.declared.unspell.Number.{Number}
-use Rattle.listing_spelling.specs.declared.unspell.Number.TheVariants.{None, Value}
 use Rattle.listing_read.specs.fill_cache.Code.{value_at, NumberAt, PathAt}
 
 -- the first line of a text
@@ -178,16 +177,16 @@ pub line_inside : (text : List ℕ) (n : ℕ) → line_length (drop n text) < le
 line_inside text n h = omega (arith, length-drop n text)
 
 -- the value that was read is a number
-pub number_known : (s : List ℕ) {r : Number} {v : ℕ} → is_decimal s ≡ true → r ≡ decimal_form s → r ≡ Value v → v ≡ decimal_of s
+pub number_known : (s : List ℕ) {r : Option ℕ} {v : ℕ} → is_decimal s ≡ true → r ≡ decimal_form s → r ≡ Some v → v ≡ decimal_of s
 unfolding decimal_form
-number_known s {r} {v} h e f = inside (sym f ∙ (e ∙ choose_yes (Value (decimal_of s)) None h))
+number_known s {r} {v} h e f = inside (sym f ∙ (e ∙ choose_yes (Some (decimal_of s)) None h))
   where
-    inside : {a b : ℕ} → Value a ≡ Value b → a ≡ b
+    inside : {a b : ℕ} → Some a ≡ Some b → a ≡ b
     inside k = cc
 
-pub number_some : (s : List ℕ) {r : Number} → is_decimal s ≡ true → r ≡ decimal_form s → r ≡ None → ⊥
+pub number_some : (s : List ℕ) {r : Option ℕ} → is_decimal s ≡ true → r ≡ decimal_form s → r ≡ None → ⊥
 unfolding decimal_form
-number_some s {r} h e f = other (sym f ∙ (e ∙ choose_yes (Value (decimal_of s)) None h))
+number_some s {r} h e f = other (sym f ∙ (e ∙ choose_yes (Some (decimal_of s)) None h))
   where
-    other : {b : ℕ} → None ≡ Value b → ⊥
+    other : {b : ℕ} → None ≡ Some b → ⊥
     other k = let z : ◌≡◌ {A = ℕ} 0 1 = cc in omega arith

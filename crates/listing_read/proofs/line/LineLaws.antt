@@ -1,4 +1,5 @@
 -- Laws of lines that are read.
+use Rattle.std.specs.Prelude.{Option, None, Some}
 use mathlib.Core.Path.{◌≡◌, refl, sym, ap, ◌∙◌}
 use mathlib.Core.Bool.{Bool, true, false, ◌&&◌}
 use mathlib.Core.List.{List, [], ◌∷◌, ◌++◌}
@@ -24,10 +25,6 @@ use Rattle.listing_spelling.specs.spell.Spelling.{spelled, decimal, Put}
 use Rattle.listing_write.specs.Form.{path_line, number_line}
 use Rattle.listing_spelling.specs.unspell.Reading.{unspelled, is_spelled, decimal_of}
 use Rattle.listing_spelling.specs.unspell.Code.{spelled_form, is_decimal, decimal_form}
-use Rattle.listing_spelling.specs.declared.unspell.Spelled.{Spelled}
-use Rattle.listing_spelling.specs.declared.unspell.Spelled.TheVariants.{Bad, Units}
-use Rattle.listing_spelling.specs.declared.unspell.Number.{Number}
-use Rattle.listing_spelling.specs.declared.unspell.Number.TheVariants.{None, Value}
 use Rattle.listing_read.specs.line.Lines.{line_length, value_of, line_has_key, number_said}
 use Rattle.listing_read.specs.line.Code.{is_path_line}
 
@@ -90,14 +87,14 @@ module _ (key line : List ℕ) where
   pub path_other : {b : Bool} → b ≡ line_has_key key line → b ≡ false → false ≡ is_path_line key line
   path_other e h = sym (path_parts key line ∙ and_no_left _ (and_no_left _ (sym e ∙ h)))
 
-  spelled_bad : (s : List ℕ) → spelled_form s ≡ Bad → is_spelled s ≡ false
+  spelled_bad : (s : List ℕ) → spelled_form s ≡ None → is_spelled s ≡ false
   unfolding spelled_form
   spelled_bad s h = refuted (is_spelled s) (λ k. absurd_units (sym (choose_yes _ _ k) ∙ h))
     where
-      absurd_units : {n : ℕ} → Units n ≡ Bad → ⊥
+      absurd_units : {n : ℕ} → Some n ≡ None → ⊥
       absurd_units e = let z : ◌≡◌ {A = ℕ} 0 1 = cc in omega arith
 
-  pub path_bad : {r : Spelled} → r ≡ spelled_form (value_of key line) → r ≡ Bad → false ≡ is_path_line key line
+  pub path_bad : {r : Option ℕ} → r ≡ spelled_form (value_of key line) → r ≡ None → false ≡ is_path_line key line
   path_bad e h = sym (path_parts key line ∙ and_no_left (good_prefix (unspelled (value_of key line))) (and_no_right (line_has_key key line) (spelled_bad (value_of key line) (sym e ∙ h))))
 
   pub path_said : {b g : Bool} → b ≡ line_has_key key line → b ≡ true → is_spelled (value_of key line) ≡ true → g ≡ good_prefix (unspelled (value_of key line)) → g ≡ is_path_line key line
@@ -107,24 +104,24 @@ module _ (key line : List ℕ) where
   pub number_other : {b : Bool} → b ≡ line_has_key key line → b ≡ false → None ≡ number_said key line
   unfolding number_said number_line line_has_key value_of
   number_other e h =
-      sym (choose_no (Value (decimal_of (drop (length key) line))) None (and_no_right (ltb (decimal_of (drop (length key) line)) 4294967296) (key_value key (decimal (decimal_of (drop (length key) line))) line ∙ and_no_left _ (sym e ∙ h))))
+      sym (choose_no (Some (decimal_of (drop (length key) line))) None (and_no_right (ltb (decimal_of (drop (length key) line)) 4294967296) (key_value key (decimal (decimal_of (drop (length key) line))) line ∙ and_no_left _ (sym e ∙ h))))
 
-  pub number_read : {b : Bool} {r : Number} → b ≡ line_has_key key line → b ≡ true → r ≡ decimal_form (value_of key line) → r ≡ number_said key line
+  pub number_read : {b : Bool} {r : Option ℕ} → b ≡ line_has_key key line → b ≡ true → r ≡ decimal_form (value_of key line) → r ≡ number_said key line
   unfolding number_said number_line line_has_key value_of decimal_form is_decimal
   number_read e h f =
       f
-      ∙ ap (λ (t : Bool). choose (ltb (decimal_of (drop (length key) line)) 4294967296 && t) (Value (decimal_of (drop (length key) line))) None)
+      ∙ ap (λ (t : Bool). choose (ltb (decimal_of (drop (length key) line)) 4294967296 && t) (Some (decimal_of (drop (length key) line))) None)
       (sym (key_value key (decimal (decimal_of (drop (length key) line))) line ∙ and_yes_left _ (sym e ∙ h)))
 
 -- what a form says
-pub spelled_good : (s : List ℕ) {r : Spelled} {n : ℕ} → r ≡ spelled_form s → r ≡ Units n → (is_spelled s ≡ true) × (n ≡ length (unspelled s))
+pub spelled_good : (s : List ℕ) {r : Option ℕ} {n : ℕ} → r ≡ spelled_form s → r ≡ Some n → (is_spelled s ≡ true) × (n ≡ length (unspelled s))
 unfolding spelled_form
 spelled_good s {r} {n} e h = go (told (is_spelled s))
   where
-    wrong : Bad ≡ Units n → ⊥
+    wrong : None ≡ Some n → ⊥
     wrong k = let z : ◌≡◌ {A = ℕ} 0 1 = cc in omega arith
 
-    inside : {m : ℕ} → Units m ≡ Units n → n ≡ m
+    inside : {m : ℕ} → Some m ≡ Some n → n ≡ m
     inside k = cc
 
     go : (is_spelled s ≡ true) ⊎ (is_spelled s ≡ false) → (is_spelled s ≡ true) × (n ≡ length (unspelled s))

@@ -1,11 +1,9 @@
 -- Shapes of the code, proved equal to the rules; nothing here is to be believed.
-use Rattle.std.specs.Prelude.{ℕ, suc, ◌+◌, List, [], ◌∷◌, ◌++◌, length, get_or, Bool, true, false, ◌&&◌, ◌||◌, not, eqb, leb, ltb}
+use Rattle.std.specs.Prelude.{ℕ, suc, ◌+◌, List, [], ◌∷◌, ◌++◌, length, get_or, Bool, true, false, ◌&&◌, ◌||◌, not, eqb, leb, ltb, Option, None, Some}
 use Rattle.laws.specs.Choice.{choose}
 use Rattle.laws.specs.Lists.{every}
 use Rattle.laws.specs.Listed.{same_list}
 use Rattle.unc.specs.names.Names.{same_name}
-use Rattle.listing_spelling.specs.declared.unspell.Number.{Number}
-use Rattle.listing_spelling.specs.declared.unspell.Number.TheVariants.{None, Value}
 use Rattle.listing_write.specs.Form.{prefix_key, kind_key, interlink_key, failback_key, ttl_key, taken_key, hint_key, target_key, kind_word}
 use Rattle.listing_read.specs.line.Code.{is_path_line}
 use Rattle.listing_read.specs.line.Lines.{number_said}
@@ -24,9 +22,9 @@ checked text = choose (is_listing text) (Entries (length (entries_said text))) B
 -- Words of the tests that the code makes line by line; that together they are the test of a listing is a law.
 
 -- a number of at most m
-unfoldable pub at_most : ℕ → Number → Bool
+unfoldable pub at_most : ℕ → Option ℕ → Bool
 at_most m None = false
-at_most m (Value n) = leb n m
+at_most m (Some n) = leb n m
 
 -- a line of such a number
 unfoldable pub is_number_line : List ℕ → ℕ → List ℕ → Bool
@@ -47,9 +45,9 @@ good_line j line =
     (choose (eqb j 1) (is_kind_line line) (choose (eqb j 2) (is_number_line interlink_key 1 line) (choose (eqb j 3) (is_number_line failback_key 1 line) (later_line j line))))
 
 -- an entry whose hint is h has at least 8 + h lines
-unfoldable pub least_for : Number → Step
+unfoldable pub least_for : Option ℕ → Step
 least_for None = Wrong
-least_for (Value h) = Least (8 + h)
+least_for (Some h) = Least (8 + h)
 
 unfoldable pub hint_step : List ℕ → Step
 hint_step line = least_for (number_said hint_key line)

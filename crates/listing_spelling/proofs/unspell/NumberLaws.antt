@@ -1,4 +1,5 @@
 -- Laws of decimals that are read.
+use Rattle.std.specs.Prelude.{None, Some}
 use mathlib.Core.Path.{◌≡◌, refl, sym, ap, subst, ◌∙◌}
 use mathlib.Core.Bool.{Bool, true, false, ◌&&◌}
 use mathlib.Core.List.{List, [], ◌∷◌, ◌++◌}
@@ -17,7 +18,6 @@ use Rattle.listing_spelling.specs.spell.Spelling.{decimal}
 use Rattle.listing_spelling.proofs.spell.DecimalLaws.{decimal_low, decimal_high}
 use Rattle.listing_spelling.specs.unspell.Reading.{value_from, decimal_of}
 use Rattle.listing_spelling.specs.unspell.Code.{is_decimal, decimal_form}
-use Rattle.listing_spelling.specs.declared.unspell.Number.TheVariants.{None, Value}
 
 -- the last unit of a list
 same_last : (p q : List ℕ) (a b : ℕ) → same_list (p ++ (a ∷ [])) (q ++ (b ∷ [])) ≡ (same_list p q && eqb a b)
@@ -127,14 +127,14 @@ number_told s i n e h = e ∙ value_end s i n h
 
 pub number_bad : (s : List ℕ) (n : ℕ) → decimal_of s ≡ n → same_list (decimal n) s ≡ false → None ≡ decimal_form s
 unfolding decimal_form is_decimal
-number_bad s n e h = sym (choose_no (Value (decimal_of s)) None (and_no_right (ltb (decimal_of s) 4294967296) (ap (λ (x : ℕ). same_list (decimal x) s) e ∙ h)))
+number_bad s n e h = sym (choose_no (Some (decimal_of s)) None (and_no_right (ltb (decimal_of s) 4294967296) (ap (λ (x : ℕ). same_list (decimal x) s) e ∙ h)))
 
-pub number_good : (s : List ℕ) (n : ℕ) → decimal_of s ≡ n → n < 4294967296 → same_list (decimal n) s ≡ true → Value n ≡ decimal_form s
+pub number_good : (s : List ℕ) (n : ℕ) → decimal_of s ≡ n → n < 4294967296 → same_list (decimal n) s ≡ true → Some n ≡ decimal_form s
 unfolding decimal_form is_decimal
 number_good s n e l h =
     sym
     (choose_yes _ _ (and_both (lt-ltb (decimal_of s) 4294967296 (omega arith)) (ap (λ (x : ℕ). same_list (decimal x) s) e ∙ h))
-    ∙ ap Value e)
+    ∙ ap Some e)
 
 -- a number written in decimal says itself
 value_last : (n : ℕ) (s : List ℕ) (u : ℕ) → value_from n (s ++ (u ∷ [])) ≡ 10 * value_from n s + (u - 48)

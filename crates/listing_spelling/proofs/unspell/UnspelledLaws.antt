@@ -1,4 +1,5 @@
 -- Laws of what spelled texts say.
+use Rattle.std.specs.Prelude.{Option, None, Some}
 use mathlib.Core.Path.{◌≡◌, refl, sym, ap, subst, ◌∙◌}
 use mathlib.Core.Bool.{Bool, true, false, true≢false, ◌&&◌, not}
 use mathlib.Core.List.{List, [], ◌∷◌, ◌++◌}
@@ -22,8 +23,6 @@ use Rattle.listing_spelling.proofs.spell.SpellingLaws.{unit_stands, unit_escaped
 use Rattle.listing_spelling.proofs.spell.PutLaws.{Left}
 use Rattle.listing_spelling.specs.unspell.Reading.{hex_of, unspelled_from, unspelled, is_spelled, unit}
 use Rattle.listing_spelling.specs.unspell.Code.{spelled_form, hex_digits, is_escape}
-use Rattle.listing_spelling.specs.declared.unspell.Spelled.{Spelled}
-use Rattle.listing_spelling.specs.declared.unspell.Spelled.TheVariants.{Bad, Units}
 use Rattle.listing_spelling.proofs.unspell.HexLaws.{Escape, escape_told, digits_back, hex_small, hex_back, unit_hex}
 
 head_same : {a b : ℕ} {s t : List ℕ} → a ∷ s ≡ b ∷ t → a ≡ b
@@ -160,18 +159,18 @@ unspelled_spelled (u ∷ s) h = go (unspelled_spelled s (and_right (unit u) _ h)
     go i (inr k) = ap (λ (x : List ℕ). unspelled (x ++ spelled s)) (unit_escaped u k) ∙ escaped i
 
 -- over the units of a text
-pub form_from : ℕ → List ℕ → Spelled
-form_from n t = choose (is_spelled t) (Units (n + length (unspelled t))) Bad
+pub form_from : ℕ → List ℕ → Option ℕ
+form_from n t = choose (is_spelled t) (Some (n + length (unspelled t))) None
 
 pub form_start : (s : List ℕ) → spelled_form s ≡ form_from 0 s
 unfolding spelled_form form_from
-form_start s = ap (λ (x : ℕ). choose (is_spelled s) (Units x) Bad) (let e : length (unspelled s) ≡ 0 + length (unspelled s) = omega arith in e)
+form_start s = ap (λ (x : ℕ). choose (is_spelled s) (Some x) None) (let e : length (unspelled s) ≡ 0 + length (unspelled s) = omega arith in e)
 
 form_same : (n : ℕ) (t : List ℕ) (v : ℕ) (r : List ℕ) → is_spelled t ≡ is_spelled r → unspelled t ≡ v ∷ unspelled r → form_from n t ≡ form_from (n + 1) r
 unfolding form_from
 form_same n t v r e f =
     let k : n + length (unspelled t) ≡ n + 1 + length (unspelled r) = omega (arith, ap length f) in
-    λ i. choose (e i) (Units (k i)) Bad
+    λ i. choose (e i) (Some (k i)) None
 
 module _ (s : List ℕ) (i : ℕ) (more : i < length s) where
   there : drop i s ≡ get_or s i 0 ∷ drop (i + 1) s
@@ -191,7 +190,7 @@ module _ (s : List ℕ) (i : ℕ) (more : i < length s) where
   pub escape_within : is_escape (drop i s) ≡ true → i + 5 ≤ length s
   escape_within h = omega (arith, escape_long _ (escape_told (drop i s) h), length-drop i s)
 
-  pub form_bad : (n : ℕ) → stands (get_or s i 0) ≡ false → is_escape (drop i s) ≡ false → Bad ≡ form_from n (drop i s)
+  pub form_bad : (n : ℕ) → stands (get_or s i 0) ≡ false → is_escape (drop i s) ≡ false → None ≡ form_from n (drop i s)
   unfolding form_from
   form_bad n h k =
       sym
@@ -221,13 +220,13 @@ module _ (s : List ℕ) (i : ℕ) (more : i < length s) where
       let e = escape_told (drop i s) (tilde_escape h t) in
       (omega (arith, escape_long _ e, length-drop i s), subst (λ (x : List ℕ). hex_of x < 65536) (drop-drop 1 i s) (escape_small _ e))
 
-pub form_end : (s : List ℕ) (i n : ℕ) → length s ≤ i → Units n ≡ form_from n (drop i s)
+pub form_end : (s : List ℕ) (i n : ℕ) → length s ≤ i → Some n ≡ form_from n (drop i s)
 unfolding form_from is_spelled same_list spelled
 form_end s i n h =
     let d = drop_of_length-le s h in
     let u : unspelled (drop i s) ≡ [] = ap unspelled d ∙ says_nothing in
     let k : n + length (unspelled (drop i s)) ≡ n = omega (arith, ap length u) in
-    sym (choose_yes _ _ (ap (λ (x : List ℕ). same_list (spelled x) (drop i s)) u ∙ ap (same_list []) d) ∙ ap Units k)
+    sym (choose_yes _ _ (ap (λ (x : List ℕ). same_list (spelled x) (drop i s)) u ∙ ap (same_list []) d) ∙ ap Some k)
 
 pub says_end : (s : List ℕ) (i : ℕ) → length s ≤ i → unspelled (drop i s) ≡ []
 says_end s i h = ap unspelled (drop_of_length-le s h) ∙ says_nothing

@@ -1,17 +1,13 @@
 -- Shapes of the code, proved equal to the rules; nothing here is to be believed.
-use Rattle.std.specs.Prelude.{ℕ, Bool, ◌&&◌, not, List, length, get_or, drop, leb, ltb, eqb}
+use Rattle.std.specs.Prelude.{ℕ, Bool, ◌&&◌, not, List, length, get_or, drop, leb, ltb, eqb, Option, None, Some}
 use Rattle.laws.specs.Choice.{choose}
 use Rattle.laws.specs.Listed.{same_list}
 use Rattle.listing_spelling.specs.spell.Spelling.{tilde, stands, decimal}
-use Rattle.listing_spelling.specs.declared.unspell.Spelled.{Spelled}
-use Rattle.listing_spelling.specs.declared.unspell.Spelled.TheVariants.{Bad, Units}
-use Rattle.listing_spelling.specs.declared.unspell.Number.{Number}
-use Rattle.listing_spelling.specs.declared.unspell.Number.TheVariants.{None, Value}
 use Rattle.listing_spelling.specs.unspell.Reading.{is_spelled, unspelled, hex_digit, hex_of, decimal_of}
 
 -- whether a text is a spelling, and of how many units
-unfoldable pub spelled_form : List ℕ → Spelled
-spelled_form s = choose (is_spelled s) (Units (length (unspelled s))) Bad
+unfoldable pub spelled_form : List ℕ → Option ℕ
+spelled_form s = choose (is_spelled s) (Some (length (unspelled s))) None
 
 -- the first four units of a text are hex digits
 unfoldable pub hex_digits : List ℕ → Bool
@@ -26,5 +22,5 @@ unfoldable pub is_decimal : List ℕ → Bool
 is_decimal s = ltb (decimal_of s) 4294967296 && same_list (decimal (decimal_of s)) s
 
 -- and of which
-unfoldable pub decimal_form : List ℕ → Number
-decimal_form s = choose (is_decimal s) (Value (decimal_of s)) None
+unfoldable pub decimal_form : List ℕ → Option ℕ
+decimal_form s = choose (is_decimal s) (Some (decimal_of s)) None

@@ -1,4 +1,5 @@
 -- Laws of units, spans and texts in bytes.
+use Rattle.std.specs.Prelude.{Some, None}
 use mathlib.Core.Path.{◌≡◌, refl, sym, ap, ◌∙◌, subst}
 use mathlib.Core.Bool.{Bool, true, false}
 use mathlib.Core.List.{List, [], ◌∷◌}
@@ -20,7 +21,6 @@ use Rattle.unc.specs.names.Names.{same_unit}
 use Rattle.reply_bytes.specs.texts.Bytes.{u16_at, Text, terminated, unterminated, longer, text, text_from}
 use Rattle.reply_bytes.specs.texts.Code.{units_at, spanned, Inside, part_of, text_end}
 use Rattle.reply_bytes.specs.declared.texts.Span.{Span}
-use Rattle.reply_bytes.specs.declared.texts.Read.TheVariants.{Ended, Unended}
 
 -- units by their places
 pub length_units : (n i : ℕ) (r : List ℕ) → length (units_at n i r) ≡ n
@@ -83,21 +83,21 @@ two_bytes r i h =
 
 text_longer : (at n u : ℕ) (t : Text) → text_end at n (longer u t) ≡ text_end at (n + 1) t
 unfolding text_end longer
-text_longer at n u (terminated s) = let q : n + suc (length s) ≡ n + 1 + length s = omega arith in λ j. Ended (record { from = at; units = q j })
+text_longer at n u (terminated s) = let q : n + suc (length s) ≡ n + 1 + length s = omega arith in λ j. Some (record { from = at; units = q j })
 text_longer at n u unterminated = refl
 
 module _ (r : List ℕ) (at i n : ℕ) where
-  pub text_over : length r ≤ i → Unended ≡ text_end at n (text_from r i)
+  pub text_over : length r ≤ i → None ≡ text_end at n (text_from r i)
   unfolding text_from text text_end
   text_over h = rw (drop_of_length-le r h)
 
-  pub text_half : i < length r → length r - i < 2 → Unended ≡ text_end at n (text_from r i)
+  pub text_half : i < length r → length r - i < 2 → None ≡ text_end at n (text_from r i)
   unfolding text_from text text_end
   text_half h k = rw (drop-cons r i 0 h, drop_of_length-le r {i = suc i} (omega arith))
 
-  pub text_zero : {u : ℕ} → i + 1 < length r → u ≡ u16_at r i → u ≡ 0 → Ended (record { from = at; units = n }) ≡ text_end at n (text_from r i)
+  pub text_zero : {u : ℕ} → i + 1 < length r → u ≡ u16_at r i → u ≡ 0 → Some (record { from = at; units = n }) ≡ text_end at n (text_from r i)
   unfolding text_from text text_end u16_at choose
-  text_zero h e k = rw (two_bytes r i h, eq-eqb _ _ (sym e ∙ k)) (λ j. Ended (record { from = at; units = sym (add-zero n) j }))
+  text_zero h e k = rw (two_bytes r i h, eq-eqb _ _ (sym e ∙ k)) (λ j. Some (record { from = at; units = sym (add-zero n) j }))
 
   pub text_more : {u : ℕ} → i + 1 < length r → u ≡ u16_at r i → (u ≡ 0 → ⊥) → text_end at n (text_from r i) ≡ text_end at (n + 1) (text_from r (i + 2))
   unfolding text_from text u16_at choose
@@ -152,7 +152,7 @@ begins [] t h = absurd (never_ended t h)
 begins (a ∷ []) t h = absurd (never_ended t h)
 begins (a ∷ (b ∷ s)) t h = first a b s t (begins s) (told (eqb (a + 256 * b) 0)) h
 
-unended_text : (i : ℕ) (x : Text) → Unended ≡ text_end i 0 x → x ≡ unterminated
+unended_text : (i : ℕ) (x : Text) → None ≡ text_end i 0 x → x ≡ unterminated
 unfolding text_end
 unended_text i unterminated h = refl
 unended_text i (terminated s) h = absurd (let z : ◌≡◌ {A = ℕ} 0 1 = cc in omega arith)
@@ -162,7 +162,7 @@ pub record EndedAt (r : List ℕ) (i : ℕ) (s : Span) : Type 0 where
   pub from_is : s.from ≡ i
   pub within : s.from + (2 * s.units + 2) ≤ length r
 
-ended_text : (r : List ℕ) (i : ℕ) (s : Span) (x : Text) → ((y : List ℕ) → x ≡ terminated y → Begins (drop i r) y) → Ended s ≡ text_end i 0 x → text_from r i ≡ x → EndedAt r i s
+ended_text : (r : List ℕ) (i : ℕ) (s : Span) (x : Text) → ((y : List ℕ) → x ≡ terminated y → Begins (drop i r) y) → Some s ≡ text_end i 0 x → text_from r i ≡ x → EndedAt r i s
 unfolding text_end spanned
 ended_text r i s unterminated f h e = absurd (let z : ◌≡◌ {A = ℕ} 0 1 = cc in omega arith)
 ended_text r i s (terminated y) f h e =
@@ -178,11 +178,11 @@ ended_text r i s (terminated y) f h e =
       within = omega (arith, w, length-drop i r);
     }
 
-pub ended_at_lem : (r : List ℕ) (i : ℕ) (s : Span) → Ended s ≡ text_end i 0 (text_from r i) → EndedAt r i s
+pub ended_at_lem : (r : List ℕ) (i : ℕ) (s : Span) → Some s ≡ text_end i 0 (text_from r i) → EndedAt r i s
 unfolding text_from
 ended_at_lem r i s h = ended_text r i s (text (drop i r)) (begins (drop i r)) h refl
 
-pub unended_at : (r : List ℕ) (i : ℕ) → Unended ≡ text_end i 0 (text_from r i) → text_from r i ≡ unterminated
+pub unended_at : (r : List ℕ) (i : ℕ) → None ≡ text_end i 0 (text_from r i) → text_from r i ≡ unterminated
 unended_at r i h = unended_text i (text_from r i) h
 
 -- a unit of each of two lists, compared

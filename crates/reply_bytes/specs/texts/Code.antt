@@ -1,9 +1,7 @@
 -- Shapes of the code, proved equal to the rules; nothing here is to be believed.
-use Rattle.std.specs.Prelude.{ℕ, zero, suc, ◌+◌, ◌*◌, ◌-◌, ◌≤◌, List, [], ◌∷◌, length}
+use Rattle.std.specs.Prelude.{ℕ, zero, suc, ◌+◌, ◌*◌, ◌-◌, ◌≤◌, List, [], ◌∷◌, length, Option, Some, None}
 use Rattle.reply_bytes.specs.texts.Bytes.{Text, terminated, unterminated, u16_at}
 use Rattle.reply_bytes.specs.declared.texts.Span.{Span}
-use Rattle.reply_bytes.specs.declared.texts.Read.{Read}
-use Rattle.reply_bytes.specs.declared.texts.Read.TheVariants.{Ended, Unended}
 
 -- n units from place i on
 unfoldable pub units_at : ℕ → ℕ → List ℕ → List ℕ
@@ -25,6 +23,6 @@ abbrev pub part_of : Span → ℕ → ℕ → Span
 part_of s a e = record { from = s.from + 2 * a; units = e - a }
 
 -- what reading a text that starts at byte i answers, n units of it read already
-unfoldable pub text_end : ℕ → ℕ → Text → Read
-text_end i n (terminated s) = Ended (record { from = i; units = n + length s })
-text_end i n unterminated = Unended
+unfoldable pub text_end : ℕ → ℕ → Text → Option Span
+text_end i n (terminated s) = Some (record { from = i; units = n + length s })
+text_end i n unterminated = None

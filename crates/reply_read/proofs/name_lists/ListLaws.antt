@@ -1,8 +1,8 @@
 -- Laws of DC and domain replies.
+use Rattle.std.specs.Prelude.{Option, None, Some}
 use mathlib.Core.Path.{◌≡◌, refl, sym, ap, ◌∙◌, subst}
 use mathlib.Core.Bool.{Bool, true, false, ◌&&◌, not, true≢false}
 use mathlib.Core.List.{List, [], ◌∷◌, ◌++◌, map}
-use mathlib.Core.Option.{Option, none, some}
 use mathlib.Core.Logic.{◌⊎◌, inl, inr}
 use Prim.Native.Nat.{ℕ, suc, ◌+◌, ◌-◌, ◌*◌, ◌≤◌, ◌<◌, min}
 use native.Mathlib.Omega.{arith}
@@ -49,51 +49,51 @@ module _ (u : List ℕ) where
   unfolding bare
   bare_drops h = sym (choose_yes (drop 1 u) u (eq-eqb (get_or u 0 0) 92 h))
 
-  pub dc_yes : {b : List ℕ} {t : Bool} → b ≡ bare u → t ≡ good_name b → t ≡ true → some b ≡ dc_of (terminated u)
+  pub dc_yes : {b : List ℕ} {t : Bool} → b ≡ bare u → t ≡ good_name b → t ≡ true → Some b ≡ dc_of (terminated u)
   unfolding dc_of
-  dc_yes e f h = (λ i. some (e i)) ∙ sym (choose_yes (some (bare u)) none (sym (f ∙ ap good_name e) ∙ h))
+  dc_yes e f h = (λ i. Some (e i)) ∙ sym (choose_yes (Some (bare u)) None (sym (f ∙ ap good_name e) ∙ h))
 
-  pub dc_no : {b : List ℕ} {t : Bool} → b ≡ bare u → t ≡ good_name b → t ≡ false → dc_of (terminated u) ≡ none
+  pub dc_no : {b : List ℕ} {t : Bool} → b ≡ bare u → t ≡ good_name b → t ≡ false → dc_of (terminated u) ≡ None
   unfolding dc_of
-  dc_no e f h = choose_no (some (bare u)) none (sym (f ∙ ap good_name e) ∙ h)
+  dc_no e f h = choose_no (Some (bare u)) None (sym (f ∙ ap good_name e) ∙ h)
 
-  pub domain_unled : (get_or u 0 0 ≡ 92 → ⊥) → domain_said (terminated u) ≡ none
+  pub domain_unled : (get_or u 0 0 ≡ 92 → ⊥) → domain_said (terminated u) ≡ None
   unfolding domain_said
-  domain_unled h = choose_no (some (drop 1 u)) none (and_no_left _ (ne_eqb (get_or u 0 0) 92 h))
+  domain_unled h = choose_no (Some (drop 1 u)) None (and_no_left _ (ne_eqb (get_or u 0 0) 92 h))
 
-  pub domain_no : {b : List ℕ} {t : Bool} → b ≡ drop 1 u → t ≡ good_name b → t ≡ false → domain_said (terminated u) ≡ none
+  pub domain_no : {b : List ℕ} {t : Bool} → b ≡ drop 1 u → t ≡ good_name b → t ≡ false → domain_said (terminated u) ≡ None
   unfolding domain_said
-  domain_no e f h = choose_no (some (drop 1 u)) none (and_no_right (eqb (get_or u 0 0) 92) (sym (f ∙ ap good_name e) ∙ h))
+  domain_no e f h = choose_no (Some (drop 1 u)) None (and_no_right (eqb (get_or u 0 0) 92) (sym (f ∙ ap good_name e) ∙ h))
 
-  pub domain_yes : {b : List ℕ} {t : Bool} → get_or u 0 0 ≡ 92 → b ≡ drop 1 u → t ≡ good_name b → t ≡ true → some b ≡ domain_said (terminated u)
+  pub domain_yes : {b : List ℕ} {t : Bool} → get_or u 0 0 ≡ 92 → b ≡ drop 1 u → t ≡ good_name b → t ≡ true → Some b ≡ domain_said (terminated u)
   unfolding domain_said
-  domain_yes g e f h = (λ i. some (e i)) ∙ sym (choose_yes (some (drop 1 u)) none (and_both (eq-eqb (get_or u 0 0) 92 g) (sym (f ∙ ap good_name e) ∙ h)))
+  domain_yes g e f h = (λ i. Some (e i)) ∙ sym (choose_yes (Some (drop 1 u)) None (and_both (eq-eqb (get_or u 0 0) 92 g) (sym (f ∙ ap good_name e) ∙ h)))
 
-pub domain_unended : {t : Text} → t ≡ unterminated → domain_said t ≡ none
+pub domain_unended : {t : Text} → t ≡ unterminated → domain_said t ≡ None
 unfolding domain_said
 domain_unended e = ap domain_said e
 
-pub dc_unended : {t : Text} → t ≡ unterminated → dc_of t ≡ none
+pub dc_unended : {t : Text} → t ≡ unterminated → dc_of t ≡ None
 unfolding dc_of
 dc_unended e = ap dc_of e
 
 -- What reading a DC name answers, and what is known of it where it is taken.
 module _ (r : List ℕ) (i : ℕ) where
-  pub no_dc_lem : {x : Option (List ℕ)} → x ≡ none → (dc_shown r NoName ≡ x) × (dc_placed r i NoName ≡ true)
+  pub no_dc_lem : {x : Option (List ℕ)} → x ≡ None → (dc_shown r NoName ≡ x) × (dc_placed r i NoName ≡ true)
   unfolding dc_shown dc_placed
   no_dc_lem e = (sym e, refl)
 
-  pub some_dc : (s : Span) (next : ℕ) {x : Option (List ℕ)} → x ≡ some (spanned r s) → Inside r s → next ≡ i → (dc_shown r (Name s next) ≡ x) × (dc_placed r i (Name s next) ≡ true)
+  pub some_dc : (s : Span) (next : ℕ) {x : Option (List ℕ)} → x ≡ Some (spanned r s) → Inside r s → next ≡ i → (dc_shown r (Name s next) ≡ x) × (dc_placed r i (Name s next) ≡ true)
   unfolding dc_shown dc_placed
   some_dc s next e h k = (sym e, and_both (inside_test r s h) (eq-eqb next i k))
 
 module _ (r : List ℕ) {v : DcRead} where
-  pub dc_bad : v ≡ NoName → {x : Option (List ℕ)} → dc_shown r v ≡ x → x ≡ none
+  pub dc_bad : v ≡ NoName → {x : Option (List ℕ)} → dc_shown r v ≡ x → x ≡ None
   unfolding dc_shown
   dc_bad e f = sym f ∙ ap (dc_shown r) e
 
   module _ (s : Span) (next : ℕ) (e : v ≡ Name s next) where
-    pub dc_good : {x : Option (List ℕ)} → dc_shown r v ≡ x → x ≡ some (spanned r s)
+    pub dc_good : {x : Option (List ℕ)} → dc_shown r v ≡ x → x ≡ Some (spanned r s)
     unfolding dc_shown
     dc_good f = sym f ∙ ap (dc_shown r) e
 
@@ -125,16 +125,16 @@ module _ (r : List ℕ) (n i at : ℕ) where
   unfolding texts_at
   texts_none h = let q : n - i ≡ 0 = omega arith in ap (λ (m : ℕ). texts_at m at r) q
 
-  pub names_miss : i < n → dc_of (text_from r at) ≡ none → every is_read (map dc_of (texts_at (n - i) at r)) ≡ false
+  pub names_miss : i < n → dc_of (text_from r at) ≡ None → every is_read (map dc_of (texts_at (n - i) at r)) ≡ false
   unfolding every is_read
   names_miss h k =
       ap (λ (x : List Text). every is_read (map dc_of x)) (texts_cons h)
       ∙ ap (λ (x : Option (List ℕ)). is_read x && every is_read (map dc_of (texts_at (n - (i + 1)) (at + bytes_past (text_from r at)) r))) k
 
-  pub names_left : i < n → every is_read (map dc_of (texts_at (n - i) at r)) ≡ true → dc_of (text_from r at) ≡ none → ⊥
+  pub names_left : i < n → every is_read (map dc_of (texts_at (n - i) at r)) ≡ true → dc_of (text_from r at) ≡ None → ⊥
   names_left h g k = true≢false (sym g ∙ names_miss h k)
 
-  module _ (s : Span) (a : dc_of (text_from r at) ≡ some (spanned r s)) {z : ℕ} (b : z ≡ at + bytes_past (text_from r at)) where
+  module _ (s : Span) (a : dc_of (text_from r at) ≡ Some (spanned r s)) {z : ℕ} (b : z ≡ at + bytes_past (text_from r at)) where
     pub names_hit : i < n → every is_read (map dc_of (texts_at (n - i) at r)) ≡ every is_read (map dc_of (texts_at (n - (i + 1)) z r))
     unfolding every is_read
     names_hit h =
@@ -257,7 +257,7 @@ module _ (r : List ℕ) (e : ℕ) where
     unfolding entry_flag
     domain_flag i j h = sym (domain_rest ∙ and_no_left _ (sym (j ∙ ap (flag 2) i) ∙ h))
 
-    pub domain_good : {f : ℕ} {g : Bool} → f ≡ u16_at r (e + 6) → g ≡ flag 2 f → g ≡ true → {s : List ℕ} → domain_at r e ≡ some s → true ≡ good_domain_name r e
+    pub domain_good : {f : ℕ} {g : Bool} → f ≡ u16_at r (e + 6) → g ≡ flag 2 f → g ≡ true → {s : List ℕ} → domain_at r e ≡ Some s → true ≡ good_domain_name r e
     unfolding entry_flag is_read
     domain_good i j h k = sym (domain_rest ∙ and_both (sym (j ∙ ap (flag 2) i) ∙ h) (ap is_read k))
 
@@ -265,7 +265,7 @@ module _ (r : List ℕ) (e : ℕ) where
   unfolding good_domain_name
   domain_told = refl
 
-  pub domain_bad : domain_at r e ≡ none → false ≡ good_domain_name r e
+  pub domain_bad : domain_at r e ≡ None → false ≡ good_domain_name r e
   unfolding is_read
   domain_bad h =
       sym
@@ -280,7 +280,7 @@ module _ (r : List ℕ) (e : ℕ) where
   domain_fit f h = fits_room 18 r e refl (and_left _ _ (and_right (eqb (version_at r e) 3) _ (sym f ∙ h)))
 
 -- the names of good entries are read
-pub domains_read : (r es : List ℕ) → every (good_domain_name r) es ≡ true → all_read (map (domain_at r) es) ≡ some (map (domain_name r) es)
+pub domains_read : (r es : List ℕ) → every (good_domain_name r) es ≡ true → all_read (map (domain_at r) es) ≡ Some (map (domain_name r) es)
 unfolding every all_read with_first domain_name
 domains_read r [] h = refl
 domains_read r (e ∷ es) h =
@@ -288,7 +288,7 @@ domains_read r (e ∷ es) h =
     ∙ ap (with_first (domain_name r e)) (domains_read r es (and_right (good_domain_name r e) _ h))
 
 -- which way a reply is read
-pub answer_says : {A : Type 0} {x : Option A} {a : A} → x ≡ some a → Says ≡ answer_of (read_or x)
+pub answer_says : {A : Type 0} {x : Option A} {a : A} → x ≡ Some a → Says ≡ answer_of (read_or x)
 unfolding read_or answer_of
 answer_says e = sym (ap (λ (y : Option _). answer_of (read_or y)) e)
 

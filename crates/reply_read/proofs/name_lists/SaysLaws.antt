@@ -1,8 +1,8 @@
 -- What is known of DC and domain replies that say something: for the crates above.
+use Rattle.std.specs.Prelude.{None, Some, Option}
 use mathlib.Core.Path.{◌≡◌, refl, sym, ap, ◌∙◌, subst}
 use mathlib.Core.Bool.{Bool, true, false, ◌&&◌, not}
 use mathlib.Core.List.{List, [], ◌∷◌, map}
-use mathlib.Core.Option.{none, some}
 use Prim.Native.Nat.{ℕ, zero, suc, ◌+◌, ◌-◌, ◌≤◌, ◌<◌, min}
 use native.Mathlib.Omega.{arith}
 use lib.Dec.{eqb}
@@ -20,8 +20,6 @@ use Rattle.reply_read.specs.referral.Replies.{referral_count, starts, entries, s
 use Rattle.reply_read.specs.referral.Code.{units_read, text_shown, reply_of}
 use Rattle.reply_read.specs.declared.referral.Answer.{Answer}
 use Rattle.reply_read.specs.declared.referral.Answer.TheVariants.{Says}
-use Rattle.reply_read.specs.declared.referral.TextRead.{TextRead}
-use Rattle.reply_read.specs.declared.referral.TextRead.TheVariants.{Good, Bad}
 use Rattle.reply_bytes.specs.declared.texts.Span.{Span}
 use Rattle.reply_read.proofs.referral.TextLaws.{text_good, text_bad}
 use Rattle.reply_read.proofs.referral.EntryLaws.{unread, all_read_lem, starts_cons}
@@ -32,7 +30,7 @@ use Rattle.reply_read.specs.declared.name_lists.DcsFound.{DcsFound}
 use Rattle.reply_read.proofs.name_lists.ListLaws.{domain_fit, domain_read, domains_read}
 
 -- names that are read are good names
-chosen_good : (b : Bool) (s : List ℕ) → (b ≡ true → good_name s ≡ true) → is_read (choose b (some s) none) ≡ true → good_name (units_read (choose b (some s) none)) ≡ true
+chosen_good : (b : Bool) (s : List ℕ) → (b ≡ true → good_name s ≡ true) → is_read (choose b (Some s) None) ≡ true → good_name (units_read (choose b (Some s) None)) ≡ true
 unfolding choose units_read
 chosen_good true s f h = f refl
 chosen_good false s f h = absurd (unread refl h)
@@ -73,7 +71,7 @@ dcs_read r h =
     (and_right (not (eqb (u16_at r 22) 0)) _ q, eqb-false (u16_at r 22) 0 (borrow.Author.Tests.not-true _ (and_left _ _ q)))
 
 -- the first 8 names of a good DC reply are read
-pub dcs_kept : (r : List ℕ) → good_dcs r ≡ true → all_read (take 8 (dc_names r)) ≡ some (map units_read (take 8 (dc_names r)))
+pub dcs_kept : (r : List ℕ) → good_dcs r ≡ true → all_read (take 8 (dc_names r)) ≡ Some (map units_read (take 8 (dc_names r)))
 dcs_kept r h = all_read_lem (take 8 (dc_names r)) (every_take is_read 8 (dc_names r) (dcs_read r h).0)
 
 -- What a DC reply says: 1 to 8 good names.
@@ -139,7 +137,7 @@ says_domains size r h = says_of (read_domains size r) h (SoundDomains size r) ma
         }
 
 -- a domain name that is taken
-pub name_taken : (r : List ℕ) (e : ℕ) {v : TextRead} (s : Span) → text_shown r v ≡ domain_at r e → v ≡ Good s → spanned r s ≡ domain_name r e
+pub name_taken : (r : List ℕ) (e : ℕ) {v : Option Span} (s : Span) → text_shown r v ≡ domain_at r e → v ≡ Some s → spanned r s ≡ domain_name r e
 unfolding domain_name units_read
 name_taken r e s f h = sym (ap units_read (text_good r s h f))
 
@@ -156,7 +154,7 @@ module _ (r : List ℕ) (n i e : ℕ) (h : i < n) (k : every (good_domain_name r
   unfolding domain_name domain_at
   left_name = domain_name_good _ (domain_read r e left_good)
 
-  pub left_read : {v : TextRead} → text_shown r v ≡ domain_at r e → v ≡ Bad → ⊥
+  pub left_read : {v : Option Span} → text_shown r v ≡ domain_at r e → v ≡ None → ⊥
   left_read f h = unread (text_bad r h f) (domain_read r e left_good)
 
   pub left_next : {z : ℕ} → z ≡ e + size_at r e → every (good_domain_name r) (starts (n - (i + 1)) z r) ≡ true

@@ -1,8 +1,8 @@
 -- Laws of an entry's numbers.
+use Rattle.std.specs.Prelude.{Option, None, Some}
 use mathlib.Core.Path.{◌≡◌, refl, sym, ap, ◌∙◌}
 use mathlib.Core.Bool.{Bool, true, false, ◌&&◌, not, true≢false}
 use mathlib.Core.List.{List, [], ◌∷◌, map}
-use mathlib.Core.Option.{Option, none, some}
 use mathlib.Core.Logic.{◌⊎◌, inl, inr}
 use Prim.Native.Nat.{ℕ, suc, ◌+◌, ◌-◌, ◌/◌, ◌%◌, ◌≤◌, ◌<◌}
 use native.Mathlib.Omega.{arith}
@@ -108,25 +108,25 @@ module _ (r : List ℕ) (e : ℕ) where
       and_left _ _ (and_right (eqb (version_at r e) (version_at r 8)) _ (and_right (readable (version_at r e)) _ h))
 
 -- a path or name that is read
-pub read_some : (x : Option (List ℕ)) → is_read x ≡ true → x ≡ some (units_read x)
+pub read_some : (x : Option (List ℕ)) → is_read x ≡ true → x ≡ Some (units_read x)
 unfolding is_read units_read
-read_some none h = absurd (true≢false (sym h))
-read_some (some s) h = refl
+read_some None h = absurd (true≢false (sym h))
+read_some (Some s) h = refl
 
-pub unread : {x : Option (List ℕ)} → x ≡ none → is_read x ≡ true → ⊥
+pub unread : {x : Option (List ℕ)} → x ≡ None → is_read x ≡ true → ⊥
 unfolding is_read
 unread e h = true≢false (sym h ∙ ap is_read e)
 
 pub same_read_lem : (p q : Option (List ℕ)) → same_read p q ≡ true → is_read p ≡ true
 unfolding same_read is_read
-same_read_lem none q h = absurd (true≢false (sym h))
-same_read_lem (some p) q h = refl
+same_read_lem None q h = absurd (true≢false (sym h))
+same_read_lem (Some p) q h = refl
 
-pub all_read_lem : (xs : List (Option (List ℕ))) → every is_read xs ≡ true → all_read xs ≡ some (map units_read xs)
+pub all_read_lem : (xs : List (Option (List ℕ))) → every is_read xs ≡ true → all_read xs ≡ Some (map units_read xs)
 unfolding every is_read all_read with_first units_read
 all_read_lem [] h = refl
-all_read_lem (none ∷ xs) h = absurd (true≢false (sym h))
-all_read_lem (some s ∷ xs) h = ap (with_first s) (all_read_lem xs h)
+all_read_lem (None ∷ xs) h = absurd (true≢false (sym h))
+all_read_lem (Some s ∷ xs) h = ap (with_first s) (all_read_lem xs h)
 
 -- the ways of `good_entry`, in the order of the tests
 module _ (r : List ℕ) (e : ℕ) where
@@ -141,15 +141,15 @@ module _ (r : List ℕ) (e : ℕ) where
   unfolding good_entry
   entry_fit f h = entry_room refl (and_left _ _ (sym f ∙ h))
 
-  pub entry_prefix : prefix_at r e ≡ none → false ≡ good_entry r e
+  pub entry_prefix : prefix_at r e ≡ None → false ≡ good_entry r e
   unfolding good_entry same_read
   entry_prefix h = sym (and_no_right (good_fields r e) (and_no_left _ (ap (λ (x : Option (List ℕ)). same_read x (prefix_at r 8)) h)))
 
-  pub entry_target : target_at r e ≡ none → false ≡ good_entry r e
+  pub entry_target : target_at r e ≡ None → false ≡ good_entry r e
   unfolding good_entry is_read
   entry_target h = sym (and_no_right (good_fields r e) (and_no_right (same_read (prefix_at r e) (prefix_at r 8)) (ap is_read h)))
 
-  module _ {p q : List ℕ} (a : prefix_at r e ≡ some p) (b : prefix_at r 8 ≡ some q) where
+  module _ {p q : List ℕ} (a : prefix_at r e ≡ Some p) (b : prefix_at r 8 ≡ Some q) where
     same_is : same_read (prefix_at r e) (prefix_at r 8) ≡ same_name p q
     unfolding same_read
     same_is = λ i. same_read (a i) (b i)
@@ -158,7 +158,7 @@ module _ (r : List ℕ) (e : ℕ) where
     unfolding good_entry
     entry_unlike f h = sym (and_no_right (good_fields r e) (and_no_left _ (same_is ∙ (sym f ∙ h))))
 
-    pub entry_good : {s t : Bool} → s ≡ good_fields r e → s ≡ true → t ≡ same_name p q → t ≡ true → {w : List ℕ} → target_at r e ≡ some w → true ≡ good_entry r e
+    pub entry_good : {s t : Bool} → s ≡ good_fields r e → s ≡ true → t ≡ same_name p q → t ≡ true → {w : List ℕ} → target_at r e ≡ Some w → true ≡ good_entry r e
     unfolding good_entry is_read
     entry_good c d f h g = sym (and_both (sym c ∙ d) (and_both (same_is ∙ (sym f ∙ h)) (ap is_read g)))
 

@@ -1,9 +1,9 @@
 -- Laws of replies as a whole.
+use Rattle.std.specs.Prelude.{Option, None, Some}
 use mathlib.Core.Path.{◌≡◌, sym, ap, ◌∙◌}
 use mathlib.Core.Bool.{Bool, true, false, ◌&&◌, true≢false}
 use mathlib.Core.Logic.{◌⊎◌, inl, inr}
 use mathlib.Core.List.{List}
-use mathlib.Core.Option.{Option, none, some}
 use Prim.Native.Nat.{ℕ, ◌≤◌, ◌<◌}
 use native.Mathlib.Omega.{arith}
 use lib.Dec.{leb, eqb}
@@ -49,11 +49,11 @@ module _ {A : Type 0} (size : ℕ) (r : List ℕ) (good : Bool) (a : Option A) w
 
 -- a prefix that is read, and one that is not
 module _ (asked : List ℕ) where
-  pub unread_matches : {x : Option (List ℕ)} → x ≡ none → matches_read x asked ≡ false
+  pub unread_matches : {x : Option (List ℕ)} → x ≡ None → matches_read x asked ≡ false
   unfolding matches_read
   unread_matches e = ap (λ (x : Option (List ℕ)). matches_read x asked) e
 
-  pub read_matches : {x : Option (List ℕ)} {p : List ℕ} {t : Bool} → x ≡ some p → t ≡ matches p asked → matches_read x asked ≡ t
+  pub read_matches : {x : Option (List ℕ)} {p : List ℕ} {t : Bool} → x ≡ Some p → t ≡ matches p asked → matches_read x asked ≡ t
   unfolding matches_read
   read_matches e f = ap (λ (x : Option (List ℕ)). matches_read x asked) e ∙ sym f
 

@@ -1,4 +1,5 @@
 -- Laws of requests.
+use Rattle.std.specs.Prelude.{Some, None}
 use mathlib.Core.Path.{◌≡◌, refl, sym, ap, ◌∙◌}
 use mathlib.Core.Bool.{true, false}
 use mathlib.Core.List.{List, [], ◌∷◌, ◌++◌, append_assoc}
@@ -15,7 +16,6 @@ use Rattle.laws.proofs.Pasting.{set_pasted, length_pasted, pasted_join, pasted_n
 use Rattle.reply_read.specs.referral.Request.{bytes_of, request}
 use Rattle.reply_read.specs.referral.Code.{asked}
 use Rattle.reply_read.specs.referral.Request.{buffer_with}
-use Rattle.reply_read.specs.declared.referral.Asked.TheVariants.{Bytes, TooShort}
 
 pub length_bytes : (s : List ℕ) → length (bytes_of s) ≡ 2 * length s
 unfolding bytes_of
@@ -69,14 +69,14 @@ units_all d at s i e h = e ∙ ap (λ (x : List ℕ). pasted d at (bytes_of x)) 
 
 -- the request written in three pieces
 module _ (d name : List ℕ) {n : ℕ} (e : n ≡ length (request name)) where
-  pub request_short : length d < n → (TooShort ≡ asked (length d) name) × (d ≡ buffer_with name d)
+  pub request_short : length d < n → (None ≡ asked (length d) name) × (d ≡ buffer_with name d)
   unfolding asked buffer_with
   request_short h =
       let q : leb (length (request name)) (length d) ≡ false = lt-leb (length (request name)) (length d) (omega arith) in
-      (sym (choose_no _ TooShort q), sym (choose_no _ d q))
+      (sym (choose_no _ None q), sym (choose_no _ d q))
 
   pub request_written : n ≤ length d → {a b o : List ℕ} → a ≡ pasted d 0 (bytes_of (4 ∷ [])) → b ≡ pasted a 2 (bytes_of name)
-      → o ≡ pasted b (n - 2) (bytes_of (0 ∷ [])) → (Bytes n ≡ asked (length d) name) × (o ≡ buffer_with name d)
+      → o ≡ pasted b (n - 2) (bytes_of (0 ∷ [])) → (Some n ≡ asked (length d) name) × (o ≡ buffer_with name d)
   unfolding asked buffer_with
   request_written h {a} {b} f g k =
       let q : leb (length (request name)) (length d) ≡ true = le-leb (length (request name)) (length d) (omega arith) in
@@ -93,4 +93,4 @@ module _ (d name : List ℕ) {n : ℕ} (e : n ≡ length (request name)) where
       (λ i. pasted (x i) (z i) (bytes_of (0 ∷ [])))
       ∙ (pasted_join d 0 (bytes_of (4 ∷ []) ++ bytes_of name) (bytes_of (0 ∷ [])) (omega arith)
       ∙ ap (pasted d 0) (append_assoc (bytes_of (4 ∷ [])) (bytes_of name) (bytes_of (0 ∷ [])) ∙ sym (request_parts name))) in
-      (sym (choose_yes (Bytes (length (request name))) TooShort q ∙ (λ i. Bytes (sym e i))), k ∙ (t ∙ sym (choose_yes (pasted d 0 (request name)) d q)))
+      (sym (choose_yes (Some (length (request name))) None q ∙ (λ i. Some (sym e i))), k ∙ (t ∙ sym (choose_yes (pasted d 0 (request name)) d q)))

@@ -1,8 +1,8 @@
 -- What is known of a reply that says something: for the crates above.
+use Rattle.std.specs.Prelude.{Option, None, Some}
 use mathlib.Core.Path.{◌≡◌, refl, sym, ap, ◌∙◌, subst}
 use mathlib.Core.Bool.{Bool, true, false, ◌&&◌, not, true≢false}
 use mathlib.Core.List.{List, [], ◌∷◌}
-use mathlib.Core.Option.{Option, none, some}
 use mathlib.Core.Logic.{◌⊎◌, inl, inr}
 use Prim.Native.Nat.{ℕ, zero, suc, ◌-◌, ◌≤◌, ◌<◌, min}
 use native.Mathlib.Omega.{arith}
@@ -37,15 +37,15 @@ pub record Read {A : Type 0} (size : ℕ) (r : List ℕ) (good : Bool) (a : Opti
   pub within : length r ≤ size
   pub counted : 0 < referral_count r
   pub passed : good ≡ true
-  pub same : a ≡ some b
+  pub same : a ≡ Some b
 
-pub some_is : {A : Type 0} (a b : A) → some a ≡ some b → a ≡ b
+pub some_is : {A : Type 0} (a b : A) → Some a ≡ Some b → a ≡ b
 some_is a b h = cc
 
-or_says : {A : Type 0} (a : Option A) (b : A) → read_or a ≡ says b → a ≡ some b
+or_says : {A : Type 0} (a : Option A) (b : A) → read_or a ≡ says b → a ≡ Some b
 unfolding read_or
-or_says none b h = absurd (never_says_bad h)
-or_says (some x) b h = let p : x ≡ b = cc in λ i. some (p i)
+or_says None b h = absurd (never_says_bad h)
+or_says (Some x) b h = let p : x ≡ b = cc in λ i. Some (p i)
 
 pub read_says : {A : Type 0} (size : ℕ) (r : List ℕ) (good : Bool) (a : Option A) (b : A) → read_as size r good a ≡ says b → Read size r good a b
 unfolding read_as
@@ -86,14 +86,14 @@ path_normal (terminated s) h = go (told (good_path s && (leb (length (normalised
   where
     go : ((good_path s && (leb (length (normalised s)) 256 && leb 2 (component_count (normalised s)))) ≡ true)
         ⊎ ((good_path s && (leb (length (normalised s)) 256 && leb 2 (component_count (normalised s)))) ≡ false)
-        → 2 ≤ normalised_count (units_read (choose (good_path s && (leb (length (normalised s)) 256 && leb 2 (component_count (normalised s)))) (some (normalised s)) none))
+        → 2 ≤ normalised_count (units_read (choose (good_path s && (leb (length (normalised s)) 256 && leb 2 (component_count (normalised s)))) (Some (normalised s)) None))
     go (inl e) =
         let q : (leb (length (normalised s)) 256 && leb 2 (component_count (normalised s))) ≡ true = and_right (good_path s) _ e in
         let l : length (normalised s) ≤ 256 = leb-true (length (normalised s)) 256 (and_left _ _ q) in
         let n : 2 ≤ component_count (normalised s) = leb-true 2 (component_count (normalised s)) (and_right (leb (length (normalised s)) 256) _ q) in
-        subst (λ (x : Option (List ℕ)). 2 ≤ normalised_count (units_read x)) (sym (choose_yes (some (normalised s)) none e))
+        subst (λ (x : Option (List ℕ)). 2 ≤ normalised_count (units_read x)) (sym (choose_yes (Some (normalised s)) None e))
         (subst (λ (k : ℕ). 2 ≤ k) (sym (normal_is s (and_left _ _ e) l)) n)
-    go (inr e) = absurd (unread (choose_no (some (normalised s)) none e) h)
+    go (inr e) = absurd (unread (choose_no (Some (normalised s)) None e) h)
 
 -- a kept target is normalised likewise
 unfoldable pub good_target : Target → Bool
@@ -147,8 +147,8 @@ first_read r h g =
 
 read_matches : (x : Option (List ℕ)) (asked : List ℕ) → matches_read x asked ≡ true → matches (units_read x) asked ≡ true
 unfolding matches_read units_read
-read_matches none asked h = absurd (true≢false (sym h))
-read_matches (some p) asked h = h
+read_matches None asked h = absurd (true≢false (sym h))
+read_matches (Some p) asked h = h
 
 pub says_sound : (size : ℕ) (asked r : List ℕ) (x : ReferralReply) → read_referral size asked r ≡ says x → Sound asked x
 unfolding read_referral referral_said prefix_at

@@ -1,8 +1,8 @@
 -- Laws of the kept targets.
+use Rattle.std.specs.Prelude.{Option, None, Some}
 use mathlib.Core.Path.{◌≡◌, refl, sym, ap, ◌∙◌}
 use mathlib.Core.Bool.{Bool, true, false, ◌&&◌}
 use mathlib.Core.List.{List, [], ◌∷◌, ◌++◌, map}
-use mathlib.Core.Option.{Option, none, some}
 use mathlib.Core.Logic.{◌⊎◌, inl, inr}
 use Prim.Native.Nat.{ℕ, suc, ◌+◌, ◌-◌, ◌*◌, ◌≤◌, ◌<◌, min}
 use native.Mathlib.Omega.{arith}
@@ -42,18 +42,18 @@ module _ (r : List ℕ) (e i : ℕ) where
   opens_flag h a k b g = let x : eqb (u16_at r e) 4 ≡ true = eq-eqb _ _ (sym a ∙ k) in sym (later h ∙ rw (x, ← b, ← g))
 
 -- the targets of good entries are read
-target_read_lem : (r : List ℕ) (e : ℕ) (o : Bool) → good_entry r e ≡ true → target_read (target_at r e) o ≡ some (record { path = units_read (target_at r e); opens = o })
+target_read_lem : (r : List ℕ) (e : ℕ) (o : Bool) → good_entry r e ≡ true → target_read (target_at r e) o ≡ Some (record { path = units_read (target_at r e); opens = o })
 unfolding target_read
 target_read_lem r e o h = ap (λ (x : Option (List ℕ)). target_read x o) (read_some (target_at r e) (entry_read r e h))
 
-later_read : (i : ℕ) (r es : List ℕ) → every (good_entry r) es ≡ true → all_read (map (later_target r) es) ≡ some (kept_from (suc i) r es)
+later_read : (i : ℕ) (r es : List ℕ) → every (good_entry r) es ≡ true → all_read (map (later_target r) es) ≡ Some (kept_from (suc i) r es)
 unfolding every later_target all_read with_first kept_from kept_here opens_at
 later_read i r [] h = refl
 later_read i r (e ∷ es) h =
     ap (λ (x : Option Target). all_read (x ∷ map (later_target r) es)) (target_read_lem r e _ (and_left (good_entry r e) _ h))
     ∙ ap (with_first (kept_here (suc i) r e)) (later_read (suc i) r es (and_right (good_entry r e) _ h))
 
-pub targets_read : (r es : List ℕ) → every (good_entry r) es ≡ true → all_read (kept_targets r es) ≡ some (kept_from 0 r es)
+pub targets_read : (r es : List ℕ) → every (good_entry r) es ≡ true → all_read (kept_targets r es) ≡ Some (kept_from 0 r es)
 unfolding every kept_targets all_read with_first kept_from kept_here opens_at
 targets_read r [] h = refl
 targets_read r (e ∷ es) h =
@@ -61,8 +61,8 @@ targets_read r (e ∷ es) h =
     ∙ ap (with_first (kept_here 0 r e)) (later_read 0 r es (and_right (good_entry r e) _ h))
 
 -- so is what a reply says
-pub referral_read : (r p : List ℕ) → prefix_at r 8 ≡ some p → every (good_entry r) (entries r) ≡ true
-    → referral_in r ≡ some (referral_said r p (kept_from 0 r (take 8 (entries r))))
+pub referral_read : (r p : List ℕ) → prefix_at r 8 ≡ Some p → every (good_entry r) (entries r) ≡ true
+    → referral_in r ≡ Some (referral_said r p (kept_from 0 r (take 8 (entries r))))
 unfolding referral_in referral_with
 referral_read r p e g = λ i. referral_with r (e i) (targets_read r (take 8 (entries r)) (every_take (good_entry r) 8 (entries r) g) i)
 
@@ -94,7 +94,7 @@ come_all r {n} e = let q : referral_count r ≡ n - 0 = omega arith in ap (λ (m
 
 -- one target stored
 pub target_next : (n i : ℕ) (r : List ℕ) (e : ℕ) {z : ℕ} (l : List Kept) (s : Span) (o : Bool) {all : List Target}
-    → all ≡ map (target_shown r) (take i l) ++ to_come n i r e → i < length l → i < n → i < 8 → z ≡ e + size_at r e → target_at r e ≡ some (spanned r s) → o ≡ opens_at i r e
+    → all ≡ map (target_shown r) (take i l) ++ to_come n i r e → i < length l → i < n → i < 8 → z ≡ e + size_at r e → target_at r e ≡ Some (spanned r s) → o ≡ opens_at i r e
     → all ≡ map (target_shown r) (take (i + 1) (set l i (record { path = s; opens = o }))) ++ to_come n (i + 1) r z
 unfolding target_shown kept_here units_read
 target_next n i r e l s o g h k m j a b =
@@ -123,7 +123,7 @@ left_next r n i e h k g =
     ap (λ (x : ℕ). every (good_entry r) (starts (n - (i + 1)) x r)) g
     ∙ and_right (good_entry r e) _ (ap (every (good_entry r)) (sym (starts_cons (λ x. true) r n i e h)) ∙ k)
 
-pub left_read : (r : List ℕ) (n i e : ℕ) → i < n → every (good_entry r) (starts (n - i) e r) ≡ true → target_at r e ≡ none → ⊥
+pub left_read : (r : List ℕ) (n i e : ℕ) → i < n → every (good_entry r) (starts (n - i) e r) ≡ true → target_at r e ≡ None → ⊥
 unfolding every
 left_read r n i e h k g =
     unread g (entry_read r e (and_left _ _ (ap (every (good_entry r)) (sym (starts_cons (λ x. true) r n i e h)) ∙ k)))

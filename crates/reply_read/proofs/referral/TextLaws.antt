@@ -1,8 +1,8 @@
 -- Laws of paths and names in texts, as spans.
+use Rattle.std.specs.Prelude.{Option, None, Some}
 use mathlib.Core.Path.{◌≡◌, refl, sym, ap, ◌∙◌, subst}
 use mathlib.Core.Bool.{true, false}
 use mathlib.Core.List.{List, ◌∷◌}
-use mathlib.Core.Option.{Option, none, some}
 use mathlib.Core.Logic.{◌⊎◌, inl, inr}
 use Prim.Native.Nat.{ℕ, suc, ◌+◌, ◌-◌, ◌*◌, ◌≤◌, ◌<◌}
 use native.Mathlib.Omega.{arith}
@@ -21,26 +21,24 @@ use Rattle.reply_bytes.specs.declared.texts.Span.{Span}
 use Rattle.reply_bytes.specs.texts.Bytes.{Text, terminated, unterminated}
 use Rattle.reply_read.specs.referral.Replies.{path_of}
 use Rattle.reply_read.specs.referral.Code.{is_inside, text_shown, text_inside}
-use Rattle.reply_read.specs.declared.referral.TextRead.{TextRead}
-use Rattle.reply_read.specs.declared.referral.TextRead.TheVariants.{Good, Bad}
 
 -- What reading a path or name answers, and what is known of it where it is taken.
 module _ (r : List ℕ) where
-  pub bad_text : {x : Option (List ℕ)} → x ≡ none → (text_shown r Bad ≡ x) × (text_inside r Bad ≡ true)
+  pub bad_text : {x : Option (List ℕ)} → x ≡ None → (text_shown r None ≡ x) × (text_inside r None ≡ true)
   unfolding text_shown text_inside
   bad_text e = (sym e, refl)
 
-  pub good_text_lem : (s : Span) {x : Option (List ℕ)} → some (spanned r s) ≡ x → Inside r s → (text_shown r (Good s) ≡ x) × (text_inside r (Good s) ≡ true)
+  pub good_text_lem : (s : Span) {x : Option (List ℕ)} → Some (spanned r s) ≡ x → Inside r s → (text_shown r (Some s) ≡ x) × (text_inside r (Some s) ≡ true)
   unfolding text_shown text_inside is_inside
   good_text_lem s e h = (e, le-leb (s.from + 2 * s.units) (length r) h)
 
-  module _ {v : TextRead} where
-    pub text_bad : v ≡ Bad → {x : Option (List ℕ)} → text_shown r v ≡ x → x ≡ none
+  module _ {v : Option Span} where
+    pub text_bad : v ≡ None → {x : Option (List ℕ)} → text_shown r v ≡ x → x ≡ None
     unfolding text_shown
     text_bad e f = sym f ∙ ap (text_shown r) e
 
-    module _ (s : Span) (e : v ≡ Good s) where
-      pub text_good : {x : Option (List ℕ)} → text_shown r v ≡ x → x ≡ some (spanned r s)
+    module _ (s : Span) (e : v ≡ Some s) where
+      pub text_good : {x : Option (List ℕ)} → text_shown r v ≡ x → x ≡ Some (spanned r s)
       unfolding text_shown
       text_good f = sym f ∙ ap (text_shown r) e
 
@@ -50,26 +48,26 @@ module _ (r : List ℕ) where
 
 -- the ways of `path_of`
 module _ (u : List ℕ) where
-  pub path_none : good_path u ≡ false → path_of (terminated u) ≡ none
+  pub path_none : good_path u ≡ false → path_of (terminated u) ≡ None
   unfolding path_of
-  path_none h = choose_no (some (normalised u)) none (and_no_left _ h)
+  path_none h = choose_no (Some (normalised u)) None (and_no_left _ h)
 
-  pub path_unled_at : leads u ≡ 0 → path_of (terminated u) ≡ none
+  pub path_unled_at : leads u ≡ 0 → path_of (terminated u) ≡ None
   path_unled_at h = path_none (path_unled u h)
 
-  path_large : 256 < length (normalised u) → path_of (terminated u) ≡ none
+  path_large : 256 < length (normalised u) → path_of (terminated u) ≡ None
   unfolding path_of
-  path_large h = choose_no (some (normalised u)) none (and_no_right (good_path u) (and_no_left _ (lt-leb (length (normalised u)) 256 h)))
+  path_large h = choose_no (Some (normalised u)) None (and_no_right (good_path u) (and_no_left _ (lt-leb (length (normalised u)) 256 h)))
 
-  path_short : component_count (normalised u) < 2 → path_of (terminated u) ≡ none
+  path_short : component_count (normalised u) < 2 → path_of (terminated u) ≡ None
   unfolding path_of
   path_short h =
-      choose_no (some (normalised u)) none (and_no_right (good_path u) (and_no_right (leb (length (normalised u)) 256) (lt-leb 2 (component_count (normalised u)) h)))
+      choose_no (Some (normalised u)) None (and_no_right (good_path u) (and_no_right (leb (length (normalised u)) 256) (lt-leb 2 (component_count (normalised u)) h)))
 
-  path_is : good_path u ≡ true → length (normalised u) ≤ 256 → 2 ≤ component_count (normalised u) → path_of (terminated u) ≡ some (normalised u)
+  path_is : good_path u ≡ true → length (normalised u) ≤ 256 → 2 ≤ component_count (normalised u) → path_of (terminated u) ≡ Some (normalised u)
   unfolding path_of
   path_is h k l =
-      choose_yes (some (normalised u)) none (and_both h (and_both (le-leb (length (normalised u)) 256 k) (le-leb 2 (component_count (normalised u)) l)))
+      choose_yes (Some (normalised u)) None (and_both h (and_both (le-leb (length (normalised u)) 256 k) (le-leb 2 (component_count (normalised u)) l)))
 
 -- the unit before a path's body is a backslash
 leads_backslash : (u : List ℕ) → (leads u ≡ 0 → ⊥) → get_or u (leads u - 1) 0 ≡ 92
@@ -82,7 +80,7 @@ leads_backslash u h = go (parts (get_or u 0 0)) (parts (get_or u 1 0))
 
 -- The path, as the scan of a text finds it: `from` and `to` are the ends of its body, k is the count of good components there.
 module _ (u : List ℕ) (from to k : ℕ) (a : from ≡ leads u) (b : to ≡ from + length (without_trail (drop from u))) where
-  pub path_over : 256 < to - from + 1 → path_of (terminated u) ≡ none
+  pub path_over : 256 < to - from + 1 → path_of (terminated u) ≡ None
   path_over h = path_large u (subst (λ (n : ℕ). 256 < n) (body_length u from to k a b) h)
 
   -- the normalised path: the body and the backslash before it
@@ -99,11 +97,11 @@ module _ (u : List ℕ) (from to k : ℕ) (a : from ≡ leads u) (b : to ≡ fro
       ∙ (λ i. g i ∷ (ap (λ (n : ℕ). take (to - from) (drop n u)) f ∙ body_found u from to k a b) i)
 
   module _ (c : k ≡ good_count 0 (take (to - from) (drop from u))) where
-    pub path_few : k < 2 → path_of (terminated u) ≡ none
+    pub path_few : k < 2 → path_of (terminated u) ≡ None
     unfolding normalised
     path_few h = go (lt_or_le 0 k)
       where
-        go : (0 < k) ⊎ (k ≤ 0) → path_of (terminated u) ≡ none
+        go : (0 < k) ⊎ (k ≤ 0) → path_of (terminated u) ≡ None
         go (inr z) = let y : k ≡ 0 = omega arith in path_none u (path_bad u (count_none (body u) (sym (count_found u from to k a b c) ∙ y)))
         go (inl z) =
             let p : good_count 0 (body u) ≡ 0 → ⊥ = λ q. let y : k ≡ 0 = count_found u from to k a b c ∙ q in omega arith in
@@ -111,17 +109,17 @@ module _ (u : List ℕ) (from to k : ℕ) (a : from ≡ leads u) (b : to ≡ fro
             count_normalised (body u) ∙ (sym (count_some (body u) p).1 ∙ sym (count_found u from to k a b c)) in
             path_short u (omega arith)
 
-    pub path_found : (from ≡ 0 → ⊥) → 2 ≤ k → to - from + 1 ≤ 256 → some (take (to - (from - 1)) (drop (from - 1) u)) ≡ path_of (terminated u)
+    pub path_found : (from ≡ 0 → ⊥) → 2 ≤ k → to - from + 1 ≤ 256 → Some (take (to - (from - 1)) (drop (from - 1) u)) ≡ path_of (terminated u)
     unfolding normalised
     path_found h g l =
         let y : k ≡ 0 → ⊥ = λ q. omega arith in
         let p : good_count 0 (body u) ≡ 0 → ⊥ = λ q. y (count_found u from to k a b c ∙ q) in
         let m : component_count (normalised u) ≡ k =
         count_normalised (body u) ∙ (sym (count_some (body u) p).1 ∙ sym (count_found u from to k a b c)) in
-        (λ i. some (whole_found h i))
+        (λ i. Some (whole_found h i))
         ∙ sym (path_is u (found_good u from to k a b c h y) (subst (λ (n : ℕ). n ≤ 256) (body_length u from to k a b) l) (omega arith))
 
 -- texts without an end
-pub path_unended : {t : Text} → t ≡ unterminated → path_of t ≡ none
+pub path_unended : {t : Text} → t ≡ unterminated → path_of t ≡ None
 unfolding path_of
 path_unended e = ap path_of e

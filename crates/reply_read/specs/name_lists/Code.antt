@@ -1,7 +1,6 @@
 -- Shapes of the code, proved equal to the rules; nothing here is to be believed.
 -- What the readers hand on: spans of the reply. Each is given its meaning here.
-use Rattle.std.specs.Prelude.{ℕ, ◌≤◌, ◌≡◌, Bool, true, ◌&&◌, List, map, take, replicate, eqb}
-use Rattle.std.proofs.Math.Option.{Option, none, some}
+use Rattle.std.specs.Prelude.{ℕ, ◌≤◌, ◌≡◌, Bool, true, ◌&&◌, List, map, take, replicate, eqb, Option, None, Some}
 use Rattle.laws.specs.Lists.{every}
 use Rattle.reply_bytes.specs.texts.Code.{spanned}
 use Rattle.reply_read.specs.referral.Replies.{Reply, malformed, nothing, says}
@@ -15,8 +14,8 @@ use Rattle.reply_read.specs.declared.name_lists.DcRead.TheVariants.{Name, NoName
 
 -- the DC name that a reader found
 unfoldable pub dc_shown : List ℕ → DcRead → Option (List ℕ)
-dc_shown r (Name s next) = some (spanned r s)
-dc_shown r NoName = none
+dc_shown r (Name s next) = Some (spanned r s)
+dc_shown r NoName = None
 
 -- it lies inside the reply, and the text after it starts at byte i
 unfoldable pub dc_placed : List ℕ → ℕ → DcRead → Bool

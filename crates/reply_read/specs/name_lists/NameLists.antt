@@ -1,6 +1,5 @@
 -- DC and domain replies: document 01, "Layouts", name list entries.
-use Rattle.std.specs.Prelude.{ℕ, zero, suc, ◌+◌, ◌*◌, Bool, ◌&&◌, not, List, [], ◌∷◌, map, length, get_or, take, drop, eqb}
-use Rattle.std.proofs.Math.Option.{Option, none, some}
+use Rattle.std.specs.Prelude.{ℕ, zero, suc, ◌+◌, ◌*◌, Bool, ◌&&◌, not, List, [], ◌∷◌, map, length, get_or, take, drop, eqb, Option, None, Some}
 use Rattle.laws.specs.Choice.{choose}
 use Rattle.laws.specs.Lists.{every}
 use Rattle.unc.specs.names.Names.{good_name, backslash}
@@ -12,13 +11,13 @@ unfoldable pub bare : List ℕ → List ℕ
 bare s = choose (eqb (get_or s 0 0) backslash) (drop 1 s) s
 
 unfoldable pub dc_of : Text → Option (List ℕ)
-dc_of unterminated = none
-dc_of (terminated s) = choose (good_name (bare s)) (some (bare s)) none
+dc_of unterminated = None
+dc_of (terminated s) = choose (good_name (bare s)) (Some (bare s)) None
 
 -- A domain's name, written "\domain"; none of any other text.
 unfoldable pub domain_said : Text → Option (List ℕ)
-domain_said unterminated = none
-domain_said (terminated s) = choose (eqb (get_or s 0 0) backslash && good_name (drop 1 s)) (some (drop 1 s)) none
+domain_said unterminated = None
+domain_said (terminated s) = choose (eqb (get_or s 0 0) backslash && good_name (drop 1 s)) (Some (drop 1 s)) None
 
 -- A DC reply: the first entry only; "its NumberOfExpandedNames DC names one after another, 1 or more".
 unfoldable pub bytes_past : Text → ℕ

@@ -1,6 +1,5 @@
 -- Shapes of the code, proved equal to the rules; nothing here is to be believed.
-use Rattle.std.specs.Prelude.{ℕ, zero, suc, ◌+◌, ◌*◌, ◌≤◌, ◌<◌, ◌≡◌, Bool, true, false, ◌&&◌, List, [], ◌∷◌, map, length, take, replicate, leb, eqb}
-use Rattle.std.proofs.Math.Option.{Option, none, some}
+use Rattle.std.specs.Prelude.{ℕ, zero, suc, ◌+◌, ◌*◌, ◌≤◌, ◌<◌, ◌≡◌, Bool, true, false, ◌&&◌, List, [], ◌∷◌, map, length, take, replicate, leb, eqb, Option, None, Some}
 use Rattle.laws.specs.Choice.{choose}
 use Rattle.laws.specs.Lists.{every}
 use Rattle.reply_bytes.specs.texts.Code.{spanned, Inside}
@@ -9,38 +8,34 @@ use Rattle.reply_read.specs.referral.Request.{request}
 use Rattle.unc.specs.names.Paths.{Target}
 use Rattle.reply_read.specs.referral.Replies.{version_at, server_type_at, entry_flag, good_entry, entries, prefix_at, target_at, ReferralReply, Reply, malformed, nothing, says}
 use Rattle.reply_read.specs.declared.referral.Kept.{Kept}
-use Rattle.reply_read.specs.declared.referral.TextRead.{TextRead}
-use Rattle.reply_read.specs.declared.referral.TextRead.TheVariants.{Good, Bad}
 use Rattle.reply_read.specs.declared.referral.ReferralFound.{ReferralFound}
 use Rattle.reply_read.specs.declared.referral.Answer.{Answer}
 use Rattle.reply_read.specs.declared.referral.Answer.TheVariants.{Malformed, Nothing, Says}
-use Rattle.reply_read.specs.declared.referral.Asked.{Asked}
-use Rattle.reply_read.specs.declared.referral.Asked.TheVariants.{Bytes, TooShort}
 
 -- a span inside the reply
 unfoldable pub is_inside : List ℕ → Span → Bool
 is_inside r s = leb (s.from + 2 * s.units) (length r)
 
 -- the path or name that a reader found
-unfoldable pub text_shown : List ℕ → TextRead → Option (List ℕ)
-text_shown r (Good s) = some (spanned r s)
-text_shown r Bad = none
+unfoldable pub text_shown : List ℕ → Option Span → Option (List ℕ)
+text_shown r (Some s) = Some (spanned r s)
+text_shown r None = None
 
 -- it lies inside the reply
-unfoldable pub text_inside : List ℕ → TextRead → Bool
-text_inside r (Good s) = is_inside r s
-text_inside r Bad = true
+unfoldable pub text_inside : List ℕ → Option Span → Bool
+text_inside r (Some s) = is_inside r s
+text_inside r None = true
 
 -- the units of a path or name that is read
 unfoldable pub units_read : Option (List ℕ) → List ℕ
-units_read none = []
-units_read (some s) = s
+units_read None = []
+units_read (Some s) = s
 
 -- the first entry's version, ServerType and DFSPath, which all others are held to
 pub record FirstEntry (r : List ℕ) (version kind : ℕ) (first : Span) : Type 0 where
   pub version_is : version ≡ version_at r 8
   pub kind_is : kind ≡ server_type_at r 8
-  pub first_is : prefix_at r 8 ≡ some (spanned r first)
+  pub first_is : prefix_at r 8 ≡ Some (spanned r first)
   pub first_inside : Inside r first
 
 unfoldable pub kept_inside : List ℕ → Kept → Bool
@@ -51,7 +46,7 @@ pub record GoodReply (r : List ℕ) (prefix : Span) : Type 0 where
   pub short : length r < 4294967296
   pub long : 42 ≤ length r
   pub good : every (good_entry r) (entries r) ≡ true
-  pub prefix_is : prefix_at r 8 ≡ some (spanned r prefix)
+  pub prefix_is : prefix_at r 8 ≡ Some (spanned r prefix)
   pub prefix_inside : Inside r prefix
 
 -- every span that a reader hands on lies inside the reply, and at most 8 are handed on
@@ -117,5 +112,5 @@ unfoldable pub denoted : List ℕ → ReferralFound → Reply ReferralReply
 denoted r f = reply_of f.answer (referral_shown r f)
 
 -- a request written into a buffer of n bytes, or told to be longer
-unfoldable pub asked : ℕ → List ℕ → Asked
-asked n name = choose (leb (length (request name)) n) (Bytes (length (request name))) TooShort
+unfoldable pub asked : ℕ → List ℕ → Option ℕ
+asked n name = choose (leb (length (request name)) n) (Some (length (request name))) None

@@ -1,6 +1,5 @@
 -- Replies: document 01, "Layouts". A reply is a list of bytes; each field and text is what stands at its offset.
-use Rattle.std.specs.Prelude.{ℕ, zero, suc, ◌+◌, Bool, true, false, ◌&&◌, ◌||◌, not, List, [], ◌∷◌, map, length, take, leb, eqb}
-use Rattle.std.proofs.Math.Option.{Option, none, some}
+use Rattle.std.specs.Prelude.{ℕ, zero, suc, ◌+◌, Bool, true, false, ◌&&◌, ◌||◌, not, List, [], ◌∷◌, map, length, take, leb, eqb, Option, None, Some}
 use Rattle.laws.specs.Choice.{choose}
 use Rattle.laws.specs.Lists.{every}
 use Rattle.unc.specs.names.Names.{same_name}
@@ -46,35 +45,35 @@ fits fixed r e = leb fixed (size_at r e) && leb (e + size_at r e) (length r)
 
 -- A path that is read, normalised: good, at most 256 units, 2 components or more; none of any other text.
 unfoldable pub path_of : Text → Option (List ℕ)
-path_of unterminated = none
+path_of unterminated = None
 path_of (terminated s) =
-    choose (good_path s && (leb (length (normalised s)) path_units && leb 2 (component_count (normalised s)))) (some (normalised s)) none
+    choose (good_path s && (leb (length (normalised s)) path_units && leb 2 (component_count (normalised s)))) (Some (normalised s)) None
 
 -- a path or name is read
 unfoldable pub is_read : Option (List ℕ) → Bool
-is_read none = false
-is_read (some s) = true
+is_read None = false
+is_read (Some s) = true
 
 -- two paths are read, and are equal names
 unfoldable pub same_read : Option (List ℕ) → Option (List ℕ) → Bool
-same_read none q = false
-same_read (some p) none = false
-same_read (some p) (some q) = same_name p q
+same_read None q = false
+same_read (Some p) None = false
+same_read (Some p) (Some q) = same_name p q
 
 -- a prefix is read, and matches
 unfoldable pub matches_read : Option (List ℕ) → List ℕ → Bool
-matches_read none path = false
-matches_read (some p) path = matches p path
+matches_read None path = false
+matches_read (Some p) path = matches p path
 
 -- what is read of each, where every one is read
 unfoldable pub with_first : {A : Type 0} → A → Option (List A) → Option (List A)
-with_first a none = none
-with_first a (some rest) = some (a ∷ rest)
+with_first a None = None
+with_first a (Some rest) = Some (a ∷ rest)
 
 unfoldable pub all_read : {A : Type 0} → List (Option A) → Option (List A)
-all_read [] = some []
-all_read (none ∷ xs) = none
-all_read (some a ∷ xs) = with_first a (all_read xs)
+all_read [] = Some []
+all_read (None ∷ xs) = None
+all_read (Some a ∷ xs) = with_first a (all_read xs)
 
 -- Root, link and SYSVOL replies. Fixed length and TTL go by the version.
 unfoldable pub readable : ℕ → Bool
@@ -118,8 +117,8 @@ pub record ReferralReply : Type 0 where
 
 -- a target whose path is read
 unfoldable pub target_read : Option (List ℕ) → Bool → Option Target
-target_read none opens = none
-target_read (some path) opens = some (record { path = path; opens = opens })
+target_read None opens = None
+target_read (Some path) opens = Some (record { path = path; opens = opens })
 
 -- "a boundary bit on a later one opens the next; version 3 has one set"
 unfoldable pub later_target : List ℕ → ℕ → Option Target
@@ -146,9 +145,9 @@ referral_said r prefix targets = record {
 
 -- the same, where these are read
 unfoldable pub referral_with : List ℕ → Option (List ℕ) → Option (List Target) → Option ReferralReply
-referral_with r none targets = none
-referral_with r (some prefix) none = none
-referral_with r (some prefix) (some targets) = some (referral_said r prefix targets)
+referral_with r None targets = None
+referral_with r (Some prefix) None = None
+referral_with r (Some prefix) (Some targets) = Some (referral_said r prefix targets)
 
 unfoldable pub referral_in : List ℕ → Option ReferralReply
 referral_in r = referral_with r (prefix_at r 8) (all_read (kept_targets r (take 8 (entries r))))
@@ -161,8 +160,8 @@ pub data Reply (A : Type 0) : Type 0 where
 
 -- what is read, or that the reply is malformed
 unfoldable pub read_or : {A : Type 0} → Option A → Reply A
-read_or none = malformed
-read_or (some a) = says a
+read_or None = malformed
+read_or (Some a) = says a
 
 -- "A reply longer than the size asked for, or under 8 bytes, is malformed; next NumberOfReferrals 0 is tested, then the rest."
 unfoldable pub read_as : {A : Type 0} → ℕ → List ℕ → Bool → Option A → Reply A

@@ -1,4 +1,5 @@
 -- Laws of the lines of `walk`'s input.
+use Rattle.std.specs.Prelude.{Option, None, Some}
 use mathlib.Core.Path.{◌≡◌, sym, ap, ◌∙◌}
 use mathlib.Core.Bool.{Bool, true, false, not}
 use mathlib.Core.List.{List}
@@ -12,10 +13,6 @@ use Rattle.laws.proofs.Choices.{choose_yes, choose_no, and_both, and_right, and_
 use Rattle.laws.proofs.Tests.{refuted}
 use Rattle.listing_spelling.specs.unspell.Reading.{unspelled, is_spelled}
 use Rattle.listing_spelling.specs.unspell.Code.{spelled_form}
-use Rattle.listing_spelling.specs.declared.unspell.Spelled.{Spelled}
-use Rattle.listing_spelling.specs.declared.unspell.Spelled.TheVariants.{Bad, Units}
-use Rattle.listing_spelling.specs.declared.unspell.Number.{Number}
-use Rattle.listing_spelling.specs.declared.unspell.Number.TheVariants.{None, Value}
 use Rattle.listing_write.specs.Keys.{status_key}
 use Rattle.listing_read.specs.line.Lines.{value_of, line_has_key}
 use Rattle.listing_read.proofs.line.LineLaws.{key_fits}
@@ -29,54 +26,54 @@ use Rattle.script_lines.specs.declared.lines.Last.TheVariants.{Reply, Other}
 use Rattle.script_lines.specs.declared.lines.Script.{Script}
 
 -- a spelled text
-spelled_bad : (s : List ℕ) {r : Spelled} → r ≡ spelled_form s → r ≡ Bad → is_spelled s ≡ false
+spelled_bad : (s : List ℕ) {r : Option ℕ} → r ≡ spelled_form s → r ≡ None → is_spelled s ≡ false
 unfolding spelled_form
 spelled_bad s e h = refuted (is_spelled s) (λ k. wrong (sym (choose_yes _ _ k) ∙ (sym e ∙ h)))
   where
-    wrong : {n : ℕ} → Units n ≡ Bad → ⊥
+    wrong : {n : ℕ} → Some n ≡ None → ⊥
     wrong k = let z : ◌≡◌ {A = ℕ} 0 1 = cc in omega arith
 
 module _ (key line room : List ℕ) where
-  not_text : is_text key line (length room) ≡ false → text_read Bad room ≡ text_taken key line room
+  not_text : is_text key line (length room) ≡ false → text_read None room ≡ text_taken key line room
   unfolding text_taken
   not_text h = sym (choose_no _ _ h)
 
-  pub text_other : {b : Bool} → b ≡ line_has_key key line → b ≡ false → text_read Bad room ≡ text_taken key line room
+  pub text_other : {b : Bool} → b ≡ line_has_key key line → b ≡ false → text_read None room ≡ text_taken key line room
   unfolding is_text
   text_other e h = not_text (and_no_left _ (sym e ∙ h))
 
-  pub text_bad : {r : Spelled} → r ≡ spelled_form (value_of key line) → r ≡ Bad → text_read Bad room ≡ text_taken key line room
+  pub text_bad : {r : Option ℕ} → r ≡ spelled_form (value_of key line) → r ≡ None → text_read None room ≡ text_taken key line room
   unfolding is_text
   text_bad e h = not_text (and_no_right (line_has_key key line) (and_no_left _ (spelled_bad (value_of key line) e h)))
 
-  pub text_long : {n : ℕ} → n ≡ length (unspelled (value_of key line)) → length room < n → text_read Bad room ≡ text_taken key line room
+  pub text_long : {n : ℕ} → n ≡ length (unspelled (value_of key line)) → length room < n → text_read None room ≡ text_taken key line room
   unfolding is_text
   text_long e h = not_text (and_no_right (line_has_key key line) (and_no_right (is_spelled (value_of key line)) (lt-leb (length (unspelled (value_of key line))) (length room) (omega arith))))
 
   pub text_said_lem : {b : Bool} {n : ℕ} {o : List ℕ} → b ≡ line_has_key key line → b ≡ true → is_spelled (value_of key line) ≡ true → n ≡ length (unspelled (value_of key line)) → n ≤ length room
-      → o ≡ pasted room 0 (unspelled (value_of key line)) → text_read (Units n) o ≡ text_taken key line room
+      → o ≡ pasted room 0 (unspelled (value_of key line)) → text_read (Some n) o ≡ text_taken key line room
   unfolding is_text text_taken text_said
   text_said_lem {b} {n} {o} e h k f l m =
-      (λ i. record { said = Units (f i); room = m i })
+      (λ i. record { said = Some (f i); room = m i })
       ∙ sym (choose_yes _ _ (and_both (sym e ∙ h) (and_both k (le-leb (length (unspelled (value_of key line))) (length room) (omega arith)))))
 
 -- a text that was read or not
-module _ (s : Script) (f : ℕ → Script) {t : TextRead} {x : Spelled} {o : List ℕ} (e : text_read x o ≡ t) where
-  pub text_refused : {r : Script} → x ≡ Bad → r ≡ after Other s → read_into r o ≡ text_or_other s f t
+module _ (s : Script) (f : ℕ → Script) {t : TextRead} {x : Option ℕ} {o : List ℕ} (e : text_read x o ≡ t) where
+  pub text_refused : {r : Script} → x ≡ None → r ≡ after Other s → read_into r o ≡ text_or_other s f t
   unfolding text_or_other
-  text_refused {r} h k = (λ i. record { script = k i; room = o }) ∙ ap (text_or_other s f) (ap (λ (y : Spelled). text_read y o) (sym h) ∙ e)
+  text_refused {r} h k = (λ i. record { script = k i; room = o }) ∙ ap (text_or_other s f) (ap (λ (y : Option ℕ). text_read y o) (sym h) ∙ e)
 
-  pub text_taken_lem : {r : Script} {n : ℕ} → x ≡ Units n → r ≡ f n → read_into r o ≡ text_or_other s f t
+  pub text_taken_lem : {r : Script} {n : ℕ} → x ≡ Some n → r ≡ f n → read_into r o ≡ text_or_other s f t
   unfolding text_or_other
-  text_taken_lem {r} h k = (λ i. record { script = k i; room = o }) ∙ ap (text_or_other s f) (ap (λ (y : Spelled). text_read y o) (sym h) ∙ e)
+  text_taken_lem {r} h k = (λ i. record { script = k i; room = o }) ∙ ap (text_or_other s f) (ap (λ (y : Option ℕ). text_read y o) (sym h) ∙ e)
 
 -- a number that was read or not
-module _ (s : Script) (f : ℕ → Script) {x y : Number} (e : y ≡ x) {r : Script} where
+module _ (s : Script) (f : ℕ → Script) {x y : Option ℕ} (e : y ≡ x) {r : Script} where
   pub number_refused : y ≡ None → r ≡ after Other s → r ≡ or_other s f x
   unfolding or_other
   number_refused h k = k ∙ ap (or_other s f) (sym h ∙ e)
 
-  pub number_taken : {n : ℕ} → y ≡ Value n → r ≡ f n → r ≡ or_other s f x
+  pub number_taken : {n : ℕ} → y ≡ Some n → r ≡ f n → r ≡ or_other s f x
   unfolding or_other
   number_taken h k = k ∙ ap (or_other s f) (sym h ∙ e)
 
@@ -105,9 +102,9 @@ module _ (line : List ℕ) where
   status_digits e h = sym (choose_no _ _ (and_no_right (line_has_key status_key line) (and_no_right (eqb (length (value_of status_key line)) 8) (sym e ∙ h))))
 
   pub status_said_lem : {b d : Bool} {n : ℕ} → b ≡ line_has_key status_key line → b ≡ true → length line ≡ 15 → d ≡ every is_hex (value_of status_key line) → d ≡ true
-      → n ≡ hex_number (value_of status_key line) → Value n ≡ status_said line
+      → n ≡ hex_number (value_of status_key line) → Some n ≡ status_said line
   unfolding status_said
-  status_said_lem e h l f k m = ap Value m ∙ sym (choose_yes _ _ (and_both (sym e ∙ h) (and_both (eq-eqb _ _ (status_length l)) (sym f ∙ k))))
+  status_said_lem e h l f k m = ap Some m ∙ sym (choose_yes _ _ (and_both (sym e ∙ h) (and_both (eq-eqb _ _ (status_length l)) (sym f ∙ k))))
 
 -- a reply
 module _ (s : Script) (line : List ℕ) (r : Rest) (room : List ℕ) {o : Script} where

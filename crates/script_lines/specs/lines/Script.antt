@@ -1,13 +1,9 @@
 -- The input of `walk`. Lines come in this order: the settings path, limit, size, now, boot; then answers [now=] status= [reply=]. What is not of this
 -- form is refused with 0. A line is its bytes without the byte 0A hex that ends it; of a long one the first are kept, and the rest is known as `Rest` says.
-use Rattle.std.specs.Prelude.{ℕ, ◌%◌, Bool, true, false, ◌&&◌, not, List, [], ◌∷◌, length, take, eqb, leb}
+use Rattle.std.specs.Prelude.{ℕ, ◌%◌, Bool, true, false, ◌&&◌, not, List, [], ◌∷◌, length, take, eqb, leb, Option, None, Some}
 use Rattle.laws.specs.Choice.{choose}
 use Rattle.laws.specs.Lists.{every, pasted}
 use Rattle.listing_spelling.specs.unspell.Reading.{unspelled, is_spelled}
-use Rattle.listing_spelling.specs.declared.unspell.Spelled.{Spelled}
-use Rattle.listing_spelling.specs.declared.unspell.Spelled.TheVariants.{Bad, Units}
-use Rattle.listing_spelling.specs.declared.unspell.Number.{Number}
-use Rattle.listing_spelling.specs.declared.unspell.Number.TheVariants.{None, Value}
 use Rattle.listing_write.specs.Keys.{path_key, size_key, status_key}
 use Rattle.listing_read.specs.line.Lines.{value_of, line_has_key, number_said}
 use Rattle.script_lines.specs.line_bytes.Hexes.{is_hex, hex_number, hex_bytes}
@@ -92,22 +88,22 @@ unfoldable pub text_said : List ℕ → List ℕ → List ℕ
 text_said key line = unspelled (value_of key line)
 
 pub record TextRead : Type 0 where
-  pub said : Spelled
+  pub said : Option ℕ
   pub room : List ℕ
 
-abbrev pub text_read : Spelled → List ℕ → TextRead
+abbrev pub text_read : Option ℕ → List ℕ → TextRead
 text_read said room = record { said = said; room = room }
 
 unfoldable pub text_taken : List ℕ → List ℕ → List ℕ → TextRead
 text_taken key line room =
-    choose (is_text key line (length room)) (text_read (Units (length (text_said key line))) (pasted room 0 (text_said key line))) (text_read Bad room)
+    choose (is_text key line (length room)) (text_read (Some (length (text_said key line))) (pasted room 0 (text_said key line))) (text_read None room)
 
 unfoldable pub text_or_other : Script → (ℕ → Script) → TextRead → ReadInto
 text_or_other s f t = by t.said
   where
-    by : Spelled → ReadInto
-    by Bad = read_into (after Other s) t.room
-    by (Units n) = read_into (f n) t.room
+    by : Option ℕ → ReadInto
+    by None = read_into (after Other s) t.room
+    by (Some n) = read_into (f n) t.room
 
 unfoldable pub takes_path : Script → List ℕ → List ℕ → ReadInto
 takes_path s line room = text_or_other s (λ n. after Path (with_path_units n s)) (text_taken path_key line room)
@@ -116,9 +112,9 @@ unfoldable pub takes_boot : Script → List ℕ → List ℕ → ReadInto
 takes_boot s line room = text_or_other s (λ n. after Boot (with_boot n s)) (text_taken boot_key line room)
 
 -- numbers are decimal, "without leading zeros", of 32 bits
-unfoldable pub or_other : Script → (ℕ → Script) → Number → Script
+unfoldable pub or_other : Script → (ℕ → Script) → Option ℕ → Script
 or_other s f None = after Other s
-or_other s f (Value n) = f n
+or_other s f (Some n) = f n
 
 unfoldable pub takes_limit : Script → List ℕ → Script
 takes_limit s line = or_other s (λ n. after Limit (with_limit n s)) (number_said limit_key line)
@@ -130,10 +126,10 @@ unfoldable pub takes_clock : Last → Script → List ℕ → Script
 takes_clock l s line = or_other s (λ n. after l (with_clock n s)) (number_said now_key line)
 
 -- "status= has exactly 8" hex digits
-unfoldable pub status_said : List ℕ → Number
+unfoldable pub status_said : List ℕ → Option ℕ
 status_said line =
     choose (line_has_key status_key line && (eqb (length (value_of status_key line)) 8 && every is_hex (value_of status_key line)))
-    (Value (hex_number (value_of status_key line)))
+    (Some (hex_number (value_of status_key line)))
     None
 
 unfoldable pub takes_status : Script → List ℕ → Script

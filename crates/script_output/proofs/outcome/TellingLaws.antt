@@ -1,8 +1,8 @@
 -- What is shown fits the buffer that was lent, and what is printed is what was shown.
+use Rattle.std.specs.Prelude.{Option, None, Some}
 use mathlib.Core.Path.{◌≡◌, refl, sym, ap, subst, ◌∙◌}
 use mathlib.Core.Bool.{Bool, true, false}
 use mathlib.Core.List.{List, [], ◌++◌}
-use mathlib.Core.Option.{Option, none, some}
 use mathlib.Core.Logic.{◌⊎◌, inl, inr}
 use Prim.Native.Nat.{ℕ, ◌+◌, ◌≤◌}
 use native.Mathlib.Omega.{arith}
@@ -68,8 +68,8 @@ module _ (out : List ℕ) where
 
   fits_some : (o : Option (List ℕ)) → Fits out (shows_some o out)
   unfolding shows_some
-  fits_some none = fits_entry
-  fits_some (some text) = fits_shows text
+  fits_some None = fits_entry
+  fits_some (Some text) = fits_shows text
 
   fits_party : (c : Caches) (w : Core) (boot : List ℕ) (r : Rest) → Fits out (party_at c w boot r out)
   unfolding party_at

@@ -1,6 +1,5 @@
 -- Just one outcome is printed of a walk after a call that was taken: the question that waits, or the end.
-use Rattle.std.specs.Prelude.{ℕ, ◌≡◌, List}
-use Rattle.std.proofs.Math.Option.{some}
+use Rattle.std.specs.Prelude.{ℕ, ◌≡◌, List, Some}
 use Rattle.walk_steps.specs.steps.Steps.{Question, Rest, waits, ended, name_asked, end_number}
 use Rattle.walk_steps.specs.steps.Held.{caches_of}
 use Rattle.walk_steps.specs.declared.steps.End.{End}
@@ -14,7 +13,7 @@ use Rattle.script_output.specs.outcome.Telling.{outcome_lines}
 -- of a walk that waits: the lines of its question (kind, party as it is shown, name, size)
 pub record PrintsQuestion (refs doms : List ℕ) (walk : Walk) (texts : List ℕ) (q : Question) : Type 0 where
   pub party : List ℕ
-  pub shown : (question_shown (caches_of refs doms) (core_in walk texts) (boot_in walk texts) q).party ≡ some party
+  pub shown : (question_shown (caches_of refs doms) (core_in walk texts) (boot_in walk texts) q).party ≡ Some party
   pub printed : outcome_lines 0 refs doms walk texts ≡ question_lines q.kind party (name_asked (core_in walk texts) q) q.size
 
 -- of one that has ended: the lines of its end (number, status, path, moves)

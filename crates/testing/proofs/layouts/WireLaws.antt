@@ -1,4 +1,5 @@
 -- Laws of the numbers handed out: the one at each place, and past the last.
+use Rattle.std.specs.Prelude.{Option, None}
 use mathlib.Core.Path.{◌≡◌, refl, sym, ap, ◌∙◌}
 use mathlib.Core.Bool.{Bool, true, false}
 use mathlib.Core.List.{List, ◌∷◌}
@@ -6,10 +7,9 @@ use Prim.Native.Nat.{ℕ, suc, ◌+◌, ◌-◌, ◌≤◌, ◌<◌}
 use native.Mathlib.Omega.{arith}
 use lib.ListN.{length, get_or, get_or-eq_default}
 use Rattle.laws.proofs.Every.{every_at}
+use Rattle.reply_bytes.specs.declared.texts.Span.{Span}
 use Rattle.reply_read.specs.referral.Replies.{referral_count, size_at, starts, entries}
 use Rattle.reply_read.specs.referral.Code.{text_shown}
-use Rattle.reply_read.specs.declared.referral.TextRead.{TextRead}
-use Rattle.reply_read.specs.declared.referral.TextRead.TheVariants.{Bad}
 use Rattle.reply_read.specs.name_lists.NameLists.{domain_at, good_domain_name}
 use Rattle.reply_read.specs.declared.referral.Answer.{Answer}
 use Rattle.reply_read.specs.declared.referral.Answer.TheVariants.{Malformed, Nothing, Says}
@@ -42,7 +42,7 @@ pub four_past : (b k : ℕ) → b ≤ k → (k ≡ b → ⊥) → (k ≡ b + 1 �
 four_past b k h p q r s = omega arith
 
 -- a good domain reply has a name in each of its entries
-pub domain_there_lem : (r : List ℕ) (i : ℕ) → GoodDomains r i → (e : ℕ) → e ≡ get_or (entries r) i 0 → {v : TextRead} → text_shown r v ≡ domain_at r e → v ≡ Bad → ⊥
+pub domain_there_lem : (r : List ℕ) (i : ℕ) → GoodDomains r i → (e : ℕ) → e ≡ get_or (entries r) i 0 → {v : Option Span} → text_shown r v ≡ domain_at r e → v ≡ None → ⊥
 domain_there_lem r i g e p f h =
     unread (text_bad r h f)
     (domain_read r e (ap (good_domain_name r) p ∙ every_at (good_domain_name r) (entries r) g.good i 0 (omega (arith, g.there, length_entries r))))

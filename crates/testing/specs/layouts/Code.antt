@@ -1,7 +1,6 @@
 -- Shapes of the code, proved equal to the rules; nothing here is to be believed.
 -- The readers' findings as numbers, for programs in other languages.
-use Rattle.std.specs.Prelude.{ℕ, ◌+◌, ◌*◌, ◌≤◌, ◌<◌, ◌≡◌, Bool, true, false, List, [], ◌∷◌, length, get_or}
-use Rattle.std.proofs.Math.Option.{some}
+use Rattle.std.specs.Prelude.{ℕ, ◌+◌, ◌*◌, ◌≤◌, ◌<◌, ◌≡◌, Bool, true, false, List, [], ◌∷◌, length, get_or, Some}
 use Rattle.laws.specs.Lists.{every}
 use Rattle.reply_bytes.specs.declared.texts.Span.{Span}
 use Rattle.reply_bytes.specs.texts.Code.{spanned}
@@ -74,5 +73,5 @@ pub record GoodDomains (r : List ℕ) (i : ℕ) : Type 0 where
 -- number k of its domain i
 pub record DomainNumber (r : List ℕ) (i k v : ℕ) : Type 0 where
   pub span : Span
-  pub is : domain_at r (get_or (entries r) i 0) ≡ some (spanned r span)
+  pub is : domain_at r (get_or (entries r) i 0) ≡ Some (spanned r span)
   pub number : v ≡ get_or (span_of span) k 0

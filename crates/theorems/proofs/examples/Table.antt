@@ -1,8 +1,8 @@
 -- The table of examples: one test computed over all its rows, and what it proves of each.
+use Rattle.std.specs.Prelude.{Option, None, Some}
 use mathlib.Core.Path.{◌≡◌, refl, sym, ap}
 use mathlib.Core.Bool.{Bool, true, false, ◌&&◌, true≢false}
 use mathlib.Core.List.{List, [], ◌∷◌, flatten}
-use mathlib.Core.Option.{Option, none, some}
 use Prim.Native.Nat.{ℕ}
 use lib.ListN.{length, take}
 use lib.Dec.{eqb}
@@ -63,10 +63,10 @@ same_texts (x ∷ a) [] = false
 same_texts (x ∷ a) (y ∷ b) = same_list x y && same_texts a b
 
 same_heard : Option (List (List ℕ)) → Option (List (List ℕ)) → Bool
-same_heard none none = true
-same_heard none (some b) = false
-same_heard (some a) none = false
-same_heard (some a) (some b) = same_texts a b
+same_heard None None = true
+same_heard None (Some b) = false
+same_heard (Some a) None = false
+same_heard (Some a) (Some b) = same_texts a b
 
 bool_same : (a b : Bool) → same_bool a b ≡ true → a ≡ b
 unfolding same_bool
@@ -96,10 +96,10 @@ texts_same (x ∷ a) (y ∷ b) h = λ i. same_list_true x y (and_left _ _ h) i �
 
 heard_same : (a b : Option (List (List ℕ))) → same_heard a b ≡ true → a ≡ b
 unfolding same_heard
-heard_same none none h = refl
-heard_same none (some b) h = absurd (true≢false (sym h))
-heard_same (some a) none h = absurd (true≢false (sym h))
-heard_same (some a) (some b) h = ap some (texts_same a b h)
+heard_same None None h = refl
+heard_same None (Some b) h = absurd (true≢false (sym h))
+heard_same (Some a) None h = absurd (true≢false (sym h))
+heard_same (Some a) (Some b) h = ap Some (texts_same a b h)
 
 -- the test of a row
 holds : Row → Bool

@@ -1,8 +1,8 @@
 -- Document 01: "PathConsumed is not used." What is read of a reply is the same whatever its first two bytes are.
+use Rattle.std.specs.Prelude.{Option, None, Some}
 use mathlib.Core.Path.{◌≡◌, refl, ap, ◌∙◌}
 use mathlib.Core.Bool.{false, ◌&&◌}
 use mathlib.Core.List.{List, ◌∷◌, map}
-use mathlib.Core.Option.{Option, none, some}
 use Prim.Native.Nat.{ℕ, zero, suc, ◌+◌, ◌≤◌}
 use native.Mathlib.Numerals.{add-one}
 use native.Mathlib.Omega.{arith}
@@ -128,9 +128,9 @@ module _ (a b c d : ℕ) (s : List ℕ) where
 
   said : (p : Option (List ℕ)) (ts : Option (List Target)) → referral_with one p ts ≡ referral_with two p ts
   unfolding referral_with referral_said
-  said none ts = refl
-  said (some p) none = refl
-  said (some p) (some ts) = rw (versions 8 first, types 8 first, header 1, header 2, header 4, count, ttls (version_at two 8) 8 first)
+  said None ts = refl
+  said (Some p) None = refl
+  said (Some p) (Some ts) = rw (versions 8 first, types 8 first, header 1, header 2, header 4, count, ttls (version_at two 8) 8 first)
 
   same : referral_in one ≡ referral_in two
   unfolding referral_in

@@ -1,9 +1,9 @@
 -- An answer to a proper rest, over caches in order, leaves caches in order and calls for what is in form.
+use Rattle.std.specs.Prelude.{Option, None, Some}
 use mathlib.Core.Path.{◌≡◌, refl, sym, ap, ◌∙◌, subst}
 use mathlib.Core.Bool.{Bool, true, false, ◌&&◌, ◌||◌, true≢false}
 use mathlib.Core.List.{List}
 use mathlib.Core.Logic.{◌⊎◌, inl, inr}
-use mathlib.Core.Option.{Option, none, some}
 use Prim.Native.Nat.{ℕ, ◌+◌, ◌*◌, ◌≤◌, ◌<◌, min}
 use native.Mathlib.Omega.{arith}
 use lib.ListN.{length, take}
@@ -19,7 +19,6 @@ use Rattle.cache.specs.order.Order.{good_referral}
 use Rattle.cache.specs.order.Memory.{referrals}
 use Rattle.cache.proofs.order.KindLaws.{referral_told}
 use Rattle.cache_store.specs.domain_cache.Domains.{good_size}
-use Rattle.cache_lookup.specs.declared.Found.TheVariants.{Nothing}
 use Rattle.cache_lookup.specs.Lookup.{with_key}
 use Rattle.reply_read.specs.referral.Replies as replies
 use Rattle.reply_read.specs.referral.Replies.{malformed, nothing, says, read_referral}
@@ -243,8 +242,8 @@ module _ (c : Caches) (cs : GoodCaches c) (w : Core) (q : Question) (p : Proper 
         Fit : Option Referral → Type 0
         Fit o = GoodTurn (io_with c w q status o)
 
-        go : ((with_key referrals (take q.entry w.path) c.referrals ≡ Nothing) × (prefixed (take q.entry w.path) c.referrals ≡ none))
-            ⊎ ((e : Referral) × ((prefixed (take q.entry w.path) c.referrals ≡ some e) × Equal c.referrals cs.refs (take q.entry w.path) e))
+        go : ((with_key referrals (take q.entry w.path) c.referrals ≡ None) × (prefixed (take q.entry w.path) c.referrals ≡ None))
+            ⊎ ((e : Referral) × ((prefixed (take q.entry w.path) c.referrals ≡ Some e) × Equal c.referrals cs.refs (take q.entry w.path) e))
             → GoodTurn (io_with c w q status (prefixed (take q.entry w.path) c.referrals))
         go (inl h) = subst Fit (sym h.1) (stay (well_gone w.path))
         go (inr h) =

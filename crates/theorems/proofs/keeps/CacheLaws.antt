@@ -1,9 +1,9 @@
 -- Caches in order: what is found in them, and that what an event writes keeps them so.
+use Rattle.std.specs.Prelude.{Option, None, Some}
 use mathlib.Core.Path.{◌≡◌, refl, sym, ap, ◌∙◌, subst}
 use mathlib.Core.Bool.{Bool, true, false, not}
 use mathlib.Core.List.{List, [], ◌∷◌}
 use mathlib.Core.Logic.{◌⊎◌, inl, inr}
-use mathlib.Core.Option.{Option, none, some}
 use Prim.Native.Nat.{ℕ, ◌/◌, ◌<◌}
 use native.Mathlib.Omega.{arith}
 use lib.ListN.{length, get_or, set}
@@ -21,8 +21,6 @@ use Rattle.cache.proofs.order.MemoryLaws.{Lawful, cache_told, order_good, decode
 use Rattle.cache.proofs.order.KindLaws.{referrals_lawful, domains_lawful, good_referral_lem, domain_told, good_domain_lem}
 use Rattle.cache.proofs.order.PlaceLaws.{hint_good}
 use Rattle.cache_lookup.specs.Lookup.{with_key, longest_match, new_place, on_entry, target_hint_to, dc_hint_to, target_hinted, dc_hinted}
-use Rattle.cache_lookup.specs.declared.Found.{Found}
-use Rattle.cache_lookup.specs.declared.Found.TheVariants.{At, Nothing}
 use Rattle.cache_lookup.proofs.LookupLaws.{KeyAt, key_found, LongestAt, longest_found, used_inside, new_inside}
 use Rattle.cache_lookup.proofs.StoreLaws.{kept_in_order, new_in_order}
 use Rattle.cache_lookup.proofs.EntryLaws.{target_hint_good}
@@ -37,7 +35,7 @@ use Rattle.walk_steps.proofs.steps.HeldLaws.{none_held}
 use Rattle.walk_steps.proofs.cycle.MoveLaws.{matches_same}
 
 -- an entry that is held stands in its place
-pub held_is : {E : Type 0} (ps : List (Place E)) (i : ℕ) (e : E) → get_or ps i free ≡ used e → {f : Found} → f ≡ At i → held f ps ≡ some e
+pub held_is : {E : Type 0} (ps : List (Place E)) (i : ℕ) (e : E) → get_or ps i free ≡ used e → {f : Option ℕ} → f ≡ Some i → held f ps ≡ Some e
 unfolding held held_at
 held_is ps i e h g = rw (g, h)
 
@@ -70,7 +68,7 @@ module _ {E : Type 0} (k : Kind E) (law : Lawful k) (ps : List (Place E)) (good 
       (ap (λ (l : List (Place E)). in_order k (encode k (set l i (used e')))) (sym back)
       ∙ kept_in_order k law (encode k ps) i (encoded_in_order k law ps good) (fits i (used_inside ps i e h)) e (ap (λ (l : List (Place E)). get_or l i free) back ∙ h) e' g q)
 
-  pub new_good : (i : ℕ) → i < length ps → (e : E) → k.good e ≡ true → with_key k (k.key e) ps ≡ Nothing → good_cache k (set ps i (used e)) ≡ true
+  pub new_good : (i : ℕ) → i < length ps → (e : E) → k.good e ≡ true → with_key k (k.key e) ps ≡ None → good_cache k (set ps i (used e)) ≡ true
   new_good i u e g h =
       read_back (set ps i (used e)) (set_good i e g)
       (ap (λ (l : List (Place E)). in_order k (encode k (set l i (used e)))) (sym back)
@@ -84,25 +82,25 @@ module _ (ps : List (Place Referral)) (good : good_cache referrals ps ≡ true) 
     pub matching : matches e.prefix path ≡ true
 
   -- a look-up finds none, or a good entry
-  pub longest_or : (path : List ℕ) → (longest path ps ≡ none) ⊎ ((e : Referral) × ((longest path ps ≡ some e) × Longest path e))
+  pub longest_or : (path : List ℕ) → (longest path ps ≡ None) ⊎ ((e : Referral) × ((longest path ps ≡ Some e) × Longest path e))
   unfolding longest
   longest_or path = go (longest_match path ps) refl
     where
-      go : (f : Found) → longest_match path ps ≡ f → (held (longest_match path ps) ps ≡ none) ⊎ ((e : Referral) × ((held (longest_match path ps) ps ≡ some e) × Longest path e))
-      go Nothing h = inl (none_held ps h)
-      go (At i) h =
+      go : (f : Option ℕ) → longest_match path ps ≡ f → (held (longest_match path ps) ps ≡ None) ⊎ ((e : Referral) × ((held (longest_match path ps) ps ≡ Some e) × Longest path e))
+      go None h = inl (none_held ps h)
+      go (Some i) h =
           let b : LongestAt path ps i = longest_found path ps i h in
           inr (b.entry, (held_is ps i b.entry b.found.here h, record { well = place_good referrals referrals_lawful ps good i b.entry b.found.here; matching = b.found.matched }))
 
   -- the entry of an equal prefix
   pub record Equal (name : List ℕ) (e : Referral) : Type 0 where
     pub place : ℕ
-    pub found : with_key referrals name ps ≡ At place
+    pub found : with_key referrals name ps ≡ Some place
     pub here : get_or ps place free ≡ used e
     pub well : good_referral e ≡ true
     pub same : same_name e.prefix name ≡ true
 
-  pub equal_at : (name : List ℕ) (i : ℕ) → with_key referrals name ps ≡ At i → (e : Referral) × ((prefixed name ps ≡ some e) × Equal name e)
+  pub equal_at : (name : List ℕ) (i : ℕ) → with_key referrals name ps ≡ Some i → (e : Referral) × ((prefixed name ps ≡ Some e) × Equal name e)
   unfolding prefixed
   equal_at name i h =
       let b : KeyAt referrals name ps i = key_found referrals name ps i h in (
@@ -113,13 +111,13 @@ module _ (ps : List (Place Referral)) (good : good_cache referrals ps ≡ true) 
         ),
       )
 
-  pub prefixed_or : (name : List ℕ) → ((with_key referrals name ps ≡ Nothing) × (prefixed name ps ≡ none)) ⊎ ((e : Referral) × ((prefixed name ps ≡ some e) × Equal name e))
+  pub prefixed_or : (name : List ℕ) → ((with_key referrals name ps ≡ None) × (prefixed name ps ≡ None)) ⊎ ((e : Referral) × ((prefixed name ps ≡ Some e) × Equal name e))
   unfolding prefixed
   prefixed_or name = go (with_key referrals name ps) refl
     where
-      go : (f : Found) → with_key referrals name ps ≡ f → ((with_key referrals name ps ≡ Nothing) × (held (with_key referrals name ps) ps ≡ none)) ⊎ ((e : Referral) × ((held (with_key referrals name ps) ps ≡ some e) × Equal name e))
-      go Nothing h = inl (h, none_held ps h)
-      go (At i) h = inr (equal_at name i h)
+      go : (f : Option ℕ) → with_key referrals name ps ≡ f → ((with_key referrals name ps ≡ None) × (held (with_key referrals name ps) ps ≡ None)) ⊎ ((e : Referral) × ((held (with_key referrals name ps) ps ≡ Some e) × Equal name e))
+      go None h = inl (h, none_held ps h)
+      go (Some i) h = inr (equal_at name i h)
 
   -- the hint of an entry set
   pub hint_kept : (i h : ℕ) (e : Referral) → get_or ps i free ≡ used e → h < length e.targets → good_cache referrals (target_hinted i h ps) ≡ true
@@ -163,7 +161,7 @@ module _ (ps : List (Place Referral)) (good : good_cache referrals ps ≡ true) 
       Fit : Option Referral → Type 0
       Fit o = Longest ps good path (stored_entry o r interlink clock)
 
-      go : ((with_key referrals r.prefix ps ≡ Nothing) × (prefixed r.prefix ps ≡ none)) ⊎ ((e : Referral) × ((prefixed r.prefix ps ≡ some e) × Equal ps good r.prefix e))
+      go : ((with_key referrals r.prefix ps ≡ None) × (prefixed r.prefix ps ≡ None)) ⊎ ((e : Referral) × ((prefixed r.prefix ps ≡ Some e) × Equal ps good r.prefix e))
           → Longest ps good path (stored_entry (prefixed r.prefix ps) r interlink clock)
       go (inl h) = subst Fit (sym h.1) (record { well = fine; matching = m })
       go (inr h) =
@@ -176,7 +174,7 @@ module _ (ps : List (Place Referral)) (good : good_cache referrals ps ≡ true) 
   unfolding stored stored_entry refreshed fresh
   stored_kept = go (prefixed_or ps good r.prefix)
     where
-      go : ((with_key referrals r.prefix ps ≡ Nothing) × (prefixed r.prefix ps ≡ none)) ⊎ ((e : Referral) × ((prefixed r.prefix ps ≡ some e) × Equal ps good r.prefix e))
+      go : ((with_key referrals r.prefix ps ≡ None) × (prefixed r.prefix ps ≡ None)) ⊎ ((e : Referral) × ((prefixed r.prefix ps ≡ Some e) × Equal ps good r.prefix e))
           → good_cache referrals (set ps (store_place clock r.prefix ps) (used (stored_entry (prefixed r.prefix ps) r interlink clock))) ≡ true
       go (inl h) =
           (λ j. good_cache referrals (set ps (sym (place_new clock r.prefix ps refl h.0 refl) j) (used (stored_entry (h.1 j) r interlink clock))))

@@ -1,8 +1,8 @@
 -- What the calls keep.
+use Rattle.std.specs.Prelude.{Option, None, Some}
 use mathlib.Core.Path.{subst, ◌≡◌, refl, sym, ap, ◌∙◌}
 use mathlib.Core.Bool.{Bool, true, false, ◌&&◌}
 use mathlib.Core.List.{List}
-use mathlib.Core.Option.{Option, none, some}
 use Prim.Native.Nat.{ℕ, ◌-◌, ◌≤◌}
 use native.Mathlib.Omega.{arith}
 use lib.ListN.{length}
@@ -99,10 +99,10 @@ module _ (f g : ℕ → Bool) (refs doms texts : List ℕ) (walk : Walk) (out : 
     unfolding closes
     taken t h = ap (λ (x : Left). x.verdict) (choose_yes _ _ h)
 
-    answers_keep : (event : Option Turn) → ((t : Turn) → event ≡ some t → Kept t) → AnswerKeeps f g walk texts out refs doms (answers event clock walk texts out refs doms)
+    answers_keep : (event : Option Turn) → ((t : Turn) → event ≡ Some t → Kept t) → AnswerKeeps f g walk texts out refs doms (answers event clock walk texts out refs doms)
     unfolding answers refusal_number
-    answers_keep none k = turned_away OutOfForm (omega arith)
-    answers_keep (some t) k =
+    answers_keep None k = turned_away OutOfForm (omega arith)
+    answers_keep (Some t) k =
         picked (AnswerKeeps f g walk texts out refs doms) (rest_fits (length out) (turned (walk.limit - walk.moves) clock t)) _ _
         (λ h. record {
           keeps_form = (closed t (k t refl).good).keeps_form;
@@ -113,7 +113,7 @@ module _ (f g : ℕ → Bool) (refs doms texts : List ℕ) (walk : Walk) (out : 
         (λ h. turned_away ShortBuffer (omega arith))
 
   answer_keeps : (event : Option Turn) (clock : ℕ)
-      → ((in_order referrals refs && in_order domains doms) ≡ true → in_form walk texts ≡ true → (t : Turn) → event ≡ some t → Kept t)
+      → ((in_order referrals refs && in_order domains doms) ≡ true → in_form walk texts ≡ true → (t : Turn) → event ≡ Some t → Kept t)
       → AnswerKeeps f g walk texts out refs doms (answer_call event clock walk texts out refs doms)
   unfolding answer_call refusal_number
   answer_keeps event clock k =

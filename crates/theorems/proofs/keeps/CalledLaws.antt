@@ -1,9 +1,9 @@
 -- What the steps call for is in form.
+use Rattle.std.specs.Prelude.{Option, None, Some}
 use mathlib.Core.Path.{◌≡◌, refl, sym, subst}
 use mathlib.Core.Bool.{Bool, true, false, ◌&&◌, not}
 use mathlib.Core.List.{List, []}
 use mathlib.Core.Logic.{◌⊎◌, inl, inr}
-use mathlib.Core.Option.{Option, none, some}
 use Prim.Native.Nat.{ℕ, ◌≤◌, ◌<◌}
 use native.Mathlib.Omega.{arith}
 use lib.ListN.{length, get_or}
@@ -18,7 +18,6 @@ use Rattle.cache.specs.order.Memory.{referrals, good_cache}
 use Rattle.cache.proofs.order.KindLaws.{referral_told}
 use Rattle.cache_store.specs.domain_cache.Domains.{good_size}
 use Rattle.cache_lookup.specs.Lookup.{with_key, expired, target_path, target_hint_to}
-use Rattle.cache_lookup.specs.declared.Found.TheVariants.{Nothing}
 use Rattle.cache_lookup.proofs.EntryLaws.{target_hint_good}
 use Rattle.cache_store.specs.entry_after_reply.Stored.{prefixed}
 use Rattle.walk_steps.specs.steps.Steps.{Caches, Core, Question, Called, stops, asks, replaces, ends, longest, domain_named, step2, step2_with, step3, step4, step5, step5_with, step5_domain, step6, step6_host, step7, step8, step9, step9_with, step10, step11, dc_request, link_request, after_store}
@@ -162,8 +161,8 @@ module _ (w : Core) (good : good_prefix w.path ≡ true) (size : good_size w.siz
   asked_step5 ds = go (domain_named (get_or (components w.path) 0 []) ds)
     where
       go : (o : Option Domain) → Asked w.path (step5_with w o)
-      go none = asked_host
-      go (some d) =
+      go None = asked_host
+      go (Some d) =
           chosen (Asked w.path) (eqb (length d.dcs) 0) _ _ asked_dc
           (chosen (Asked w.path) (is_sysvol w.path) _ _ (asked_sysvol d) (asked_root d.hint d.hint))
 
@@ -176,8 +175,8 @@ module _ (w : Core) (good : good_prefix w.path ≡ true) (size : good_size w.siz
         Fit : Option Referral → Type 0
         Fit o = Asked w.path (step9_with c w o)
 
-        go : ((with_key referrals (first_of 2 w.path) c.referrals ≡ Nothing) × (prefixed (first_of 2 w.path) c.referrals ≡ none))
-            ⊎ ((e : Referral) × ((prefixed (first_of 2 w.path) c.referrals ≡ some e) × Equal c.referrals order (first_of 2 w.path) e))
+        go : ((with_key referrals (first_of 2 w.path) c.referrals ≡ None) × (prefixed (first_of 2 w.path) c.referrals ≡ None))
+            ⊎ ((e : Referral) × ((prefixed (first_of 2 w.path) c.referrals ≡ Some e) × Equal c.referrals order (first_of 2 w.path) e))
             → Asked w.path (step9_with c w (prefixed (first_of 2 w.path) c.referrals))
         go (inl h) = subst Fit (sym h.1) (asked_step5 c.domains)
         go (inr h) =
@@ -193,7 +192,7 @@ module _ (w : Core) (good : good_prefix w.path ≡ true) (size : good_size w.siz
         Fit : Option Referral → Type 0
         Fit o = Well w.path (step2_with c w clock o)
 
-        go : (longest w.path c.referrals ≡ none) ⊎ ((e : Referral) × ((longest w.path c.referrals ≡ some e) × Longest c.referrals order w.path e))
+        go : (longest w.path c.referrals ≡ None) ⊎ ((e : Referral) × ((longest w.path c.referrals ≡ Some e) × Longest c.referrals order w.path e))
             → Well w.path (step2_with c w clock (longest w.path c.referrals))
         go (inl h) = subst Fit (sym h) (well_asks w.path (asked_step5 c.domains))
         go (inr h) =

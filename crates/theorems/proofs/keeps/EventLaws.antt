@@ -1,8 +1,8 @@
 -- Events: a start and the answers to a proper rest rest properly, for every number of moves left.
+use Rattle.std.specs.Prelude.{Option, None, Some}
 use mathlib.Core.Path.{◌≡◌, refl, sym, ap, subst}
 use mathlib.Core.Bool.{true, false, true≢false}
 use mathlib.Core.List.{List, []}
-use mathlib.Core.Option.{Option, none, some}
 use Prim.Native.Nat.{ℕ, ◌≤◌}
 use native.Mathlib.Omega.{arith}
 use lib.ListN.{length}
@@ -60,13 +60,13 @@ started_proper c cs w size h n clock = picked Fit (eqb (component_count w.path) 
 -- the event of an answer, if there is one
 module _ (P : Turn → Type 0) where
   unfoldable pub If : Option Turn → Type 0
-  If o = (t : Turn) → o ≡ some t → P t
+  If o = (t : Turn) → o ≡ Some t → P t
 
-  pub if_none : If none
+  pub if_none : If None
   unfolding If
   if_none t h = absurd (let z : ◌≡◌ {A = ℕ} 0 1 = cc in omega arith)
 
-  pub if_some : (x : Turn) → P x → If (some x)
+  pub if_some : (x : Turn) → P x → If (Some x)
   unfolding If
   if_some x g t h = subst P (let z : x ≡ t = cc in z) g
 
@@ -80,7 +80,7 @@ is_io Io h = refl
 
 module _ (c : Caches) (w : Core) where
   -- it changes no place but those that it names
-  pub referral_elsewhere : (r : Rest) (status : ℕ) (reply : List ℕ) (clock : ℕ) (t : Turn) → referral_event c w r status reply clock ≡ some t
+  pub referral_elsewhere : (r : Rest) (status : ℕ) (reply : List ℕ) (clock : ℕ) (t : Turn) → referral_event c w r status reply clock ≡ Some t
       → Elsewhere (referral_names c w r reply clock) (domain_names c w r) c t.caches
   unfolding referral_event referral_names domain_names If
   referral_elsewhere (ended e s tried) status reply clock = if_none _
@@ -89,7 +89,7 @@ module _ (c : Caches) (w : Core) where
       Fit : Turn → Type 0
       Fit t = Elsewhere (referral_names c w (waits q) reply clock) (domain_names c w (waits q)) c t.caches
 
-  pub io_elsewhere : (r : Rest) (status : ℕ) (t : Turn) → io_event c w r status ≡ some t → Elsewhere (io_names c w r) (domain_names c w r) c t.caches
+  pub io_elsewhere : (r : Rest) (status : ℕ) (t : Turn) → io_event c w r status ≡ Some t → Elsewhere (io_names c w r) (domain_names c w r) c t.caches
   unfolding io_event io_names domain_names If
   io_elsewhere (ended e s tried) status = if_none _
   io_elsewhere (waits q) status = chosen (If Fit) (has_tried q.kind) _ _ (if_some Fit _ (tried_elsewhere c w q status)) (if_none Fit)
@@ -99,25 +99,25 @@ module _ (c : Caches) (w : Core) where
 
 module _ (c : Caches) (cs : GoodCaches c) (w : Core) where
   -- it is good
-  pub referral_good : (r : Rest) → Proper w r → (status : ℕ) (reply : List ℕ) (clock : ℕ) (t : Turn) → referral_event c w r status reply clock ≡ some t → GoodTurn t
+  pub referral_good : (r : Rest) → Proper w r → (status : ℕ) (reply : List ℕ) (clock : ℕ) (t : Turn) → referral_event c w r status reply clock ≡ Some t → GoodTurn t
   unfolding referral_event If
   referral_good (ended e s tried) p status reply clock = if_none GoodTurn
   referral_good (waits q) p status reply clock =
-      picked (If GoodTurn) (has_tried q.kind) none (some (referral_answered c w q status reply clock)) (λ h. if_none GoodTurn)
+      picked (If GoodTurn) (has_tried q.kind) None (Some (referral_answered c w q status reply clock)) (λ h. if_none GoodTurn)
       (λ h. if_some GoodTurn _ (answered_turn c cs w q p h status reply clock))
 
-  pub io_good : (r : Rest) → Proper w r → (status : ℕ) (t : Turn) → io_event c w r status ≡ some t → GoodTurn t
+  pub io_good : (r : Rest) → Proper w r → (status : ℕ) (t : Turn) → io_event c w r status ≡ Some t → GoodTurn t
   unfolding io_event If
   io_good (ended e s tried) p status = if_none GoodTurn
   io_good (waits q) p status =
-      picked (If GoodTurn) (has_tried q.kind) (some (io_answered c w q status)) none (λ h. if_some GoodTurn _ (tried_turn c cs w q p (is_io q.kind h) status))
+      picked (If GoodTurn) (has_tried q.kind) (Some (io_answered c w q status)) None (λ h. if_some GoodTurn _ (tried_turn c cs w q p (is_io q.kind h) status))
       (λ h. if_none GoodTurn)
 
   -- and where the steps rest is proper
-  pub answered_proper : (r : Rest) → Proper w r → (status : ℕ) (reply : List ℕ) (clock : ℕ) (t : Turn) → referral_event c w r status reply clock ≡ some t
+  pub answered_proper : (r : Rest) → Proper w r → (status : ℕ) (reply : List ℕ) (clock : ℕ) (t : Turn) → referral_event c w r status reply clock ≡ Some t
       → (n : ℕ) → Proper (turned n clock t).core (turned n clock t).rest
   answered_proper r p status reply clock t h n = turned_proper n clock t (referral_good r p status reply clock t h)
 
-  pub tried_proper : (r : Rest) → Proper w r → (status clock : ℕ) (t : Turn) → io_event c w r status ≡ some t
+  pub tried_proper : (r : Rest) → Proper w r → (status clock : ℕ) (t : Turn) → io_event c w r status ≡ Some t
       → (n : ℕ) → Proper (turned n clock t).core (turned n clock t).rest
   tried_proper r p status clock t h n = turned_proper n clock t (io_good r p status t h)

@@ -1,8 +1,8 @@
 -- An answer that fails leaves both caches as they were.
+use Rattle.std.specs.Prelude.{Option, None, Some}
 use mathlib.Core.Path.{◌≡◌, refl, sym, ap, ◌∙◌}
 use mathlib.Core.Bool.{true, false, ◌&&◌}
 use mathlib.Core.List.{List}
-use mathlib.Core.Option.{Option, none, some}
 use mathlib.Core.Logic.{◌⊎◌, inl, inr}
 use Prim.Native.Nat.{ℕ, ◌-◌}
 use native.Mathlib.Omega.{arith}
@@ -37,48 +37,48 @@ module _ (c : Caches) (w : Core) (status clock : ℕ) (reply : List ℕ) where
 
   io_with_lem : (q : Question) (e : Option Referral) → eqb (severity status) 3 ≡ true → (io_with c w q status e).caches ≡ c
   unfolding io_with
-  io_with_lem q none s = refl
-  io_with_lem q (some e) s =
+  io_with_lem q None s = refl
+  io_with_lem q (Some e) s =
       picked (λ (t : Turn). t.caches ≡ c) (eqb (severity status) 3) _ _ (λ h. refl) (λ h. absurd (not_both s h))
 
   io_turn_lem : (q : Question) → eqb (severity status) 3 ≡ true → (io_answered c w q status).caches ≡ c
   unfolding io_answered
   io_turn_lem q s = picked (λ (t : Turn). t.caches ≡ c) (is_in_use c w q) _ _ (λ u. io_with_lem q (referral_in_use c w q) s) (λ u. refl)
 
-  some_one : {t u : Turn} → some t ≡ some u → u.caches ≡ t.caches
+  some_one : {t u : Turn} → Some t ≡ Some u → u.caches ≡ t.caches
   some_one {t} {u} e = let z : u ≡ t = cc in ap (λ (x : Turn). x.caches) z
 
-  none_some : {t : Turn} → none ≡ some t → ⊥
+  none_some : {t : Turn} → None ≡ Some t → ⊥
   none_some e = let z : ◌≡◌ {A = ℕ} 0 1 = cc in omega arith
 
-  referral_event_lem : (r : Rest) → leb 2 (severity status) ≡ true → (t : Turn) → referral_event c w r status reply clock ≡ some t → t.caches ≡ c
+  referral_event_lem : (r : Rest) → leb 2 (severity status) ≡ true → (t : Turn) → referral_event c w r status reply clock ≡ Some t → t.caches ≡ c
   unfolding referral_event
   referral_event_lem (ended e f tried) s t h = absurd (none_some h)
   referral_event_lem (waits q) s t h = go (told (has_tried q.kind))
     where
       go : (has_tried q.kind ≡ true) ⊎ (has_tried q.kind ≡ false) → t.caches ≡ c
-      go (inl k) = absurd (none_some (sym (choose_yes none (some (referral_answered c w q status reply clock)) k) ∙ h))
-      go (inr k) = some_one (sym (choose_no none (some (referral_answered c w q status reply clock)) k) ∙ h) ∙ referral_turn_lem q s
+      go (inl k) = absurd (none_some (sym (choose_yes None (Some (referral_answered c w q status reply clock)) k) ∙ h))
+      go (inr k) = some_one (sym (choose_no None (Some (referral_answered c w q status reply clock)) k) ∙ h) ∙ referral_turn_lem q s
 
-  io_event_lem : (r : Rest) → eqb (severity status) 3 ≡ true → (t : Turn) → io_event c w r status ≡ some t → t.caches ≡ c
+  io_event_lem : (r : Rest) → eqb (severity status) 3 ≡ true → (t : Turn) → io_event c w r status ≡ Some t → t.caches ≡ c
   unfolding io_event
   io_event_lem (ended e f tried) s t h = absurd (none_some h)
   io_event_lem (waits q) s t h = go (told (has_tried q.kind))
     where
       go : (has_tried q.kind ≡ true) ⊎ (has_tried q.kind ≡ false) → t.caches ≡ c
-      go (inl k) = some_one (sym (choose_yes (some (io_answered c w q status)) none k) ∙ h) ∙ io_turn_lem q s
-      go (inr k) = absurd (none_some (sym (choose_no (some (io_answered c w q status)) none k) ∙ h))
+      go (inl k) = some_one (sym (choose_yes (Some (io_answered c w q status)) None k) ∙ h) ∙ io_turn_lem q s
+      go (inr k) = absurd (none_some (sym (choose_no (Some (io_answered c w q status)) None k) ∙ h))
 
 -- a call whose event leaves the caches
 module _ (refs doms texts : List ℕ) (walk : Walk) (out : List ℕ) (clock : ℕ) where
   away : (v : Verdict) → Unchanged refs doms (refused_answer v walk texts out refs doms)
   away v = record { refs_stay = refl; doms_stay = refl }
 
-  answers_stay : (event : Option Turn) → (in_order referrals refs && in_order domains doms) ≡ true → ((t : Turn) → event ≡ some t → t.caches ≡ caches_of refs doms)
+  answers_stay : (event : Option Turn) → (in_order referrals refs && in_order domains doms) ≡ true → ((t : Turn) → event ≡ Some t → t.caches ≡ caches_of refs doms)
       → Unchanged refs doms (answers event clock walk texts out refs doms)
   unfolding answers caches_of
-  answers_stay none o k = away OutOfForm
-  answers_stay (some t) o k =
+  answers_stay None o k = away OutOfForm
+  answers_stay (Some t) o k =
       picked (Unchanged refs doms) (rest_fits (length out) (turned (walk.limit - walk.moves) clock t)) _ _
       (λ h. record {
         refs_stay = ap (λ (c : Caches). encode referrals c.referrals) (k t refl) ∙ encode_decode referrals refs (and_left _ _ o);
@@ -86,7 +86,7 @@ module _ (refs doms texts : List ℕ) (walk : Walk) (out : List ℕ) (clock : �
       })
       (λ h. away ShortBuffer)
 
-  answer_stays : (event : Option Turn) → ((t : Turn) → event ≡ some t → t.caches ≡ caches_of refs doms) → Unchanged refs doms (answer_call event clock walk texts out refs doms)
+  answer_stays : (event : Option Turn) → ((t : Turn) → event ≡ Some t → t.caches ≡ caches_of refs doms) → Unchanged refs doms (answer_call event clock walk texts out refs doms)
   unfolding answer_call
   answer_stays event k =
       picked (Unchanged refs doms) (in_order referrals refs && in_order domains doms) _ _

@@ -1,9 +1,9 @@
 -- Hints and DCs that an answer sets keep the caches in order.
+use Rattle.std.specs.Prelude.{Option, Some, None}
 use mathlib.Core.Path.{◌≡◌, refl, sym, ap, ◌∙◌, subst}
 use mathlib.Core.Bool.{Bool, true, false, ◌&&◌, ◌||◌}
 use mathlib.Core.List.{List, []}
 use mathlib.Core.Logic.{◌⊎◌, inl, inr}
-use mathlib.Core.Option.{Option}
 use Prim.Native.Nat.{ℕ, ◌<◌}
 use lib.ListN.{get_or, take}
 use lib.Dec.{eqb, ltb}
@@ -15,8 +15,6 @@ use Rattle.unc.specs.names.Paths.{components}
 use Rattle.cache.specs.order.Entries.{Referral, Domain}
 use Rattle.cache.specs.order.Memory.{referrals, domains}
 use Rattle.cache_lookup.specs.Lookup.{with_key, target_hinted, dc_hinted}
-use Rattle.cache_lookup.specs.declared.Found.{Found}
-use Rattle.cache_lookup.specs.declared.Found.TheVariants.{At, Nothing}
 use Rattle.cache_lookup.proofs.LookupLaws.{KeyAt, key_found}
 use Rattle.reply_read.proofs.name_lists.SaysLaws.{SoundDcs}
 use Rattle.cache_store.specs.entry_after_reply.Stored.{prefixed, dcs_stored}
@@ -32,29 +30,29 @@ kind_to k q = record { kind = k; entry = q.entry; party = q.party; began = q.beg
 
 -- where the entry in use is, and what is then set
 module _ (c : Caches) (w : Core) where
-  pub target_none : (q : Question) → with_key referrals (take q.entry w.path) c.referrals ≡ Nothing → target_hint_set c w q ≡ c
+  pub target_none : (q : Question) → with_key referrals (take q.entry w.path) c.referrals ≡ None → target_hint_set c w q ≡ c
   unfolding target_hint_set
   target_none q h = rw h refl
 
-  pub target_at_lem : (q : Question) (i : ℕ) → with_key referrals (take q.entry w.path) c.referrals ≡ At i
+  pub target_at_lem : (q : Question) (i : ℕ) → with_key referrals (take q.entry w.path) c.referrals ≡ Some i
       → target_hint_set c w q ≡ with_referrals (target_hinted i q.party c.referrals) c
   unfolding target_hint_set
   target_at_lem q i h = rw h refl
 
-  pub dc_none : (place : ℕ) → with_key domains (get_or (components w.path) 0 []) c.domains ≡ Nothing → dc_hint_set c w place ≡ c
+  pub dc_none : (place : ℕ) → with_key domains (get_or (components w.path) 0 []) c.domains ≡ None → dc_hint_set c w place ≡ c
   unfolding dc_hint_set
   dc_none place h = rw h refl
 
-  pub dc_at : (place i : ℕ) → with_key domains (get_or (components w.path) 0 []) c.domains ≡ At i
+  pub dc_at : (place i : ℕ) → with_key domains (get_or (components w.path) 0 []) c.domains ≡ Some i
       → dc_hint_set c w place ≡ with_domains (dc_hinted i place c.domains) c
   unfolding dc_hint_set
   dc_at place i h = rw h refl
 
-  pub dcs_none : (names : List (List ℕ)) → with_key domains (get_or (components w.path) 0 []) c.domains ≡ Nothing → dcs_in c w names ≡ c
+  pub dcs_none : (names : List (List ℕ)) → with_key domains (get_or (components w.path) 0 []) c.domains ≡ None → dcs_in c w names ≡ c
   unfolding dcs_in
   dcs_none names h = rw h refl
 
-  pub dcs_at : (names : List (List ℕ)) (i : ℕ) → with_key domains (get_or (components w.path) 0 []) c.domains ≡ At i
+  pub dcs_at : (names : List (List ℕ)) (i : ℕ) → with_key domains (get_or (components w.path) 0 []) c.domains ≡ Some i
       → dcs_in c w names ≡ with_domains (dcs_stored i names c.domains) c
   unfolding dcs_in
   dcs_at names i h = rw h refl
@@ -65,9 +63,9 @@ module _ (c : Caches) (w : Core) where
     unfolding with_referrals target_count prefixed
     target_good q u = go (with_key referrals (take q.entry w.path) c.referrals) refl
       where
-        go : (f : Found) → with_key referrals (take q.entry w.path) c.referrals ≡ f → GoodCaches (target_hint_set c w q)
-        go Nothing h = subst GoodCaches (sym (target_none q h)) cs
-        go (At i) h =
+        go : (f : Option ℕ) → with_key referrals (take q.entry w.path) c.referrals ≡ f → GoodCaches (target_hint_set c w q)
+        go None h = subst GoodCaches (sym (target_none q h)) cs
+        go (Some i) h =
             let b : KeyAt referrals (take q.entry w.path) c.referrals i = key_found referrals (take q.entry w.path) c.referrals i h in
             subst GoodCaches (sym (target_at_lem q i h)) (record {
               refs =
@@ -80,9 +78,9 @@ module _ (c : Caches) (w : Core) where
     unfolding with_domains dc_count domain_in_use domain_named
     dc_good place u = go (with_key domains (get_or (components w.path) 0 []) c.domains) refl
       where
-        go : (f : Found) → with_key domains (get_or (components w.path) 0 []) c.domains ≡ f → GoodCaches (dc_hint_set c w place)
-        go Nothing h = subst GoodCaches (sym (dc_none place h)) cs
-        go (At i) h =
+        go : (f : Option ℕ) → with_key domains (get_or (components w.path) 0 []) c.domains ≡ f → GoodCaches (dc_hint_set c w place)
+        go None h = subst GoodCaches (sym (dc_none place h)) cs
+        go (Some i) h =
             let b : KeyAt domains (get_or (components w.path) 0 []) c.domains i = key_found domains (get_or (components w.path) 0 []) c.domains i h in
             subst GoodCaches (sym (dc_at place i h)) (record {
               refs = cs.refs;
@@ -96,9 +94,9 @@ module _ (c : Caches) (w : Core) where
     unfolding with_domains
     dcs_good names s = go (with_key domains (get_or (components w.path) 0 []) c.domains) refl
       where
-        go : (f : Found) → with_key domains (get_or (components w.path) 0 []) c.domains ≡ f → GoodCaches (dcs_in c w names)
-        go Nothing h = subst GoodCaches (sym (dcs_none names h)) cs
-        go (At i) h =
+        go : (f : Option ℕ) → with_key domains (get_or (components w.path) 0 []) c.domains ≡ f → GoodCaches (dcs_in c w names)
+        go None h = subst GoodCaches (sym (dcs_none names h)) cs
+        go (Some i) h =
             let b : KeyAt domains (get_or (components w.path) 0 []) c.domains i = key_found domains (get_or (components w.path) 0 []) c.domains i h in
             subst GoodCaches (sym (dcs_at names i h)) (record { refs = cs.refs; doms = dcs_kept c.domains cs.doms i b.entry b.here names s })
 

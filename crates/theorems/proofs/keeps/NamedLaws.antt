@@ -1,8 +1,8 @@
 -- An event changes no place but those that it names.
+use Rattle.std.specs.Prelude.{Option, None, Some}
 use mathlib.Core.Path.{◌≡◌, refl, sym, ap, ◌∙◌, subst}
 use mathlib.Core.Bool.{Bool, false, ◌||◌}
 use mathlib.Core.List.{List, [], ◌∷◌}
-use mathlib.Core.Option.{Option, none, some}
 use Prim.Native.Nat.{ℕ, zero, suc, ◌+◌}
 use lib.ListN.{get_or, take, set}
 use lib.Seq.{get_or-set_other}
@@ -14,8 +14,6 @@ use Rattle.unc.specs.names.Paths.{components}
 use Rattle.cache.specs.order.Entries.{Referral, Place, free, used}
 use Rattle.cache.specs.order.Memory.{referrals, domains}
 use Rattle.cache_lookup.specs.Lookup.{has_key, with_key_from, with_key, first_free_from, place_age, oldest_from, oldest, found_or, new_place, on_entry, target_hint_to, target_hinted, dc_hinted}
-use Rattle.cache_lookup.specs.declared.Found.{Found}
-use Rattle.cache_lookup.specs.declared.Found.TheVariants.{At, Nothing}
 use Rattle.reply_read.specs.referral.Replies as replies
 use Rattle.reply_read.specs.referral.Replies.{malformed, nothing, says, read_referral}
 use Rattle.reply_read.specs.name_lists.NameLists.{read_dcs}
@@ -44,8 +42,8 @@ module _ (h : ℕ) where
       → with_key_from referrals name n (set ps i (on_entry (target_hint_to h) (get_or ps i free))) ≡ with_key_from referrals name n ps
   unfolding with_key_from
   same_found name n [] i = refl
-  same_found name n (p ∷ ps) zero = ap (λ (b : Bool). choose b (At n) (with_key_from referrals name (n + 1) ps)) (same_key name p)
-  same_found name n (p ∷ ps) (suc i) = ap (choose (has_key referrals name p) (At n)) (same_found name (n + 1) ps i)
+  same_found name n (p ∷ ps) zero = ap (λ (b : Bool). choose b (Some n) (with_key_from referrals name (n + 1) ps)) (same_key name p)
+  same_found name n (p ∷ ps) (suc i) = ap (choose (has_key referrals name p) (Some n)) (same_found name (n + 1) ps i)
 
   same_free : (n : ℕ) (ps : List (Place Referral)) (i : ℕ) → first_free_from n (set ps i (on_entry (target_hint_to h) (get_or ps i free))) ≡ first_free_from n ps
   unfolding first_free_from on_entry
@@ -80,9 +78,9 @@ module _ (c : Caches) (w : Core) (q : Question) where
   unfolding is_at with_referrals target_hinted
   target_elsewhere f g k u = go (with_key referrals (take q.entry w.path) c.referrals) refl
     where
-      go : (x : Found) → with_key referrals (take q.entry w.path) c.referrals ≡ x → Elsewhere f g c (target_hint_set c w (kind_to k q))
-      go Nothing h = subst (Elsewhere f g c) (sym (target_none c w (kind_to k q) h)) (same_elsewhere f g c)
-      go (At j) h =
+      go : (x : Option ℕ) → with_key referrals (take q.entry w.path) c.referrals ≡ x → Elsewhere f g c (target_hint_set c w (kind_to k q))
+      go None h = subst (Elsewhere f g c) (sym (target_none c w (kind_to k q) h)) (same_elsewhere f g c)
+      go (Some j) h =
           subst (Elsewhere f g c) (sym (target_at_lem c w (kind_to k q) j h)) (record {
             prefixes = λ i n. get_or-set_other c.referrals j i _ free (eqb-false i j (ap (is_at i) (sym h) ∙ u i n));
             names = λ i n. refl;
@@ -93,9 +91,9 @@ module _ (c : Caches) (w : Core) (q : Question) where
   unfolding is_at with_domains dc_hinted
   dc_elsewhere f g place u = go (with_key domains (get_or (components w.path) 0 []) c.domains) refl
     where
-      go : (x : Found) → with_key domains (get_or (components w.path) 0 []) c.domains ≡ x → Elsewhere f g c (dc_hint_set c w place)
-      go Nothing h = subst (Elsewhere f g c) (sym (dc_none c w place h)) (same_elsewhere f g c)
-      go (At j) h =
+      go : (x : Option ℕ) → with_key domains (get_or (components w.path) 0 []) c.domains ≡ x → Elsewhere f g c (dc_hint_set c w place)
+      go None h = subst (Elsewhere f g c) (sym (dc_none c w place h)) (same_elsewhere f g c)
+      go (Some j) h =
           subst (Elsewhere f g c) (sym (dc_at c w place j h)) (record {
             prefixes = λ i n. refl;
             names = λ i n. get_or-set_other c.domains j i _ free (eqb-false i j (ap (is_at i) (sym h) ∙ u i n));
@@ -106,9 +104,9 @@ module _ (c : Caches) (w : Core) (q : Question) where
   unfolding is_at with_domains
   dcs_in_elsewhere f g xs u = go (with_key domains (get_or (components w.path) 0 []) c.domains) refl
     where
-      go : (x : Found) → with_key domains (get_or (components w.path) 0 []) c.domains ≡ x → Elsewhere f g c (dcs_in c w xs)
-      go Nothing h = subst (Elsewhere f g c) (sym (dcs_none c w xs h)) (same_elsewhere f g c)
-      go (At j) h =
+      go : (x : Option ℕ) → with_key domains (get_or (components w.path) 0 []) c.domains ≡ x → Elsewhere f g c (dcs_in c w xs)
+      go None h = subst (Elsewhere f g c) (sym (dcs_none c w xs h)) (same_elsewhere f g c)
+      go (Some j) h =
           subst (Elsewhere f g c) (sym (dcs_at c w xs j h)) (record {
             prefixes = λ i n. refl;
             names = λ i n. dcs_elsewhere j xs c.domains i (eqb-false i j (ap (is_at i) (sym h) ∙ u i n));
@@ -133,13 +131,13 @@ module _ (c : Caches) (w : Core) (q : Question) where
       Same : Caches → Type 0
       Same d = store_place clock prefix d.referrals ≡ store_place clock prefix c.referrals
 
-      target : (k : Kind) (x : Found) → with_key referrals (take q.entry w.path) c.referrals ≡ x → Same (target_hint_set c w (kind_to k q))
-      target k Nothing h = subst Same (sym (target_none c w (kind_to k q) h)) refl
-      target k (At j) h = subst Same (sym (target_at_lem c w (kind_to k q) j h)) (same_place q.party clock prefix c.referrals j)
+      target : (k : Kind) (x : Option ℕ) → with_key referrals (take q.entry w.path) c.referrals ≡ x → Same (target_hint_set c w (kind_to k q))
+      target k None h = subst Same (sym (target_none c w (kind_to k q) h)) refl
+      target k (Some j) h = subst Same (sym (target_at_lem c w (kind_to k q) j h)) (same_place q.party clock prefix c.referrals j)
 
-      dc : (x : Found) → with_key domains (get_or (components w.path) 0 []) c.domains ≡ x → Same (dc_hint_set c w q.party)
-      dc Nothing h = subst Same (sym (dc_none c w q.party h)) refl
-      dc (At j) h = subst Same (sym (dc_at c w q.party j h)) refl
+      dc : (x : Option ℕ) → with_key domains (get_or (components w.path) 0 []) c.domains ≡ x → Same (dc_hint_set c w q.party)
+      dc None h = subst Same (sym (dc_none c w q.party h)) refl
+      dc (Some j) h = subst Same (sym (dc_at c w q.party j h)) refl
 
       go : (k : Kind) → Same (hint_set c w (kind_to k q))
       go Dc = refl
@@ -215,5 +213,5 @@ module _ (c : Caches) (w : Core) (q : Question) where
       Kept t = Elsewhere (uses_prefix c w q) (uses_domain c w q) c t.caches
 
       go : (o : Option Referral) → Kept (io_with c w q status o)
-      go none = same_elsewhere _ _ c
-      go (some e) = chosen Kept (eqb (severity status) 3) _ _ (same_elsewhere _ _ c) (hint_elsewhere c w q)
+      go None = same_elsewhere _ _ c
+      go (Some e) = chosen Kept (eqb (severity status) 3) _ _ (same_elsewhere _ _ c) (hint_elsewhere c w q)

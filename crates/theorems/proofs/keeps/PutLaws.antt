@@ -1,9 +1,9 @@
 -- A start and the answers put a question, if they put one, whose entry in use is there.
+use Rattle.std.specs.Prelude.{Option, None, Some}
 use mathlib.Core.Path.{◌≡◌, refl, sym, ap, ◌∙◌, subst}
 use mathlib.Core.Bool.{Bool, true, false, ◌&&◌, ◌||◌}
 use mathlib.Core.List.{List, []}
 use mathlib.Core.Logic.{◌⊎◌, inl, inr}
-use mathlib.Core.Option.{Option, none, some}
 use Prim.Native.Nat.{ℕ, ◌<◌}
 use native.Mathlib.Omega.{arith}
 use lib.ListN.{length, take}
@@ -14,7 +14,6 @@ use Rattle.unc.specs.names.Paths.{component_count}
 use Rattle.cache.specs.order.Entries.{Referral}
 use Rattle.cache.specs.order.Memory.{referrals}
 use Rattle.cache_lookup.specs.Lookup.{with_key}
-use Rattle.cache_lookup.specs.declared.Found.TheVariants.{Nothing}
 use Rattle.reply_read.specs.referral.Replies as replies
 use Rattle.reply_read.specs.referral.Replies.{malformed, nothing, says, read_referral}
 use Rattle.reply_read.proofs.referral.SaysLaws.{Sound, says_sound}
@@ -189,7 +188,7 @@ module _ (c : Caches) (cs : GoodCaches c) (w : Core) (q : Question) where
   -- the answer to an I/O try
   module _ (p : Proper w (waits q)) (io : q.kind ≡ Io) (status : ℕ) where
     module _ (there : is_in_use c w q ≡ true) where
-      io_fails_uses : (e : Referral) → prefixed (take q.entry w.path) c.referrals ≡ some e → prefixed (take (length e.prefix) w.path) c.referrals ≡ some e
+      io_fails_uses : (e : Referral) → prefixed (take q.entry w.path) c.referrals ≡ Some e → prefixed (take (length e.prefix) w.path) c.referrals ≡ Some e
           → Uses c w (io_fails w q status e)
       unfolding io_fails target_count
       io_fails_uses e h u =
@@ -215,8 +214,8 @@ module _ (c : Caches) (cs : GoodCaches c) (w : Core) (q : Question) where
           Fit : Option Referral → Type 0
           Fit o = TurnUses (io_with c w q status o)
 
-          go : ((with_key referrals (take q.entry w.path) c.referrals ≡ Nothing) × (prefixed (take q.entry w.path) c.referrals ≡ none))
-              ⊎ ((e : Referral) × ((prefixed (take q.entry w.path) c.referrals ≡ some e) × Equal c.referrals cs.refs (take q.entry w.path) e))
+          go : ((with_key referrals (take q.entry w.path) c.referrals ≡ None) × (prefixed (take q.entry w.path) c.referrals ≡ None))
+              ⊎ ((e : Referral) × ((prefixed (take q.entry w.path) c.referrals ≡ Some e) × Equal c.referrals cs.refs (take q.entry w.path) e))
               → TurnUses (io_with c w q status (prefixed (take q.entry w.path) c.referrals))
           go (inl h) = subst Fit (sym h.1) (turn_uses c w _ (uses_stops c w _ _ _))
           go (inr h) =
@@ -233,16 +232,16 @@ module _ (c : Caches) (cs : GoodCaches c) (w : Core) (q : Question) where
 
 -- the event of an answer, if there is one
 module _ (c : Caches) (cs : GoodCaches c) (w : Core) where
-  pub referral_uses : (r : Rest) (status : ℕ) (reply : List ℕ) (clock : ℕ) (t : Turn) → referral_event c w r status reply clock ≡ some t → TurnUses t
+  pub referral_uses : (r : Rest) (status : ℕ) (reply : List ℕ) (clock : ℕ) (t : Turn) → referral_event c w r status reply clock ≡ Some t → TurnUses t
   unfolding referral_event If
   referral_uses (ended e s tried) status reply clock = if_none TurnUses
   referral_uses (waits q) status reply clock =
-      picked (If TurnUses) (has_tried q.kind) none (some (referral_answered c w q status reply clock)) (λ h. if_none TurnUses)
+      picked (If TurnUses) (has_tried q.kind) None (Some (referral_answered c w q status reply clock)) (λ h. if_none TurnUses)
       (λ h. if_some TurnUses _ (answered_uses c cs w q h status reply clock))
 
-  pub io_uses : (r : Rest) → Proper w r → (status : ℕ) (t : Turn) → io_event c w r status ≡ some t → TurnUses t
+  pub io_uses : (r : Rest) → Proper w r → (status : ℕ) (t : Turn) → io_event c w r status ≡ Some t → TurnUses t
   unfolding io_event If
   io_uses (ended e s tried) p status = if_none TurnUses
   io_uses (waits q) p status =
-      picked (If TurnUses) (has_tried q.kind) (some (io_answered c w q status)) none (λ h. if_some TurnUses _ (tried_uses c cs w q p (is_io q.kind h) status))
+      picked (If TurnUses) (has_tried q.kind) (Some (io_answered c w q status)) None (λ h. if_some TurnUses _ (tried_uses c cs w q p (is_io q.kind h) status))
       (λ h. if_none TurnUses)

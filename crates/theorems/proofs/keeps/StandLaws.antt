@@ -1,8 +1,8 @@
 -- What a call that is taken leaves stands: caches in order, a walk in form, and where it waits the entry that its question uses.
+use Rattle.std.specs.Prelude.{Option, None, Some}
 use mathlib.Core.Path.{◌≡◌, refl, sym, ap, ◌∙◌, subst}
 use mathlib.Core.Bool.{true, false, ◌&&◌}
 use mathlib.Core.List.{List}
-use mathlib.Core.Option.{Option, none, some}
 use Prim.Native.Nat.{ℕ, ◌-◌, ◌≤◌}
 use native.Mathlib.Omega.{arith}
 use lib.ListN.{length}
@@ -102,13 +102,13 @@ module _ (refs doms texts : List ℕ) (walk : Walk) (out : List ℕ) where
         (subst (λ (c : Caches). RestUses c x) (sym (caches_back t.caches k.good.caches)) (turned_uses (walk.limit - walk.moves) clock t k.good.caches k.uses))
         walk texts out
 
-    answers_stand : (event : Option Turn) → ((t : Turn) → event ≡ some t → Puts t) → AnswerStands (answers event clock walk texts out refs doms)
+    answers_stand : (event : Option Turn) → ((t : Turn) → event ≡ Some t → Puts t) → AnswerStands (answers event clock walk texts out refs doms)
     unfolding answers refusal_number AnswerStands StartStands
-    answers_stand none k = turned_away OutOfForm (omega arith)
-    answers_stand (some t) k =
+    answers_stand None k = turned_away OutOfForm (omega arith)
+    answers_stand (Some t) k =
         picked AnswerStands (rest_fits (length out) (turned (walk.limit - walk.moves) clock t)) _ _ (λ h. turn_stands t (k t refl)) (λ h. turned_away ShortBuffer (omega arith))
 
-  answer_stands : (event : Option Turn) (clock : ℕ) → ((in_order referrals refs && in_order domains doms) ≡ true → in_form walk texts ≡ true → (t : Turn) → event ≡ some t → Puts t)
+  answer_stands : (event : Option Turn) (clock : ℕ) → ((in_order referrals refs && in_order domains doms) ≡ true → in_form walk texts ≡ true → (t : Turn) → event ≡ Some t → Puts t)
       → AnswerStands (answer_call event clock walk texts out refs doms)
   unfolding answer_call refusal_number
   answer_stands event clock k =

@@ -1,9 +1,9 @@
 -- The entry that a question uses is there when the question is put: what the steps call for never meets end 27 in the caches that the call leaves.
+use Rattle.std.specs.Prelude.{Option, None, Some}
 use mathlib.Core.Path.{◌≡◌, refl, sym, ap, ◌∙◌, subst}
 use mathlib.Core.Bool.{Bool, true, false, ◌&&◌, ◌||◌, not}
 use mathlib.Core.List.{List, []}
 use mathlib.Core.Logic.{◌⊎◌, inl, inr}
-use mathlib.Core.Option.{Option, none, some}
 use Prim.Native.Nat.{ℕ, zero, suc, ◌<◌}
 use native.Mathlib.Omega.{arith}
 use lib.ListN.{length, get_or, take}
@@ -16,8 +16,6 @@ use Rattle.cache.specs.order.Order.{good_referral, good_domain, good_dc_hint}
 use Rattle.cache.specs.order.Memory.{referrals, domains}
 use Rattle.cache.proofs.order.KindLaws.{referral_told, domain_told, referrals_lawful, domains_lawful}
 use Rattle.cache_lookup.specs.Lookup.{with_key, longest_match, expired}
-use Rattle.cache_lookup.specs.declared.Found.{Found}
-use Rattle.cache_lookup.specs.declared.Found.TheVariants.{At, Nothing}
 use Rattle.cache_lookup.proofs.LookupLaws.{KeyAt, key_found, LongestAt, longest_found}
 use Rattle.cache_store.specs.entry_after_reply.Stored.{prefixed}
 use Rattle.walk_steps.specs.steps.Steps.{Caches, Core, Question, Called, stops, asks, replaces, longest, domain_named, step2, step2_with, step3, step4, step5, step5_with, step5_domain, step6, step6_host, step7, step8, step9, step9_with, step10, dc_request, link_request, after_store}
@@ -93,13 +91,13 @@ module _ (c : Caches) (w : Core) where
   use_link entry place began uncovered n e a b = ap (λ (m : ℕ). ltb place m && ltb began m) e ∙ in_round_lem n place began a b
 
   -- an I/O try at a target of an entry that is held under the path
-  pub use_io : (e : Referral) (place began : ℕ) → prefixed (take (length e.prefix) w.path) c.referrals ≡ some e → place < length e.targets
+  pub use_io : (e : Referral) (place began : ℕ) → prefixed (take (length e.prefix) w.path) c.referrals ≡ Some e → place < length e.targets
       → began < length e.targets → is_in_use c w (step8 w e place began) ≡ true
   unfolding is_in_use step8 party_count referral_in_use target_count
   use_io e place began h a b =
       ap (λ (o : Option Referral). ltb place (target_count o) && ltb began (target_count o)) h ∙ in_round_lem (length e.targets) place began a b
 
-  use_refresh : (e : Referral) → good_referral e ≡ true → prefixed (take (length e.prefix) w.path) c.referrals ≡ some e
+  use_refresh : (e : Referral) → good_referral e ≡ true → prefixed (take (length e.prefix) w.path) c.referrals ≡ Some e
       → is_in_use c w (link_request w (length e.prefix) e.hint e.hint false) ≡ true
   unfolding target_count
   use_refresh e well h = use_link (length e.prefix) e.hint e.hint false (length e.targets) (ap target_count h) (referral_told e well).hinted (referral_told e well).hinted
@@ -125,25 +123,25 @@ module _ (c : Caches) (w : Core) where
 
   module _ (cs : GoodCaches c) where
     -- step 5
-    domain_good : (d : Domain) → domain_named (get_or (components w.path) 0 []) c.domains ≡ some d → good_domain d ≡ true
+    domain_good : (d : Domain) → domain_named (get_or (components w.path) 0 []) c.domains ≡ Some d → good_domain d ≡ true
     unfolding domain_named
     domain_good d h = go (with_key domains (get_or (components w.path) 0 []) c.domains) refl
       where
-        go : (f : Found) → with_key domains (get_or (components w.path) 0 []) c.domains ≡ f → good_domain d ≡ true
-        go Nothing g = absurd (let z : none ≡ some d = sym (none_held c.domains g) ∙ h in let y : ◌≡◌ {A = ℕ} 0 1 = cc in omega arith)
-        go (At i) g =
+        go : (f : Option ℕ) → with_key domains (get_or (components w.path) 0 []) c.domains ≡ f → good_domain d ≡ true
+        go None g = absurd (let z : None ≡ Some d = sym (none_held c.domains g) ∙ h in let y : ◌≡◌ {A = ℕ} 0 1 = cc in omega arith)
+        go (Some i) g =
             let b : KeyAt domains (get_or (components w.path) 0 []) c.domains i = key_found domains (get_or (components w.path) 0 []) c.domains i g in
-            let z : some b.entry ≡ some d = sym (held_is c.domains i b.entry b.here g) ∙ h in
+            let z : Some b.entry ≡ Some d = sym (held_is c.domains i b.entry b.here g) ∙ h in
             let y : b.entry ≡ d = cc in
             ap good_domain (sym y) ∙ place_good domains domains_lawful c.domains cs.doms i b.entry b.here
 
-    hinted : (d : Domain) → domain_named (get_or (components w.path) 0 []) c.domains ≡ some d → eqb (length d.dcs) 0 ≡ false → d.hint < dc_count (domain_in_use c w)
+    hinted : (d : Domain) → domain_named (get_or (components w.path) 0 []) c.domains ≡ Some d → eqb (length d.dcs) 0 ≡ false → d.hint < dc_count (domain_in_use c w)
     unfolding domain_in_use dc_count good_dc_hint
     hinted d h t =
         let u : d.hint < length d.dcs = ltb-true d.hint (length d.dcs) (sym (choose_no _ _ t) ∙ (domain_told d (domain_good d h)).hinted) in
         subst (λ (o : Option Domain). d.hint < dc_count o) (sym h) u
 
-    use_dc : (d : Domain) → domain_named (get_or (components w.path) 0 []) c.domains ≡ some d → is_in_use c w (dc_request w) ≡ true
+    use_dc : (d : Domain) → domain_named (get_or (components w.path) 0 []) c.domains ≡ Some d → is_in_use c w (dc_request w) ≡ true
     unfolding is_in_use dc_request domain_in_use is_there
     use_dc d h = ap is_there h
 
@@ -159,8 +157,8 @@ module _ (c : Caches) (w : Core) where
         Fit q = is_in_use c w q ≡ true
 
         go : (o : Option Domain) → domain_named (get_or (components w.path) 0 []) c.domains ≡ o → is_in_use c w (step5_with w o) ≡ true
-        go none h = use_host
-        go (some d) h =
+        go None h = use_host
+        go (Some d) h =
             picked Fit (eqb (length d.dcs) 0) _ _ (λ t. use_dc d h)
             (λ t. chosen Fit (is_sysvol w.path) _ _ (use_sysvol d (hinted d h t)) (use_root d.hint d.hint (hinted d h t) (hinted d h t)))
 
@@ -175,8 +173,8 @@ module _ (c : Caches) (w : Core) where
         Fits : Option Referral → Type 0
         Fits o = is_in_use c w (step9_with c w o) ≡ true
 
-        go : ((with_key referrals (first_of 2 w.path) c.referrals ≡ Nothing) × (prefixed (first_of 2 w.path) c.referrals ≡ none))
-            ⊎ ((e : Referral) × ((prefixed (first_of 2 w.path) c.referrals ≡ some e) × Equal c.referrals cs.refs (first_of 2 w.path) e))
+        go : ((with_key referrals (first_of 2 w.path) c.referrals ≡ None) × (prefixed (first_of 2 w.path) c.referrals ≡ None))
+            ⊎ ((e : Referral) × ((prefixed (first_of 2 w.path) c.referrals ≡ Some e) × Equal c.referrals cs.refs (first_of 2 w.path) e))
             → is_in_use c w (step9_with c w (prefixed (first_of 2 w.path) c.referrals)) ≡ true
         go (inl h) = subst Fits (sym h.1) use_step5
         go (inr h) =
@@ -197,9 +195,9 @@ module _ (c : Caches) (w : Core) where
         Fits : Option Referral → Type 0
         Fits o = Uses c w (step2_with c w clock o)
 
-        go : (f : Found) → longest_match w.path c.referrals ≡ f → Uses c w (step2_with c w clock (longest w.path c.referrals))
-        go Nothing h = subst Fits (sym (none_held c.referrals h)) (uses_asks c w _ use_step5)
-        go (At i) h =
+        go : (f : Option ℕ) → longest_match w.path c.referrals ≡ f → Uses c w (step2_with c w clock (longest w.path c.referrals))
+        go None h = subst Fits (sym (none_held c.referrals h)) (uses_asks c w _ use_step5)
+        go (Some i) h =
             let b : LongestAt w.path c.referrals i = longest_found w.path c.referrals i h in
             subst Fits (sym (held_is c.referrals i b.entry b.found.here h))
             (chosen (Uses c w) (expired clock b.entry) _ _

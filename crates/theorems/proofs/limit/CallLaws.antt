@@ -1,8 +1,8 @@
 -- A start and an answer, with a limit, against what they come to for the unlimited walk.
+use Rattle.std.specs.Prelude.{Option, None, Some}
 use mathlib.Core.Path.{◌≡◌, refl, sym, ap, ◌∙◌, subst}
 use mathlib.Core.Bool.{Bool, true, false, ◌&&◌}
 use mathlib.Core.List.{List}
-use mathlib.Core.Option.{Option, none, some}
 use mathlib.Core.Logic.{◌⊎◌, inl, inr}
 use Prim.Native.Nat.{ℕ, ◌-◌, ◌≤◌}
 use native.Mathlib.Omega.{arith}
@@ -101,7 +101,7 @@ called o (io status clock out) = refl
 -- what is known of the rest after an answer
 abbrev pub BackAfter : Answered → Answer → Type 0
 BackAfter o a =
-    (t : Turn) → (in_order referrals o.refs && in_order domains o.doms) ≡ true → in_form o.left.walk o.left.texts ≡ true → event_of (observed o) a ≡ some t
+    (t : Turn) → (in_order referrals o.refs && in_order domains o.doms) ≡ true → in_form o.left.walk o.left.texts ≡ true → event_of (observed o) a ≡ Some t
     → Back o.left.walk.limit (boot_in o.left.walk o.left.texts) (turned (o.left.walk.limit - o.left.walk.moves) (answer_clock a) t)
 
 -- a number that the tests before the steps give
@@ -145,17 +145,17 @@ module _ (o : Answered) (a : Answer) (form : in_form o.left.walk o.left.texts �
       let v : (after_answer o a).left.verdict ≡ NotInOrder = ap (λ (x : Answered). x.left.verdict) (called o a ∙ choose_no _ _ h) in
       subst This (sym (choose_no (event_opening (event_of (observed o) a)) (refuses NotInOrder) h)) (inl (turned_early _ _ _ _ _ _ NotInOrder v refl))
 
-  answer_none : (in_order referrals o.refs && in_order domains o.doms) ≡ true → event_of (observed o) a ≡ none → This (answer_opening (observed o) a)
+  answer_none : (in_order referrals o.refs && in_order domains o.doms) ≡ true → event_of (observed o) a ≡ None → This (answer_opening (observed o) a)
   unfolding event_opening answers
   answer_none h e =
       let v : (after_answer o a).left.verdict ≡ OutOfForm =
       ap (λ (x : Answered). x.left.verdict) (in_order_lem h ∙ ap (λ (y : Option Turn). answers y (answer_clock a) walk texts (answer_out a) o.refs o.doms) e) in
       subst This (sym (opening_order h ∙ ap event_opening e)) (inl (turned_early _ _ _ _ _ _ OutOfForm v refl))
 
-  answer_some : (in_order referrals o.refs && in_order domains o.doms) ≡ true → (t : Turn) → event_of (observed o) a ≡ some t → This (answer_opening (observed o) a)
+  answer_some : (in_order referrals o.refs && in_order domains o.doms) ≡ true → (t : Turn) → event_of (observed o) a ≡ Some t → This (answer_opening (observed o) a)
   unfolding event_opening answers
   answer_some h t e =
-      let v : after_answer o a ≡ answers (some t) (answer_clock a) walk texts (answer_out a) o.refs o.doms =
+      let v : after_answer o a ≡ answers (Some t) (answer_clock a) walk texts (answer_out a) o.refs o.doms =
       in_order_lem h ∙ ap (λ (y : Option Turn). answers y (answer_clock a) walk texts (answer_out a) o.refs o.doms) e in
       subst This (sym (opening_order h ∙ ap event_opening e))
       (classified walk.limit (answer_clock a) (boot_in walk texts) (answer_out a) walk.moves few t (after_answer o a)
@@ -169,8 +169,8 @@ module _ (o : Answered) (a : Answer) (form : in_form o.left.walk o.left.texts �
       go : ((in_order referrals o.refs && in_order domains o.doms) ≡ true) ⊎ ((in_order referrals o.refs && in_order domains o.doms) ≡ false)
           → (e : Option Turn) → event_of (observed o) a ≡ e → This (answer_opening (observed o) a)
       go (inr h) e f = answer_no_order h
-      go (inl h) none f = answer_none h f
-      go (inl h) (some t) f = answer_some h t f
+      go (inl h) None f = answer_none h f
+      go (inl h) (Some t) f = answer_some h t f
 
 -- a start
 pub started_caches : (c : Caches) (w : Core) (clock : ℕ) → (started c w clock).caches ≡ c

@@ -1,7 +1,7 @@
 -- An event keeps the path and the size of the walk; a replacement keeps the size, and its path is the walk's.
+use Rattle.std.specs.Prelude.{Option, None, Some}
 use mathlib.Core.Path.{◌≡◌, refl, sym, subst}
 use mathlib.Core.List.{List, ◌++◌}
-use mathlib.Core.Option.{Option, none, some}
 use Prim.Native.Nat.{ℕ}
 use native.Mathlib.Omega.{arith}
 use Rattle.cache.specs.order.Entries.{Referral}
@@ -64,8 +64,8 @@ module _ (c : Caches) (w : Core) where
 
   io_with_lem : (q : Question) (status : ℕ) (e : Option Referral) → Keeps (io_with c w q status e)
   unfolding io_with
-  io_with_lem q status none = same
-  io_with_lem q status (some e) = chosen Keeps _ _ _ same same
+  io_with_lem q status None = same
+  io_with_lem q status (Some e) = chosen Keeps _ _ _ same same
 
   io_same : (q : Question) (status : ℕ) → Keeps (io_answered c w q status)
   unfolding io_answered
@@ -73,12 +73,12 @@ module _ (c : Caches) (w : Core) where
 
   -- an event, where there is one
   abbrev KeepsIf : Option Turn → Type 0
-  KeepsIf o = (t : Turn) → o ≡ some t → Keeps t
+  KeepsIf o = (t : Turn) → o ≡ Some t → Keeps t
 
-  no_event : KeepsIf none
+  no_event : KeepsIf None
   no_event t e = absurd (let z : ◌≡◌ {A = ℕ} 0 1 = cc in omega arith)
 
-  one_event : {u : Turn} → Keeps u → KeepsIf (some u)
+  one_event : {u : Turn} → Keeps u → KeepsIf (Some u)
   one_event {u} k t e =
       let z : u ≡ t = cc in subst Keeps z k
 
@@ -92,7 +92,7 @@ module _ (c : Caches) (w : Core) where
   io_event_same (ended e s tried) status = no_event
   io_event_same (waits q) status = chosen KeepsIf _ _ _ (one_event (io_same q status)) no_event
 
-pub event_same : (u : Unlimited) (a : Answer) (t : Turn) → event_of u a ≡ some t → SameCore u.core t.core
+pub event_same : (u : Unlimited) (a : Answer) (t : Turn) → event_of u a ≡ Some t → SameCore u.core t.core
 unfolding event_of
 event_same u (referral status reply clock out) = referral_same (caches_of u.refs u.doms) u.core u.rest status reply clock
 event_same u (io status clock out) = io_event_same (caches_of u.refs u.doms) u.core u.rest status

@@ -1,8 +1,8 @@
 -- A walk with a limit along a list of calls, against the unlimited walk.
+use Rattle.std.specs.Prelude.{Option, None, Some}
 use mathlib.Core.Path.{◌≡◌, refl, sym, ap, ◌∙◌, subst}
 use mathlib.Core.Bool.{Bool, true, false, ◌&&◌}
 use mathlib.Core.List.{List, []}
-use mathlib.Core.Option.{Option, none, some}
 use mathlib.Core.Logic.{◌⊎◌, inl, inr}
 use Prim.Native.Nat.{ℕ, suc, ◌-◌, ◌≤◌}
 use native.Mathlib.Omega.{arith}
@@ -48,7 +48,7 @@ back_start l h s g a =
     (path_counted s.path a.path (leb-true _ _ a.short)) l s.clock)
 
 pub good_event : (o : Answered) (a : Answer) (t : Turn) → (in_order referrals o.refs && in_order domains o.doms) ≡ true
-    → in_form o.left.walk o.left.texts ≡ true → event_of (observed o) a ≡ some t → GoodTurn t
+    → in_form o.left.walk o.left.texts ≡ true → event_of (observed o) a ≡ Some t → GoodTurn t
 unfolding event_of observed
 good_event o (referral status reply clock out) t h f e =
     referral_good (caches_of o.refs o.doms) (caches_good o.refs o.doms h) (core_in o.left.walk o.left.texts) (rest_in o.left.walk o.left.texts)
@@ -117,12 +117,12 @@ module _ {l clock : ℕ} {boot out : List ℕ} {n : ℕ} {o : Answered} where
   short_opens (taken {t = t} x f) c g e = (t, refl)
 
 -- a walk that has ended takes no answer
-pub event_ended : (u : Unlimited) (a : Answer) {e : End} {status : ℕ} {tried : List ℕ} → u.rest ≡ ended e status tried → event_of u a ≡ none
+pub event_ended : (u : Unlimited) (a : Answer) {e : End} {status : ℕ} {tried : List ℕ} → u.rest ≡ ended e status tried → event_of u a ≡ None
 unfolding event_of referral_event io_event
 event_ended u (referral status reply clock out) h = ap (λ (r : Rest). referral_event (caches_of u.refs u.doms) u.core r status reply clock) h
 event_ended u (io status clock out) h = ap (λ (r : Rest). io_event (caches_of u.refs u.doms) u.core r status) h
 
-pub no_opening : (u : Unlimited) (a : Answer) → event_of u a ≡ none → (t : Turn) → answer_opening u a ≡ opens t → ⊥
+pub no_opening : (u : Unlimited) (a : Answer) → event_of u a ≡ None → (t : Turn) → answer_opening u a ≡ opens t → ⊥
 unfolding answer_opening event_opening
 no_opening u a e t h = go (told (in_order referrals u.refs && in_order domains u.doms))
   where
@@ -131,21 +131,21 @@ no_opening u a e t h = go (told (in_order referrals u.refs && in_order domains u
     go (inr o) = not_refused t (sym h ∙ choose_no _ _ o)
 
 -- the events bring no end 24
-event_no : (u : Unlimited) (a : Answer) (t : Turn) → event_of u a ≡ some t → NoLimit t.called
+event_no : (u : Unlimited) (a : Answer) (t : Turn) → event_of u a ≡ Some t → NoLimit t.called
 unfolding event_of
 event_no u (referral status reply clock out) t e = referral_event_no (caches_of u.refs u.doms) u.core u.rest status reply clock e
 event_no u (io status clock out) t e = io_event_no (caches_of u.refs u.doms) u.core u.rest status e
 
-opening_event : (e : Option Turn) (t : Turn) → event_opening e ≡ opens t → e ≡ some t
+opening_event : (e : Option Turn) (t : Turn) → event_opening e ≡ opens t → e ≡ Some t
 unfolding event_opening
-opening_event none t h = absurd (not_refused t (sym h))
-opening_event (some u) t h = ap some (opens_same h)
+opening_event None t h = absurd (not_refused t (sym h))
+opening_event (Some u) t h = ap Some (opens_same h)
 
-pub answer_goes_on : (u : Unlimited) (a : Answer) (t : Turn) → answer_opening u a ≡ opens t → event_of u a ≡ some t
+pub answer_goes_on : (u : Unlimited) (a : Answer) (t : Turn) → answer_opening u a ≡ opens t → event_of u a ≡ Some t
 unfolding answer_opening
 answer_goes_on u a t h = go (told (in_order referrals u.refs && in_order domains u.doms))
   where
-    go : ((in_order referrals u.refs && in_order domains u.doms) ≡ true) ⊎ ((in_order referrals u.refs && in_order domains u.doms) ≡ false) → event_of u a ≡ some t
+    go : ((in_order referrals u.refs && in_order domains u.doms) ≡ true) ⊎ ((in_order referrals u.refs && in_order domains u.doms) ≡ false) → event_of u a ≡ Some t
     go (inl o) = opening_event (event_of u a) t (sym (choose_yes _ _ o) ∙ h)
     go (inr o) = absurd (not_refused t (sym h ∙ choose_no _ _ o))
 

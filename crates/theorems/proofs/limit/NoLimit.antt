@@ -1,8 +1,8 @@
 -- No step calls for end 24: only the limit brings it.
+use Rattle.std.specs.Prelude.{Option, None, Some}
 use mathlib.Core.Path.{◌≡◌, refl, ap, subst}
 use mathlib.Core.Bool.{Bool, true, false}
 use mathlib.Core.List.{List}
-use mathlib.Core.Option.{Option, none, some}
 use Prim.Native.Nat.{ℕ}
 use native.Mathlib.Omega.{arith}
 use Rattle.laws.specs.Choice.{choose}
@@ -70,8 +70,8 @@ seven w e = either_way NoLimit _ a_question (four w e)
 
 two_with : (c : Caches) (w : Core) (clock : ℕ) (e : Option Referral) → NoLimit (step2_with c w clock e)
 unfolding step2_with
-two_with c w clock none = a_question
-two_with c w clock (some e) = either_way NoLimit _ a_question (seven w e)
+two_with c w clock None = a_question
+two_with c w clock (Some e) = either_way NoLimit _ a_question (seven w e)
 
 two : (c : Caches) (w : Core) (clock : ℕ) → NoLimit (step2 c w clock)
 unfolding step2
@@ -149,33 +149,33 @@ io_fails_no w q status e =
 
 io_with_no : (c : Caches) (w : Core) (q : Question) (status : ℕ) (e : Option Referral) → NoLimitIn (io_with c w q status e)
 unfolding io_with
-io_with_no c w q status none = is_gone
-io_with_no c w q status (some e) = either_way NoLimitIn _ (io_fails_no w q status e) done
+io_with_no c w q status None = is_gone
+io_with_no c w q status (Some e) = either_way NoLimitIn _ (io_fails_no w q status e) done
 
 io_no : (c : Caches) (w : Core) (q : Question) (status : ℕ) → NoLimitIn (io_answered c w q status)
 unfolding io_answered
 io_no c w q status = either_way NoLimitIn _ (io_with_no c w q status _) is_gone
 
 -- the events of the two answers
-some_of : {t : Turn} {x : Turn} → some x ≡ some t → x ≡ t
+some_of : {t : Turn} {x : Turn} → Some x ≡ Some t → x ≡ t
 some_of e = cc
 
-chosen : (b : Bool) {x t : Turn} → choose b none (some x) ≡ some t → x ≡ t
+chosen : (b : Bool) {x t : Turn} → choose b None (Some x) ≡ Some t → x ≡ t
 unfolding choose
 chosen true e = absurd (let z : ◌≡◌ {A = ℕ} 0 1 = cc in omega arith)
 chosen false e = some_of e
 
-chosen_first : (b : Bool) {x t : Turn} → choose b (some x) none ≡ some t → x ≡ t
+chosen_first : (b : Bool) {x t : Turn} → choose b (Some x) None ≡ Some t → x ≡ t
 unfolding choose
 chosen_first true e = some_of e
 chosen_first false e = absurd (let z : ◌≡◌ {A = ℕ} 0 1 = cc in omega arith)
 
-pub referral_event_no : (c : Caches) (w : Core) (r : Rest) (status : ℕ) (reply : List ℕ) (clock : ℕ) {t : Turn} → referral_event c w r status reply clock ≡ some t → NoLimitIn t
+pub referral_event_no : (c : Caches) (w : Core) (r : Rest) (status : ℕ) (reply : List ℕ) (clock : ℕ) {t : Turn} → referral_event c w r status reply clock ≡ Some t → NoLimitIn t
 unfolding referral_event
 referral_event_no c w (ended e s tried) status reply clock h = absurd (let z : ◌≡◌ {A = ℕ} 0 1 = cc in omega arith)
 referral_event_no c w (Rest.waits q) status reply clock h = subst NoLimitIn (chosen _ h) (referral_no c w q status reply clock)
 
-pub io_event_no : (c : Caches) (w : Core) (r : Rest) (status : ℕ) {t : Turn} → io_event c w r status ≡ some t → NoLimitIn t
+pub io_event_no : (c : Caches) (w : Core) (r : Rest) (status : ℕ) {t : Turn} → io_event c w r status ≡ Some t → NoLimitIn t
 unfolding io_event
 io_event_no c w (ended e s tried) status h = absurd (let z : ◌≡◌ {A = ℕ} 0 1 = cc in omega arith)
 io_event_no c w (Rest.waits q) status h = subst NoLimitIn (chosen_first _ h) (io_no c w q status)

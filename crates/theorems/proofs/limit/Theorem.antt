@@ -1,8 +1,8 @@
 -- Demand 3, proved: `limit-only-cuts`.
+use Rattle.std.specs.Prelude.{Option, None, Some}
 use mathlib.Core.Path.{◌≡◌, refl, sym, ap, ◌∙◌, subst}
 use mathlib.Core.Bool.{true, false, ◌&&◌}
 use mathlib.Core.List.{List, [], ◌∷◌, ◌++◌, map, append_assoc, map-append}
-use mathlib.Core.Option.{Option, none, some}
 use mathlib.Core.Logic.{◌⊎◌, inl, inr}
 use Prim.Native.Nat.{ℕ, suc, ◌+◌, ◌-◌, ◌≤◌, ◌<◌}
 use native.Mathlib.Omega.{arith}
@@ -93,13 +93,13 @@ record LongName (w : Core) (r : Rest) (room : ℕ) : Type 0 where
   question : Question
   is : r ≡ waits question
   name : List ℕ
-  named : request_name w r ≡ some name
+  named : request_name w r ≡ Some name
   long : room < length (request name)
 
 name_long : (w : Core) (r : Rest) (room : ℕ) (q : Question) → r ≡ waits q → (x : Option (List ℕ)) → request_name w r ≡ x → name_fits room x ≡ false → LongName w r room
 unfolding name_fits
-name_long w r room q e none f h = absurd (not_both refl h)
-name_long w r room q e (some name) f h = record { question = q; is = e; name = name; named = f; long = leb-false (length (request name)) room h }
+name_long w r room q e None f h = absurd (not_both refl h)
+name_long w r room q e (Some name) f h = record { question = q; is = e; name = name; named = f; long = leb-false (length (request name)) room h }
 
 long_name : (w : Core) (r : Rest) (room : ℕ) → name_fits room (request_name w r) ≡ false → LongName w r room
 unfolding request_name name_fits

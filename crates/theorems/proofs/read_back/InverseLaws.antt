@@ -1,4 +1,5 @@
 -- Laws of values that are printed and read.
+use Rattle.std.specs.Prelude.{Some}
 use mathlib.Core.Path.{◌≡◌, refl, sym, ap, ◌∙◌}
 use mathlib.Core.Bool.{true}
 use mathlib.Core.List.{List, [], ◌++◌}
@@ -19,8 +20,6 @@ use Rattle.listing_spelling.specs.unspell.Reading.{unit, unspelled, is_spelled, 
 use Rattle.listing_spelling.proofs.unspell.UnspelledLaws.{unspelled_spelled}
 use Rattle.listing_spelling.proofs.unspell.NumberLaws.{decimal_says}
 use Rattle.listing_spelling.proofs.unspell.HexLaws.{digit_back, unit_hex}
-use Rattle.listing_spelling.specs.declared.unspell.Spelled.TheVariants.{Units}
-use Rattle.listing_spelling.specs.declared.unspell.Number.TheVariants.{Value}
 use Rattle.listing_write.specs.Form.{path_line, number_line}
 use Rattle.listing_write.specs.Keys.{status_key}
 use Rattle.listing_read.specs.line.Lines.{value_of, line_has_key, number_said}
@@ -44,20 +43,20 @@ spelled_form_lem : (s : List ℕ) → every unit s ≡ true → is_spelled (spel
 unfolding is_spelled
 spelled_form_lem s h = same_same_list _ _ (ap spelled (unspelled_spelled s h))
 
-path_back : (key s room : List ℕ) → every unit s ≡ true → length s ≤ length room → text_taken key (path_line key s) room ≡ text_read (Units (length s)) (pasted room 0 s)
+path_back : (key s room : List ℕ) → every unit s ≡ true → length s ≤ length room → text_taken key (path_line key s) room ≡ text_read (Some (length s)) (pasted room 0 s)
 unfolding text_taken is_text text_said path_line
 path_back key s room h l =
     let v : value_of key (key ++ spelled s) ≡ spelled s = value_there key (spelled s) in
     let u : unspelled (value_of key (key ++ spelled s)) ≡ s = ap unspelled v ∙ unspelled_spelled s h in
     choose_yes _ _ (and_both (key_there key (spelled s)) (and_both (ap is_spelled v ∙ spelled_form_lem s h) (ap (λ (x : List ℕ). leb (length x) (length room)) u ∙ le-leb (length s) (length room) l)))
-    ∙ ap (λ (x : List ℕ). text_read (Units (length x)) (pasted room 0 x)) u
+    ∙ ap (λ (x : List ℕ). text_read (Some (length x)) (pasted room 0 x)) u
 
 -- a number
-number_back : (key : List ℕ) (n : ℕ) → n < 4294967296 → number_said key (number_line key n) ≡ Value n
+number_back : (key : List ℕ) (n : ℕ) → n < 4294967296 → number_said key (number_line key n) ≡ Some n
 unfolding number_said number_line
 number_back key n h =
     let v : decimal_of (value_of key (key ++ decimal n)) ≡ n = ap decimal_of (value_there key (decimal n)) ∙ decimal_says n h in
-    choose_yes _ _ (and_both (ap (λ (x : ℕ). ltb x 4294967296) v ∙ lt-ltb n 4294967296 h) (same_same_list _ _ (ap (λ (x : ℕ). key ++ decimal x) v))) ∙ ap Value v
+    choose_yes _ _ (and_both (ap (λ (x : ℕ). ltb x 4294967296) v ∙ lt-ltb n 4294967296 h) (same_same_list _ _ (ap (λ (x : ℕ). key ++ decimal x) v))) ∙ ap Some v
 
 -- a status
 digit_low : (d : ℕ) → d < 16 → digit_unit d < 97
@@ -114,14 +113,14 @@ digits_length : (u v : ℕ) → length (hex_units u ++ hex_units v) ≡ 8
 unfolding hex_units
 digits_length u v = refl
 
-status_back : (n : ℕ) → n < 4294967296 → status_said (status_line n) ≡ Value n
+status_back : (n : ℕ) → n < 4294967296 → status_said (status_line n) ≡ Some n
 unfolding status_said status_line
 status_back n h =
     let w : List ℕ = hex_units (n / 65536) ++ hex_units (n % 65536) in
     let v : value_of status_key (status_key ++ w) ≡ w = value_there status_key w in
     let m : hex_number w ≡ n = digits_number (n / 65536) (n % 65536) (omega arith) (omega arith) ∙ (let z : 65536 * (n / 65536) + n % 65536 ≡ n = omega arith in z) in
     choose_yes _ _ (and_both (key_there status_key w) (and_both (ap (λ (x : List ℕ). eqb (length x) 8) v ∙ eq-eqb (length w) 8 (digits_length (n / 65536) (n % 65536))) (ap (every is_hex) v ∙ digits_hex (n / 65536) (n % 65536))))
-    ∙ ap Value (ap hex_number v ∙ m)
+    ∙ ap Some (ap hex_number v ∙ m)
 
 pub inverse : Inverse
 inverse = record { path = path_back; number = number_back; status = status_back }

@@ -1,7 +1,6 @@
 -- Document 01, "Examples to hold it to": those marked P, as one table. A row is an example with its value; what it says is an equation with the
 -- definition that the contracts cite.
-use Rattle.std.specs.Prelude.{ℕ, zero, suc, ◌≡◌, Bool, true, false, List, [], ◌∷◌, ◌++◌, map, length, take, replicate, eqb}
-use Rattle.std.proofs.Math.Option.{Option, none, some}
+use Rattle.std.specs.Prelude.{ℕ, zero, suc, ◌≡◌, Bool, true, false, List, [], ◌∷◌, ◌++◌, map, length, take, replicate, eqb, Option, None, Some}
 use Rattle.laws.specs.Choice.{choose}
 use Rattle.unc.specs.names.Paths.{matches, replaced}
 use Rattle.cache.specs.order.Entries.{Referral, free, used}
@@ -69,9 +68,9 @@ dated ttl taken = record {
 
 -- a reply that was read, as its prefix and its targets; none where it is malformed
 unfoldable pub heard : replies.Reply replies.ReferralReply → Option (List (List ℕ))
-heard malformed = none
-heard nothing = some []
-heard (says r) = some (r.prefix ∷ map (λ t. t.path) r.targets)
+heard malformed = None
+heard nothing = Some []
+heard (says r) = Some (r.prefix ∷ map (λ t. t.path) r.targets)
 
 pub data Row : Type 0 where
   -- a prefix, a path, and whether it matches
@@ -204,8 +203,8 @@ rows =
     -- `\a\b\c`, a fresh link `\a\b` with Interlink and target `\a\b`, limit 5: five moves, no question, end 24
     ∷ moving interlinked 5 abc (replacement abc ∷ replacement abc ∷ replacement abc ∷ replacement abc ∷ replacement abc ∷ []) (ends 24 5)
     -- one version 3 entry, `\files\s1` to `\nas1\s1`, offsets 34, 34, 54: 80 bytes are read, 79 are malformed
-    ∷ reading files reply 80 (some (files ∷ nas ∷ []))
-    ∷ reading files reply 79 none
+    ∷ reading files reply 80 (Some (files ∷ nas ∷ []))
+    ∷ reading files reply 79 None
     ∷ []
 
 -- every row of a list says what holds

@@ -1,11 +1,9 @@
 -- The places that an answer names: those of the caches as it finds them, at which alone an entry may change.
-use Rattle.std.specs.Prelude.{ℕ, ◌≡◌, Bool, false, ◌||◌, List, [], get_or, take, eqb}
+use Rattle.std.specs.Prelude.{ℕ, ◌≡◌, Bool, false, ◌||◌, List, [], get_or, take, eqb, Option, Some, None}
 use Rattle.unc.specs.names.Paths.{components}
 use Rattle.cache.specs.order.Entries.{free}
 use Rattle.cache.specs.order.Memory.{referrals, domains}
 use Rattle.cache_lookup.specs.Lookup.{with_key}
-use Rattle.cache_lookup.specs.declared.Found.{Found}
-use Rattle.cache_lookup.specs.declared.Found.TheVariants.{At, Nothing}
 use Rattle.reply_read.specs.referral.Replies as replies
 use Rattle.reply_read.specs.referral.Replies.{malformed, nothing, says, read_referral}
 use Rattle.cache_store.specs.entry_after_reply.Stored.{store_place}
@@ -14,9 +12,9 @@ use Rattle.walk_steps.specs.declared.steps.Kind.{Kind}
 use Rattle.walk_steps.specs.declared.steps.Kind.TheVariants.{Dc, Root, Link, Sysvol, Io}
 
 -- a place that a look-up found
-unfoldable pub is_at : ℕ → Found → Bool
-is_at i Nothing = false
-is_at i (At j) = eqb i j
+unfoldable pub is_at : ℕ → Option ℕ → Bool
+is_at i None = false
+is_at i (Some j) = eqb i j
 
 -- the prefix in use, of a link request and of an I/O try: a success sets its TargetHint
 unfoldable pub uses_prefix : Caches → Core → Question → ℕ → Bool

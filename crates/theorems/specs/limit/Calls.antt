@@ -1,7 +1,6 @@
 -- The list of calls: "one start, from any caches, then referral answers and I/O answers"; what each gives a walk with a limit, on the lent memory, and
 -- what it is to the unlimited walk.
-use Rattle.std.specs.Prelude.{ℕ, suc, ◌+◌, ◌≡◌, false, ◌&&◌, List, [], length, eqb, leb}
-use Rattle.std.proofs.Math.Option.{Option, none, some}
+use Rattle.std.specs.Prelude.{ℕ, suc, ◌+◌, ◌≡◌, false, ◌&&◌, List, [], length, eqb, leb, Option, None, Some}
 use Rattle.laws.specs.Choice.{choose}
 use Rattle.unc.specs.names.Names.{good_name}
 use Rattle.unc.specs.names.Paths.{good_path, normalised, path_units}
@@ -117,8 +116,8 @@ event_of u (referral status reply clock out) = referral_event (caches_of u.refs 
 event_of u (io status clock out) = io_event (caches_of u.refs u.doms) u.core u.rest status
 
 unfoldable pub event_opening : Option Turn → Opening
-event_opening none = refuses OutOfForm
-event_opening (some t) = opens t
+event_opening None = refuses OutOfForm
+event_opening (Some t) = opens t
 
 unfoldable pub answer_opening : Unlimited → Answer → Opening
 answer_opening u a =

@@ -1,6 +1,5 @@
 -- Demand 3: "A limit only cuts a walk short", and document 01's paragraph on it ("Demand 3's list .."), as one claim about any list of calls.
-use Rattle.std.specs.Prelude.{ℕ, suc, ◌≤◌, ◌<◌, ◌≡◌, false, List, [], ◌∷◌, ◌++◌, map, ◌⊎◌, length}
-use Rattle.std.proofs.Math.Option.{some}
+use Rattle.std.specs.Prelude.{ℕ, suc, ◌≤◌, ◌<◌, ◌≡◌, false, List, [], ◌∷◌, ◌++◌, map, ◌⊎◌, length, Some}
 use Rattle.reply_read.specs.referral.Request.{request}
 use Rattle.unc.specs.names.Paths.{normalised, path_units}
 use Rattle.walk_steps.specs.steps.Steps.{Caches, Core, Question, asks, replaces, Rest, waits, ended, Turn, started, with_path, with_hit, hit_at, step2}
@@ -44,7 +43,7 @@ pub record TooShort (l : ℕ) (h : Held) (s : Start) (cs : Calls) : Type 0 where
   pub question : Question
   pub rests : Rests turn (clock_of s cs) s.boot moves core (waits question)
   pub name : List ℕ
-  pub named : request_name core (waits question) ≡ some name
+  pub named : request_name core (waits question) ≡ Some name
   pub long : length (out_of s cs) < length (request name)
 
 pub record LimitOnlyCuts (h : Held) (s : Start) (l m : ℕ) : Type 0 where
@@ -74,7 +73,7 @@ pub record LimitOnlyCuts (h : Held) (s : Start) (l m : ℕ) : Type 0 where
   -- "A start that no number but 10 refuses, or an answer to its question, goes on by the steps;"
   pub start_goes_on : (t : Turn) → start_opening h s ≡ opens t
       → started (caches_of h.refs h.doms) (core_of (normalised s.path) s.size false) s.clock ≡ t
-  pub answer_goes_on : (u : Unlimited) (a : Answer) (t : Turn) → answer_opening u a ≡ opens t → event_of u a ≡ some t
+  pub answer_goes_on : (u : Unlimited) (a : Answer) (t : Turn) → answer_opening u a ≡ opens t → event_of u a ≡ Some t
   -- "all other calls, and those with 10, give their number below and change nothing"
   pub start_changes_nothing : ((run l h s start).left.verdict ≡ Taken → ⊥)
       → ((run l h s start).left.walk ≡ h.walk) × (((run l h s start).left.texts ≡ h.texts) × ((run l h s start).left.out ≡ s.out))

@@ -1,7 +1,6 @@
 -- The unlimited walk: the steps, taken without a limit. It has no fuel and no end 24; where interlinks lead round for ever it does not come to
 -- rest, so it is a relation.
-use Rattle.std.specs.Prelude.{ℕ, ◌+◌, ◌≤◌, ◌<◌, ◌≡◌, true, false, List, [], ◌∷◌, ◌++◌, map, length}
-use Rattle.std.proofs.Math.Option.{Option}
+use Rattle.std.specs.Prelude.{ℕ, ◌+◌, ◌≤◌, ◌<◌, ◌≡◌, true, false, List, [], ◌∷◌, ◌++◌, map, length, Option}
 use Rattle.unc.specs.names.Paths.{path_units}
 use Rattle.cache.specs.order.Memory.{referrals, domains, encode}
 use Rattle.walk_steps.specs.steps.Steps.{Caches, Core, Question, Called, stops, asks, replaces, Turn, Rest, waits, ended, with_path, with_hit, hit_at, step2, name_asked}

@@ -1,12 +1,10 @@
 -- Shapes of the code, proved equal to the rules; nothing here is to be believed.
-use Rattle.std.specs.Prelude.{ℕ, ◌+◌, ◌≤◌, ◌<◌, suc, true, List, [], ◌∷◌, length, get_or, ◌≡◌, leb}
+use Rattle.std.specs.Prelude.{ℕ, ◌+◌, ◌≤◌, ◌<◌, suc, true, List, [], ◌∷◌, length, get_or, ◌≡◌, leb, Option, Some, None}
 use Rattle.laws.specs.Choice.{choose}
 use Rattle.laws.specs.Lists.{every, roomed}
 use Rattle.unc.specs.names.Names.{plain, good_component, same_unit}
 use Rattle.unc.specs.declared.names.Form.{Form}
 use Rattle.unc.specs.declared.names.Form.TheVariants.{Bad, Long, Good}
-use Rattle.unc.specs.declared.names.Written.{Written}
-use Rattle.unc.specs.declared.names.Written.TheVariants.{Units, TooLong}
 use Rattle.unc.specs.names.Paths.{pieces, good_path, normalised, component_count}
 
 -- the units from a place up to another are equal, each to the one at its place
@@ -37,5 +35,5 @@ room_after s room =
     room
 
 -- a text written into a room of n units, or told to be too long for it
-unfoldable pub written_within : ℕ → List ℕ → Written
-written_within n s = choose (leb (length s) n) (Units (length s)) TooLong
+unfoldable pub written_within : ℕ → List ℕ → Option ℕ
+written_within n s = choose (leb (length s) n) (Some (length s)) None

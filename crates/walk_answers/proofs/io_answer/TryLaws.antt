@@ -1,9 +1,9 @@
 -- Laws of the answer to an I/O try.
+use Rattle.std.specs.Prelude.{Some, Option, None}
 use mathlib.Core.Path.{◌≡◌, refl, sym, ap, ◌∙◌, subst}
 use mathlib.Core.Bool.{Bool, true, false, not}
 use mathlib.Core.List.{List, []}
 use mathlib.Core.Logic.{◌⊎◌, inl, inr}
-use mathlib.Core.Option.{some}
 use Prim.Native.Nat.{ℕ, ◌+◌, ◌-◌, ◌/◌, ◌≤◌, ◌<◌}
 use native.Mathlib.Omega.{arith}
 use lib.ListN.{length, take, drop, replicate, length-drop}
@@ -26,8 +26,6 @@ use Rattle.cache.proofs.order.MemoryLaws.{encode_decode}
 use Rattle.cache.proofs.order.KindLaws.{referrals_lawful, referral_told}
 use Rattle.cache_lookup.specs.Lookup.{with_key, target_hinted}
 use Rattle.cache_lookup.specs.Code.{entry_at}
-use Rattle.cache_lookup.specs.declared.Found.{Found}
-use Rattle.cache_lookup.specs.declared.Found.TheVariants.{At, Nothing}
 use Rattle.cache_lookup.proofs.LookupLaws.{KeyAt, key_found}
 use Rattle.cache_lookup.proofs.StoreLaws.{entry_good}
 use Rattle.cache_store.specs.entry_after_reply.Stored.{prefixed}
@@ -56,61 +54,61 @@ use Rattle.walk_answers.specs.declared.io_answer.Failure.TheVariants.{Calls, Tri
 use Rattle.walk_answers.specs.io_answer.Code.{tried_room, Trying, Failing, with_parties, place_in_use, not_covered, next_target, failure_calls}
 
 -- the place of the entry in use
-module _ (prefix raw : List ℕ) (party began : ℕ) {f : Found} (e : f ≡ with_key referrals prefix (decode referrals raw)) where
-  pub place_gone : f ≡ Nothing → Nothing ≡ place_in_use prefix raw party began
+module _ (prefix raw : List ℕ) (party began : ℕ) {f : Option ℕ} (e : f ≡ with_key referrals prefix (decode referrals raw)) where
+  pub place_gone : f ≡ None → None ≡ place_in_use prefix raw party began
   unfolding place_in_use with_parties
   place_gone h = sym (ap (with_parties raw party began) (sym e ∙ h))
 
-  module _ (i : ℕ) (h : f ≡ At i) where
-    place_at_lem : place_in_use prefix raw party began ≡ choose (in_round (length (entry_at referrals i raw).targets) party began) (At i) Nothing
+  module _ (i : ℕ) (h : f ≡ Some i) where
+    place_at_lem : place_in_use prefix raw party began ≡ choose (in_round (length (entry_at referrals i raw).targets) party began) (Some i) None
     unfolding place_in_use with_parties
     place_at_lem = ap (with_parties raw party began) (sym e ∙ h)
 
     module _ {n : ℕ} (g : n ≡ length (entry_at referrals i raw).targets) where
-      pub place_party : n ≤ party → Nothing ≡ place_in_use prefix raw party began
+      pub place_party : n ≤ party → None ≡ place_in_use prefix raw party began
       place_party k = sym (place_at_lem ∙ choose_no _ _ (sym (round_past _ party began (let z : length (entry_at referrals i raw).targets ≤ party = omega arith in z))))
 
       module _ (a : party < n) where
         counted : ltb began n ≡ in_round (length (entry_at referrals i raw).targets) party began
         counted = round_on n party began a ∙ ap (λ (m : ℕ). in_round m party began) g
 
-        pub place_began : n ≤ began → Nothing ≡ place_in_use prefix raw party began
+        pub place_began : n ≤ began → None ≡ place_in_use prefix raw party began
         place_began k = sym (place_at_lem ∙ choose_no _ _ (sym counted ∙ le-ltb began n k))
 
-        pub place_held : began < n → At i ≡ place_in_use prefix raw party began
+        pub place_held : began < n → Some i ≡ place_in_use prefix raw party began
         place_held k = sym (place_at_lem ∙ choose_yes _ _ (sym counted ∙ lt-ltb began n k))
 
 -- what that place tells
 record InUse (prefix raw : List ℕ) (party began i : ℕ) : Type 0 where
-  found : with_key referrals prefix (decode referrals raw) ≡ At i
+  found : with_key referrals prefix (decode referrals raw) ≡ Some i
   round : in_round (length (entry_at referrals i raw).targets) party began ≡ true
 
 module _ (prefix raw : List ℕ) (party began : ℕ) where
-  use_told : (i : ℕ) → place_in_use prefix raw party began ≡ At i → InUse prefix raw party began i
+  use_told : (i : ℕ) → place_in_use prefix raw party began ≡ Some i → InUse prefix raw party began i
   unfolding place_in_use with_parties
   use_told i k = go (with_key referrals prefix (decode referrals raw)) refl k
     where
-      go : (f : Found) → with_key referrals prefix (decode referrals raw) ≡ f → with_parties raw party began f ≡ At i → InUse prefix raw party began i
-      go Nothing h k = absurd (let z : ◌≡◌ {A = ℕ} 0 1 = cc in omega arith)
-      go (At j) h k = at (told (in_round (length (entry_at referrals j raw).targets) party began))
+      go : (f : Option ℕ) → with_key referrals prefix (decode referrals raw) ≡ f → with_parties raw party began f ≡ Some i → InUse prefix raw party began i
+      go None h k = absurd (let z : ◌≡◌ {A = ℕ} 0 1 = cc in omega arith)
+      go (Some j) h k = at (told (in_round (length (entry_at referrals j raw).targets) party began))
         where
           at : (in_round (length (entry_at referrals j raw).targets) party began ≡ true) ⊎ (in_round (length (entry_at referrals j raw).targets) party began ≡ false) → InUse prefix raw party began i
           at (inl t) =
-              let z : j ≡ i = cc (choose_yes (At j) Nothing t) in
+              let z : j ≡ i = cc (choose_yes (Some j) None t) in
               subst (InUse prefix raw party began) z (record { found = h; round = t })
-          at (inr t) = absurd (let z : ◌≡◌ {A = ℕ} 0 1 = cc (choose_no (At j) Nothing t) in omega arith)
+          at (inr t) = absurd (let z : ◌≡◌ {A = ℕ} 0 1 = cc (choose_no (Some j) None t) in omega arith)
 
-  gone_told : place_in_use prefix raw party began ≡ Nothing → in_round (targets_under prefix raw) party began ≡ false
+  gone_told : place_in_use prefix raw party began ≡ None → in_round (targets_under prefix raw) party began ≡ false
   unfolding place_in_use with_parties
   gone_told k = go (with_key referrals prefix (decode referrals raw)) refl k
     where
-      go : (f : Found) → with_key referrals prefix (decode referrals raw) ≡ f → with_parties raw party began f ≡ Nothing → in_round (targets_under prefix raw) party began ≡ false
-      go Nothing h k = sym (round_past _ party began (let z : 0 ≡ targets_under prefix raw = targets_gone prefix raw refl h in omega arith))
-      go (At j) h k = at (told (in_round (length (entry_at referrals j raw).targets) party began))
+      go : (f : Option ℕ) → with_key referrals prefix (decode referrals raw) ≡ f → with_parties raw party began f ≡ None → in_round (targets_under prefix raw) party began ≡ false
+      go None h k = sym (round_past _ party began (let z : 0 ≡ targets_under prefix raw = targets_gone prefix raw refl h in omega arith))
+      go (Some j) h k = at (told (in_round (length (entry_at referrals j raw).targets) party began))
         where
           at : (in_round (length (entry_at referrals j raw).targets) party began ≡ true) ⊎ (in_round (length (entry_at referrals j raw).targets) party began ≡ false)
               → in_round (targets_under prefix raw) party began ≡ false
-          at (inl t) = absurd (let z : ◌≡◌ {A = ℕ} 0 1 = cc (choose_yes (At j) Nothing t) in omega arith)
+          at (inl t) = absurd (let z : ◌≡◌ {A = ℕ} 0 1 = cc (choose_yes (Some j) None t) in omega arith)
           at (inr t) = ap (λ (n : ℕ). in_round n party began) (sym (targets_held prefix raw refl j h refl)) ∙ t
 
 -- the entry in use
@@ -139,7 +137,7 @@ module _ (refs doms path : List ℕ) (size : ℕ) (hit : Bool) (q : Asking) (tri
       in_use_same (caches_of refs doms) path size 0 hit true q tried []
       ∙ sym (in_use_io refs doms path q {r = in_round (targets_under (take q.entry path) refs) q.party q.began} refl io refl)
 
-  answered_gone : place_in_use (take q.entry path) refs q.party q.began ≡ Nothing
+  answered_gone : place_in_use (take q.entry path) refs q.party q.began ≡ None
       → io_answered (caches_of refs doms) (core_of path size hit) (question_of q tried) status
       ≡ record { caches = caches_of refs doms; core = core_of path size hit; called = ends Gone 0 }
   unfolding io_answered
@@ -151,12 +149,12 @@ module _ (refs doms path : List ℕ) (size : ℕ) (hit : Bool) (q : Asking) (tri
         use_is
         ∙ (ap (λ (n : ℕ). in_round n q.party q.began) (sym (targets_held (take q.entry path) refs refl i u.found refl)) ∙ u.round)
 
-    held : referral_in_use (caches_of refs doms) (core_of path size hit) (question_of q tried) ≡ some (entry_at referrals i refs)
+    held : referral_in_use (caches_of refs doms) (core_of path size hit) (question_of q tried) ≡ Some (entry_at referrals i refs)
     unfolding referral_in_use question_of caches_of prefixed
     held = key_held referrals (take q.entry path) refs i u.found
 
     answered_with : io_answered (caches_of refs doms) (core_of path size hit) (question_of q tried) status
-        ≡ io_with (caches_of refs doms) (core_of path size hit) (question_of q tried) status (some (entry_at referrals i refs))
+        ≡ io_with (caches_of refs doms) (core_of path size hit) (question_of q tried) status (Some (entry_at referrals i refs))
     unfolding io_answered
     answered_with = choose_yes _ _ used ∙ ap (io_with (caches_of refs doms) (core_of path size hit) (question_of q tried) status) held
 
@@ -229,12 +227,12 @@ module _ {refs doms rooms : List ℕ} {g : Progress} {q : Asking} {tried : ℕ} 
   abbrev turn : ℕ → Turn
   turn status = io_answered (caches_of refs doms) (core_at g rooms) (question_of q (tried_room tried rooms)) status
 
-  module _ {f : Found} (e : f ≡ place_in_use (take q.entry rooms) refs q.party q.began) where
-    place_is : {x : Found} → f ≡ x → place_in_use (take q.entry (take g.len rooms)) refs q.party q.began ≡ x
+  module _ {f : Option ℕ} (e : f ≡ place_in_use (take q.entry rooms) refs q.party q.began) where
+    place_is : {x : Option ℕ} → f ≡ x → place_in_use (take q.entry (take g.len rooms)) refs q.party q.began ≡ x
     place_is h = ap (λ (p : List ℕ). place_in_use p refs q.party q.began) (sym prefix_taken) ∙ (sym e ∙ h)
 
     -- the entry is gone
-    pub gone_left : (status : ℕ) → f ≡ Nothing → {o : List ℕ} {r : Rested} → o ≡ pasted rooms 256 (replicate 256 0) → r ≡ rested_at (Ends Gone 0) g.len g.left g.hit
+    pub gone_left : (status : ℕ) → f ≡ None → {o : List ℕ} {r : Rested} → o ≡ pasted rooms 256 (replicate 256 0) → r ≡ rested_at (Ends Gone 0) g.len g.left g.hit
         → left_by r o refs doms ≡ leaves g refs doms (turn status)
     unfolding called_of
     gone_left status h {o} d x =
@@ -243,7 +241,7 @@ module _ {refs doms rooms : List ℕ} {g : Progress} {q : Asking} {tried : ℕ} 
         (rest_called o g (cleared_standing d) (Ends Gone 0) (caches_of refs doms) x
         ∙ (λ j. packed (goes g.left (caches_of refs doms) g.clock (core_of (cleared_path d j) g.size g.hit) (ends Gone 0))))
 
-    module _ (i : ℕ) (h : f ≡ At i) where
+    module _ (i : ℕ) (h : f ≡ Some i) where
       in_use : InUse (take q.entry (take g.len rooms)) refs q.party q.began i
       in_use = use_told _ refs _ _ i (place_is h)
 

@@ -1,6 +1,6 @@
 -- Shapes of the code, proved equal to the rules; nothing here is to be believed.
 -- Words of the functions that take the answer to an I/O try: what they are given, and the parts of what comes of it.
-use Rattle.std.specs.Prelude.{ℕ, ◌≤◌, ◌≡◌, true, List, length, take, drop}
+use Rattle.std.specs.Prelude.{ℕ, ◌≤◌, ◌≡◌, true, List, length, take, drop, Option, Some, None}
 use Rattle.laws.specs.Choice.{choose}
 use Rattle.unc.specs.names.Paths.{matches}
 use Rattle.walk_steps.specs.walk_texts.Texts.{texts_of}
@@ -10,8 +10,6 @@ use Rattle.cache.specs.order.Order.{good_prefix}
 use Rattle.cache.specs.order.Memory.{referrals, domains, decode, in_order}
 use Rattle.cache_lookup.specs.Lookup.{with_key}
 use Rattle.cache_lookup.specs.Code.{entry_at}
-use Rattle.cache_lookup.specs.declared.Found.{Found}
-use Rattle.cache_lookup.specs.declared.Found.TheVariants.{At, Nothing}
 use Rattle.walk_steps.specs.steps.Steps.{Core, Question, Called, ends, asks, link_request, onward, step8}
 use Rattle.walk_steps.specs.steps.Code.{called_of}
 use Rattle.walk_steps.specs.declared.steps.Kind.TheVariants.{Io}
@@ -46,12 +44,12 @@ pub record Failing (refs rooms : List ℕ) (len i : ℕ) : Type 0 where
   pub usable : Usable refs (take len rooms) i
 
 -- the place found, if its entry has the target asked and the one with which the round began
-unfoldable pub with_parties : List ℕ → ℕ → ℕ → Found → Found
-with_parties refs party began Nothing = Nothing
-with_parties refs party began (At i) = choose (in_round (length (entry_at referrals i refs).targets) party began) (At i) Nothing
+unfoldable pub with_parties : List ℕ → ℕ → ℕ → Option ℕ → Option ℕ
+with_parties refs party began None = None
+with_parties refs party began (Some i) = choose (in_round (length (entry_at referrals i refs).targets) party began) (Some i) None
 
 -- the place of the entry in use
-unfoldable pub place_in_use : List ℕ → List ℕ → ℕ → ℕ → Found
+unfoldable pub place_in_use : List ℕ → List ℕ → ℕ → ℕ → Option ℕ
 place_in_use prefix refs party began = with_parties refs party began (with_key referrals prefix (decode referrals refs))
 
 -- after PATH_NOT_COVERED a root's target is asked for the link

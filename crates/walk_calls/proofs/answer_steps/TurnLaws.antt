@@ -1,8 +1,8 @@
 -- What the events of an answer keep: the path and the size of the walk.
+use Rattle.std.specs.Prelude.{Option, None, Some}
 use mathlib.Core.Path.{◌≡◌, refl, sym, ◌∙◌, subst}
 use mathlib.Core.Bool.{Bool, true, false}
 use mathlib.Core.List.{List}
-use mathlib.Core.Option.{Option, none, some}
 use Prim.Native.Nat.{ℕ, ◌≤◌}
 use lib.ListN.{length}
 use Rattle.laws.specs.Choice.{choose}
@@ -62,8 +62,8 @@ same_referral c w q status reply clock =
 
 same_with : (c : Caches) (w : Core) (q : Question) (status : ℕ) (o : Option Referral) → Same w (io_with c w q status o)
 unfolding io_with
-same_with c w q status none = same_turn w _ _
-same_with c w q status (some e) = chosen (Same w) _ (same_turn w _ _) (same_turn w _ _)
+same_with c w q status None = same_turn w _ _
+same_with c w q status (Some e) = chosen (Same w) _ (same_turn w _ _) (same_turn w _ _)
 
 same_io : (c : Caches) (w : Core) (q : Question) (status : ℕ) → Same w (io_answered c w q status)
 unfolding io_answered

@@ -1,9 +1,9 @@
 -- Laws of an answer.
+use Rattle.std.specs.Prelude.{Option, None, Some}
 use mathlib.Core.Path.{◌≡◌, refl, sym, ap, ◌∙◌}
 use mathlib.Core.Bool.{Bool, true, false, ◌&&◌}
 use mathlib.Core.List.{List}
 use mathlib.Core.Logic.{◌⊎◌, inl, inr}
-use mathlib.Core.Option.{Option, none, some}
 use Prim.Native.Nat.{ℕ, ◌-◌}
 use lib.ListN.{length}
 use Rattle.laws.specs.Choice.{choose}
@@ -43,47 +43,47 @@ module _ (event : Option Turn) (clock : ℕ) (walk : Walk) (texts out refs doms 
       unfolding answer_call
       taken e = e ∙ sym (choose_yes _ _ (sym o ∙ h) ∙ choose_yes _ _ (sym p ∙ g))
 
-      pub call_none : event ≡ none → refused_answer OutOfForm walk texts out refs doms ≡ answer_call event clock walk texts out refs doms
+      pub call_none : event ≡ None → refused_answer OutOfForm walk texts out refs doms ≡ answer_call event clock walk texts out refs doms
       unfolding answers
       call_none e = taken (ap (λ (v : Option Turn). answers v clock walk texts out refs doms) (sym e))
 
-      pub call_some : (t : Turn) {y : Answered} → event ≡ some t → y ≡ answers (some t) clock walk texts out refs doms → y ≡ answer_call event clock walk texts out refs doms
+      pub call_some : (t : Turn) {y : Answered} → event ≡ Some t → y ≡ answers (Some t) clock walk texts out refs doms → y ≡ answer_call event clock walk texts out refs doms
       call_some t e k = taken (k ∙ ap (λ (v : Option Turn). answers v clock walk texts out refs doms) (sym e))
 
 -- the event of an I/O answer, and that of a referral's
 module _ (c : Caches) (walk : Walk) (texts : List ℕ) (status : ℕ) where
-  pub io_ended : (e : End) (s : ℕ) → walk.next ≡ Ends e s → io_event c (core_in walk texts) (rest_in walk texts) status ≡ none
+  pub io_ended : (e : End) (s : ℕ) → walk.next ≡ Ends e s → io_event c (core_in walk texts) (rest_in walk texts) status ≡ None
   unfolding io_event rest_in rest_at
   io_ended e s h = ap (λ (n : Next). io_event c (core_in walk texts) (rest_at (tried_in walk texts) n) status) h
 
   module _ (q : Asking) (h : walk.next ≡ Asks q) {t : Bool} (u : t ≡ has_tried q.kind) where
     io_waits : io_event c (core_in walk texts) (rest_in walk texts) status
-        ≡ choose (has_tried q.kind) (some (io_answered c (core_in walk texts) (question_of q (tried_in walk texts)) status)) none
+        ≡ choose (has_tried q.kind) (Some (io_answered c (core_in walk texts) (question_of q (tried_in walk texts)) status)) None
     unfolding io_event rest_in rest_at question_of
     io_waits = ap (λ (n : Next). io_event c (core_in walk texts) (rest_at (tried_in walk texts) n) status) h
 
-    pub io_other : t ≡ false → io_event c (core_in walk texts) (rest_in walk texts) status ≡ none
+    pub io_other : t ≡ false → io_event c (core_in walk texts) (rest_in walk texts) status ≡ None
     io_other k = io_waits ∙ choose_no _ _ (sym u ∙ k)
 
-    io_event_lem : t ≡ true → io_event c (core_in walk texts) (rest_in walk texts) status ≡ some (io_answered c (core_in walk texts) (question_of q (tried_in walk texts)) status)
+    io_event_lem : t ≡ true → io_event c (core_in walk texts) (rest_in walk texts) status ≡ Some (io_answered c (core_in walk texts) (question_of q (tried_in walk texts)) status)
     io_event_lem k = io_waits ∙ choose_yes _ _ (sym u ∙ k)
 
   module _ (reply : List ℕ) (clock : ℕ) where
-    pub referral_ended : (e : End) (s : ℕ) → walk.next ≡ Ends e s → referral_event c (core_in walk texts) (rest_in walk texts) status reply clock ≡ none
+    pub referral_ended : (e : End) (s : ℕ) → walk.next ≡ Ends e s → referral_event c (core_in walk texts) (rest_in walk texts) status reply clock ≡ None
     unfolding referral_event rest_in rest_at
     referral_ended e s h = ap (λ (n : Next). referral_event c (core_in walk texts) (rest_at (tried_in walk texts) n) status reply clock) h
 
     module _ (q : Asking) (h : walk.next ≡ Asks q) {t : Bool} (u : t ≡ has_tried q.kind) where
       referral_waits : referral_event c (core_in walk texts) (rest_in walk texts) status reply clock
-          ≡ choose (has_tried q.kind) none (some (referral_answered c (core_in walk texts) (question_of q (tried_in walk texts)) status reply clock))
+          ≡ choose (has_tried q.kind) None (Some (referral_answered c (core_in walk texts) (question_of q (tried_in walk texts)) status reply clock))
       unfolding referral_event rest_in rest_at question_of
       referral_waits = ap (λ (n : Next). referral_event c (core_in walk texts) (rest_at (tried_in walk texts) n) status reply clock) h
 
-      pub referral_other : t ≡ true → referral_event c (core_in walk texts) (rest_in walk texts) status reply clock ≡ none
+      pub referral_other : t ≡ true → referral_event c (core_in walk texts) (rest_in walk texts) status reply clock ≡ None
       referral_other k = referral_waits ∙ choose_yes _ _ (sym u ∙ k)
 
       referral_event_lem : t ≡ false
-          → referral_event c (core_in walk texts) (rest_in walk texts) status reply clock ≡ some (referral_answered c (core_in walk texts) (question_of q (tried_in walk texts)) status reply clock)
+          → referral_event c (core_in walk texts) (rest_in walk texts) status reply clock ≡ Some (referral_answered c (core_in walk texts) (question_of q (tried_in walk texts)) status reply clock)
       referral_event_lem k = referral_waits ∙ choose_no _ _ (sym u ∙ k)
 
 -- a turn whose call ends is the answer's
@@ -92,11 +92,11 @@ module _ (t : Turn) (clock : ℕ) (walk : Walk) (texts out refs doms : List ℕ)
   fits = rest_fits (length out) (turned (walk.limit - walk.moves) clock t)
 
   pub answers_closing : {l : Left} {r d : List ℕ} → record { ending = l; refs = r; doms = d } ≡ closing clock walk texts out refs doms t
-      → record { left = l; refs = r; doms = d } ≡ answers (some t) clock walk texts out refs doms
+      → record { left = l; refs = r; doms = d } ≡ answers (Some t) clock walk texts out refs doms
   unfolding answers closing closes leaves progress_of
   answers_closing {l} {r} {d} e = go (told fits)
     where
-      go : (fits ≡ true) ⊎ (fits ≡ false) → record { left = l; refs = r; doms = d } ≡ answers (some t) clock walk texts out refs doms
+      go : (fits ≡ true) ⊎ (fits ≡ false) → record { left = l; refs = r; doms = d } ≡ answers (Some t) clock walk texts out refs doms
       go (inl y) =
           (λ j.
           record {
@@ -130,11 +130,11 @@ module _ (refs doms texts : List ℕ) (walk : Walk) (out : List ℕ) {b : Bool} 
 
   -- a referral
   module _ (status : ℕ) (reply : List ℕ) (clock : ℕ) (v : t ≡ false) where
-    asked : referral_event (caches_of refs doms) (core_in walk texts) (rest_in walk texts) status reply clock ≡ some (referral_turn refs doms texts walk q status reply clock)
+    asked : referral_event (caches_of refs doms) (core_in walk texts) (rest_in walk texts) status reply clock ≡ Some (referral_turn refs doms texts walk q status reply clock)
     unfolding referral_turn
     asked =
         referral_event_lem (caches_of refs doms) walk texts status reply clock q k u v
-        ∙ ap (λ (l : List ℕ). some (referral_answered (caches_of refs doms) (core_in walk texts) (question_of q l) status reply clock)) (none_tried (due v) refl)
+        ∙ ap (λ (l : List ℕ). Some (referral_answered (caches_of refs doms) (core_in walk texts) (question_of q l) status reply clock)) (none_tried (due v) refl)
 
     pub referral_taken : {l : Left} {r d : List ℕ}
         → record { ending = l; refs = r; doms = d } ≡ closing clock walk texts out refs doms (referral_turn refs doms texts walk q status reply clock)

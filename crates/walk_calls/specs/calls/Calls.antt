@@ -1,6 +1,5 @@
 -- The calls of a host: what each one gives back and leaves in the lent memory.
-use Rattle.std.specs.Prelude.{ℕ, ◌-◌, false, ◌&&◌, List, length, eqb, leb}
-use Rattle.std.proofs.Math.Option.{Option, none, some}
+use Rattle.std.specs.Prelude.{ℕ, ◌-◌, false, ◌&&◌, List, length, eqb, leb, Option, None, Some}
 use Rattle.laws.specs.Choice.{choose}
 use Rattle.unc.specs.names.Paths.{good_path, normalised, path_units}
 use Rattle.cache.specs.order.Memory.{referrals, domains, encode, in_order}
@@ -67,17 +66,17 @@ rest_in w texts = rest_at (tried_in w texts) w.next
 -- the event of an answer: to a referral request, and to an I/O try, which is the question that has a path tried; none where the walk has ended or
 -- waits for an answer of the other kind
 unfoldable pub referral_event : Caches → Core → Rest → ℕ → List ℕ → ℕ → Option Turn
-referral_event c w (ended e s tried) status reply clock = none
-referral_event c w (waits q) status reply clock = choose (has_tried q.kind) none (some (referral_answered c w q status reply clock))
+referral_event c w (ended e s tried) status reply clock = None
+referral_event c w (waits q) status reply clock = choose (has_tried q.kind) None (Some (referral_answered c w q status reply clock))
 
 unfoldable pub io_event : Caches → Core → Rest → ℕ → Option Turn
-io_event c w (ended e s tried) status = none
-io_event c w (waits q) status = choose (has_tried q.kind) (some (io_answered c w q status)) none
+io_event c w (ended e s tried) status = None
+io_event c w (waits q) status = choose (has_tried q.kind) (Some (io_answered c w q status)) None
 
 -- an event whose steps come to rest: both caches are as the event left them; 10 leaves them as they were
 unfoldable pub answers : Option Turn → ℕ → Walk → List ℕ → List ℕ → List ℕ → List ℕ → Answered
-answers none clock walk texts out refs doms = refused_answer OutOfForm walk texts out refs doms
-answers (some t) clock walk texts out refs doms =
+answers None clock walk texts out refs doms = refused_answer OutOfForm walk texts out refs doms
+answers (Some t) clock walk texts out refs doms =
     choose (rest_fits (length out) (turned (walk.limit - walk.moves) clock t))
     (record {
       left = closes walk.limit (boot_in walk texts) (turned (walk.limit - walk.moves) clock t) walk texts out;

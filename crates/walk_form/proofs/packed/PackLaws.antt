@@ -1,4 +1,5 @@
 -- Laws of a walk as units: packed and unpacked it is the same walk, and units of the form are what their walk is packed into.
+use Rattle.std.specs.Prelude.{Some, None}
 use mathlib.Core.Path.{◌≡◌, refl, sym, ap, ◌∙◌}
 use mathlib.Core.Bool.{Bool, true, false}
 use mathlib.Core.List.{List, [], ◌∷◌, ◌++◌}
@@ -29,7 +30,6 @@ use Rattle.walk_steps.specs.declared.steps.Next.{Next}
 use Rattle.walk_steps.specs.declared.steps.Next.TheVariants.{Asks, Ends}
 use Rattle.walk_form.specs.declared.held.Walk.{Walk}
 use Rattle.walk_form.specs.packed.Packing.{kind_number, asking_units, next_packed, walk_units, packed_walk, kind_at, end_of_number, asking_at, next_at, walk_at, unpacked}
-use Rattle.walk_form.specs.declared.packed.Unpacked.TheVariants.{Held, NotOfForm}
 
 -- a flag as a unit
 pub flag_set : (b : Bool) → b ≡ true → 1 ≡ flag_unit b
@@ -264,25 +264,25 @@ walk_back w = go w.next
       next = next_back w (Ends e s) j;
     }
 
-pub unpack_pack : (w : Walk) → unpacked (packed_walk w) ≡ Held w
+pub unpack_pack : (w : Walk) → unpacked (packed_walk w) ≡ Some w
 unfolding unpacked
 unpack_pack w =
-    choose_yes _ NotOfForm (same_same_list (packed_walk (walk_at (packed_walk w))) (packed_walk w) (ap packed_walk (walk_back w))) ∙ ap Held (walk_back w)
+    choose_yes _ None (same_same_list (packed_walk (walk_at (packed_walk w))) (packed_walk w) (ap packed_walk (walk_back w))) ∙ ap Some (walk_back w)
 
 -- units of the form are what their walk is packed into
-pub pack_unpack : (u : List ℕ) (w : Walk) → unpacked u ≡ Held w → packed_walk w ≡ u
+pub pack_unpack : (u : List ℕ) (w : Walk) → unpacked u ≡ Some w → packed_walk w ≡ u
 unfolding unpacked
 pack_unpack u w h = go (told (same_list (packed_walk (walk_at u)) u))
   where
     go : (same_list (packed_walk (walk_at u)) u ≡ true) ⊎ (same_list (packed_walk (walk_at u)) u ≡ false) → packed_walk w ≡ u
     go (inl t) =
-        let e : walk_at u ≡ w = cc (choose_yes (Held (walk_at u)) NotOfForm t, h) in
+        let e : walk_at u ≡ w = cc (choose_yes (Some (walk_at u)) None t, h) in
         ap packed_walk (sym e) ∙ same_list_true _ u t
-    go (inr t) = absurd (let z : ◌≡◌ {A = ℕ} 0 1 = cc (choose_no (Held (walk_at u)) NotOfForm t, h) in omega arith)
+    go (inr t) = absurd (let z : ◌≡◌ {A = ℕ} 0 1 = cc (choose_no (Some (walk_at u)) None t, h) in omega arith)
 
 -- the test of form
 module _ (u : List ℕ) where
-  pub form_length : (length u ≡ 32 → ⊥) → NotOfForm ≡ unpacked u
+  pub form_length : (length u ≡ 32 → ⊥) → None ≡ unpacked u
   unfolding unpacked
   form_length h =
       sym (choose_no _ _ (refuted (same_list (packed_walk (walk_at u)) u) (λ t. h (sym (ap length (same_list_true _ u t)) ∙ length_packed (walk_at u)))))
@@ -294,13 +294,13 @@ module _ (u : List ℕ) where
     pub again_long : length u ≡ 32 → length again ≡ length u
     again_long h = ap length packed_again ∙ (length_packed (walk_at u) ∙ sym h)
 
-    pub form_other : {b : Bool} → b ≡ same_list again u → b ≡ false → NotOfForm ≡ unpacked u
+    pub form_other : {b : Bool} → b ≡ same_list again u → b ≡ false → None ≡ unpacked u
     unfolding unpacked
     form_other g h = sym (choose_no _ _ (ap (λ (x : List ℕ). same_list x u) (sym packed_again) ∙ (sym g ∙ h)))
 
-    pub form_held : {b : Bool} → b ≡ same_list again u → b ≡ true → Held w ≡ unpacked u
+    pub form_held : {b : Bool} → b ≡ same_list again u → b ≡ true → Some w ≡ unpacked u
     unfolding unpacked
-    form_held g h = ap Held a ∙ sym (choose_yes _ _ (ap (λ (x : List ℕ). same_list x u) (sym packed_again) ∙ (sym g ∙ h)))
+    form_held g h = ap Some a ∙ sym (choose_yes _ _ (ap (λ (x : List ℕ). same_list x u) (sym packed_again) ∙ (sym g ∙ h)))
 
 -- equal units, one after the other
 module _ (a b : List ℕ) (i : ℕ) where

@@ -10,7 +10,7 @@
 --     13-14   the size asked, or the end's status
 --     15      1 where a link request came of PATH_NOT_COVERED
 --     16 .. 31  0
-use Rattle.std.specs.Prelude.{ℕ, List, [], ◌∷◌, ◌++◌, eqb, leb}
+use Rattle.std.specs.Prelude.{ℕ, List, [], ◌∷◌, ◌++◌, eqb, leb, Option, Some, None}
 use Rattle.laws.specs.Choice.{choose}
 use Rattle.laws.specs.Lists.{roomed}
 use Rattle.laws.specs.Listed.{same_list}
@@ -24,8 +24,6 @@ use Rattle.walk_steps.specs.declared.steps.Asking.{Asking}
 use Rattle.walk_steps.specs.declared.steps.Next.{Next}
 use Rattle.walk_steps.specs.declared.steps.Next.TheVariants.{Asks, Ends}
 use Rattle.walk_form.specs.declared.held.Walk.{Walk}
-use Rattle.walk_form.specs.declared.packed.Unpacked.{Unpacked}
-use Rattle.walk_form.specs.declared.packed.Unpacked.TheVariants.{Held, NotOfForm}
 
 -- the numbers of the kinds: dc, root, link, sysvol, io, in the order of document 01's `ask=`
 unfoldable pub kind_number : Kind → ℕ
@@ -93,5 +91,5 @@ walk_at u = record {
 
 -- units are of the form where they are exactly what the walk that is read writes: another length, a flag other than 0 and 1, an unknown number
 -- and anything in unused units are not
-unfoldable pub unpacked : List ℕ → Unpacked
-unpacked u = choose (same_list (packed_walk (walk_at u)) u) (Held (walk_at u)) NotOfForm
+unfoldable pub unpacked : List ℕ → Option Walk
+unpacked u = choose (same_list (packed_walk (walk_at u)) u) (Some (walk_at u)) None

@@ -1,9 +1,9 @@
 -- Laws of what is shown.
+use Rattle.std.specs.Prelude.{Option, None, Some}
 use mathlib.Core.Path.{◌≡◌, refl, sym, ap, ◌∙◌}
 use mathlib.Core.Bool.{Bool, true, false, ◌&&◌, ◌||◌}
 use mathlib.Core.List.{List, [], ◌∷◌}
 use mathlib.Core.Logic.{◌⊎◌, inl, inr}
-use mathlib.Core.Option.{Option, none, some}
 use Prim.Native.Nat.{ℕ, ◌+◌, ◌-◌, ◌≤◌, ◌<◌}
 use native.Mathlib.Omega.{arith}
 use lib.ListN.{length, get_or, take, drop, set, length-take, length-drop}
@@ -22,8 +22,6 @@ use Rattle.cache.specs.order.Memory.{referrals, domains, decode, in_order}
 use Rattle.cache.proofs.order.KindLaws.{prefix_short}
 use Rattle.cache_lookup.specs.Lookup.{with_key, target_path, dc_name}
 use Rattle.cache_lookup.specs.Code.{entry_at}
-use Rattle.cache_lookup.specs.declared.Found.{Found}
-use Rattle.cache_lookup.specs.declared.Found.TheVariants.{At, Nothing}
 use Rattle.cache_lookup.proofs.EntryLaws.{read_target, read_dc}
 use Rattle.cache_store.specs.entry_after_reply.Stored.{prefixed}
 use Rattle.walk_steps.specs.steps.Steps.{Caches, Core, Question, Rest, waits, ended, domain_named, domain_in_use, referral_in_use, is_in_use, name_asked, end_number}
@@ -37,8 +35,6 @@ use Rattle.walk_steps.specs.declared.steps.Next.TheVariants.{Asks, Ends}
 use Rattle.walk_steps.proofs.steps.HeldLaws.{none_held, key_held}
 use Rattle.walk_steps.proofs.steps.StepLaws.{host_is}
 use Rattle.walk_steps.specs.question_request.Code.{name_units, next_units}
-use Rattle.walk_steps.specs.declared.question_request.Name.{Name}
-use Rattle.walk_steps.specs.declared.question_request.Name.TheVariants.{First, Absent}
 use Rattle.walk_steps.specs.rounds.Code.{dcs_named, targets_under, in_round}
 use Rattle.walk_steps.proofs.rounds.RoundLaws.{place_named, dcs_fit, dcs_held, targets_fit, targets_held, in_use_same, in_use_root, in_use_sysvol, in_use_link, in_use_io}
 use Rattle.walk_form.specs.held.Walks.{in_form, next_in_form, path_in, tried_in, boot_in}
@@ -74,16 +70,16 @@ unfolding text_at room_at part
 text_short j piece = simp (length-take, length-take) (omega arith)
 
 -- a DC of the path's domain
-module _ (path doms : List ℕ) (place : ℕ) (out : List ℕ) {name : List ℕ} {f : Found} (n : name ≡ get_or (components path) 0 [])
+module _ (path doms : List ℕ) (place : ℕ) (out : List ℕ) {name : List ℕ} {f : Option ℕ} (n : name ≡ get_or (components path) 0 [])
     (e : f ≡ with_key domains name (decode domains doms)) where
   named_found : f ≡ with_key domains (get_or (components path) 0 []) (decode domains doms)
   named_found = place_named path doms n e
 
-  pub dc_gone : f ≡ Nothing → given NoEntry out ≡ shows_some (dc_at_place place (domain_named (get_or (components path) 0 []) (decode domains doms))) out
+  pub dc_gone : f ≡ None → given NoEntry out ≡ shows_some (dc_at_place place (domain_named (get_or (components path) 0 []) (decode domains doms))) out
   unfolding shows_some dc_at_place domain_named
   dc_gone h = ap (λ (d : Option Domain). shows_some (dc_at_place place d) out) (sym (none_held (decode domains doms) (sym named_found ∙ h)))
 
-  module _ (i : ℕ) (h : f ≡ At i) where
+  module _ (i : ℕ) (h : f ≡ Some i) where
     pub dc_fits : place < dcs_named path doms → (i < place_count doms) × (place < length (entry_at domains i doms).dcs)
     dc_fits l =
         let k : length (entry_at domains i doms).dcs ≡ dcs_named path doms = dcs_held path doms named_found i h refl in
@@ -102,12 +98,12 @@ module _ (path doms : List ℕ) (place : ℕ) (out : List ℕ) {name : List ℕ}
         ∙ ap (λ (d : Option Domain). shows_some (dc_at_place place d) out) (sym (key_held domains (get_or (components path) 0 []) doms i (sym named_found ∙ h)))
 
 -- a target of the entry of a prefix
-module _ (prefix refs : List ℕ) (place : ℕ) (out : List ℕ) {f : Found} (e : f ≡ with_key referrals prefix (decode referrals refs)) where
-  pub target_gone : f ≡ Nothing → given NoEntry out ≡ shows_some (target_at_place place (prefixed prefix (decode referrals refs))) out
+module _ (prefix refs : List ℕ) (place : ℕ) (out : List ℕ) {f : Option ℕ} (e : f ≡ with_key referrals prefix (decode referrals refs)) where
+  pub target_gone : f ≡ None → given NoEntry out ≡ shows_some (target_at_place place (prefixed prefix (decode referrals refs))) out
   unfolding shows_some target_at_place prefixed
   target_gone h = ap (λ (d : Option Referral). shows_some (target_at_place place d) out) (sym (none_held (decode referrals refs) (sym e ∙ h)))
 
-  module _ (i : ℕ) (h : f ≡ At i) where
+  module _ (i : ℕ) (h : f ≡ Some i) where
     pub target_fits : place < targets_under prefix refs → (i < place_count refs) × (place < length (entry_at referrals i refs).targets)
     target_fits l =
         let k : length (entry_at referrals i refs).targets ≡ targets_under prefix refs = targets_held prefix refs e i h refl in
@@ -157,7 +153,7 @@ module _ (refs doms path boot : List ℕ) (q : Asking) where
   module _ (out : List ℕ) {g : Given} where
     pub party_dc : q.kind ≡ Dc → g ≡ shows boot out → g ≡ shows_some (party_of (caches_of refs doms) (core_of path 0 true) boot (question_of q [])) out
     unfolding party_by party_of shows_some
-    party_dc k e = some_as out {a = some boot} e (kinded k)
+    party_dc k e = some_as out {a = Some boot} e (kinded k)
 
     pub party_root : q.kind ≡ Root → g ≡ shows_some (root_party q.entry q.party path doms) out
         → g ≡ shows_some (party_of (caches_of refs doms) (core_of path 0 true) boot (question_of q [])) out
@@ -231,7 +227,7 @@ text_same : (c : Caches) (path boot : List ℕ) (size more : ℕ) (hit other : B
     → party_text c (core_of path size hit) boot (question_of q tried) ≡ party_text c (core_of path more other) boot (question_of q others)
 unfolding party_text
 text_same c path boot size more hit other q tried others =
-    λ j. choose (in_use_same c path size more hit other q tried others j) (party_same c path boot size more hit other q tried others j) none
+    λ j. choose (in_use_same c path size more hit other q tried others j) (party_same c path boot size more hit other q tried others j) None
 
 -- the name asked
 module _ (path tried out : List ℕ) (q : Asking) where
@@ -239,7 +235,7 @@ module _ (path tried out : List ℕ) (q : Asking) where
   name_by k =
       name_asked (core_of path 0 true) (record { kind = k; entry = q.entry; party = q.party; began = q.began; size = q.size; tried = tried; uncovered = q.uncovered })
 
-  first_is : (n : ℕ) (k : Kind) → name_units k path ≡ First n → take n path ≡ name_by k
+  first_is : (n : ℕ) (k : Kind) → name_units k path ≡ Some n → take n path ≡ name_by k
   unfolding name_units name_by name_asked
   first_is n Dc h = let e : n ≡ length (first_of 1 path) = cc in ap (λ (x : ℕ). take x path) e ∙ (spans 1 path).begin
   first_is n Root h = let e : n ≡ length (first_of 2 path) = cc in ap (λ (x : ℕ). take x path) e ∙ (spans 2 path).begin
@@ -247,7 +243,7 @@ module _ (path tried out : List ℕ) (q : Asking) where
   first_is n Sysvol h = let e : n ≡ length (first_of 2 path) = cc in ap (λ (x : ℕ). take x path) e ∙ (spans 2 path).begin
   first_is n Io h = absurd (let z : ◌≡◌ {A = ℕ} 0 1 = cc in omega arith)
 
-  absent_is : (k : Kind) → name_units k path ≡ Absent → tried ≡ name_by k
+  absent_is : (k : Kind) → name_units k path ≡ None → tried ≡ name_by k
   unfolding name_units name_by name_asked
   absent_is Dc h = absurd (let z : ◌≡◌ {A = ℕ} 0 1 = cc in omega arith)
   absent_is Root h = absurd (let z : ◌≡◌ {A = ℕ} 0 1 = cc in omega arith)
@@ -255,12 +251,12 @@ module _ (path tried out : List ℕ) (q : Asking) where
   absent_is Sysvol h = absurd (let z : ◌≡◌ {A = ℕ} 0 1 = cc in omega arith)
   absent_is Io h = refl
 
-  module _ {r : Name} (e : r ≡ next_units (Asks q) path) {g : Given} where
-    pub name_first : (n : ℕ) → r ≡ First n → g ≡ shows (take n path) out → g ≡ shows (name_asked (core_of path 0 true) (question_of q tried)) out
+  module _ {r : Option ℕ} (e : r ≡ next_units (Asks q) path) {g : Given} where
+    pub name_first : (n : ℕ) → r ≡ Some n → g ≡ shows (take n path) out → g ≡ shows (name_asked (core_of path 0 true) (question_of q tried)) out
     unfolding next_units name_by question_of
     name_first n h k = shows_as out k (first_is n q.kind (sym e ∙ h))
 
-    pub name_tried : r ≡ Absent → g ≡ shows tried out → g ≡ shows (name_asked (core_of path 0 true) (question_of q tried)) out
+    pub name_tried : r ≡ None → g ≡ shows tried out → g ≡ shows (name_asked (core_of path 0 true) (question_of q tried)) out
     unfolding next_units name_by question_of
     name_tried h k = shows_as out k (absent_is q.kind (sym e ∙ h))
 

@@ -1,6 +1,5 @@
 -- What a host is shown of a walk: the question that waits (kind, party, name, size), or the end (number, status, path, moves).
-use Rattle.std.specs.Prelude.{ℕ, ◌&&◌, List, [], ◌∷◌, length, get_or, leb, eqb}
-use Rattle.std.proofs.Math.Option.{Option, none, some}
+use Rattle.std.specs.Prelude.{ℕ, ◌&&◌, List, [], ◌∷◌, length, get_or, leb, eqb, Option, None, Some}
 use Rattle.laws.specs.Choice.{choose}
 use Rattle.laws.specs.Lists.{pasted}
 use Rattle.unc.specs.names.Paths.{components}
@@ -31,12 +30,12 @@ shown_number NoEntry = 27
 
 -- the DC and the target at a place of their entry
 unfoldable pub dc_at_place : ℕ → Option Domain → Option (List ℕ)
-dc_at_place place none = none
-dc_at_place place (some d) = some (dc_name place d)
+dc_at_place place None = None
+dc_at_place place (Some d) = Some (dc_name place d)
 
 unfoldable pub target_at_place : ℕ → Option Referral → Option (List ℕ)
-target_at_place place none = none
-target_at_place place (some e) = some (target_path place e)
+target_at_place place None = None
+target_at_place place (Some e) = Some (target_path place e)
 
 -- The party: of a DC request the bootstrap DC; of a root request to a host the path's first component; of root requests through a domain and of
 -- SYSVOL requests the DC's name; of link requests and I/O tries the whole path of the target.
@@ -44,15 +43,15 @@ unfoldable pub party_of : Caches → Core → List ℕ → Question → Option (
 party_of c w boot q = by q.kind
   where
     by : Kind → Option (List ℕ)
-    by Dc = some boot
-    by Root = choose (eqb q.entry 0) (some (get_or (components w.path) 0 [])) (dc_at_place q.party (domain_in_use c w))
+    by Dc = Some boot
+    by Root = choose (eqb q.entry 0) (Some (get_or (components w.path) 0 [])) (dc_at_place q.party (domain_in_use c w))
     by Link = target_at_place q.party (referral_in_use c w q)
     by Sysvol = dc_at_place q.party (domain_in_use c w)
     by Io = target_at_place q.party (referral_in_use c w q)
 
 -- and none by the test of end 27: the entry in use is gone, or has not both parties of the round
 unfoldable pub party_text : Caches → Core → List ℕ → Question → Option (List ℕ)
-party_text c w boot q = choose (is_in_use c w q) (party_of c w boot q) none
+party_text c w boot q = choose (is_in_use c w q) (party_of c w boot q) None
 
 -- a question as it is shown
 pub record QuestionShown : Type 0 where
@@ -100,8 +99,8 @@ unfoldable pub shows : List ℕ → List ℕ → Given
 shows text out = choose (leb (length text) (length out)) (given (Units (length text)) (pasted out 0 text)) (given ShortBuffer out)
 
 unfoldable pub shows_some : Option (List ℕ) → List ℕ → Given
-shows_some none out = given NoEntry out
-shows_some (some text) out = shows text out
+shows_some None out = given NoEntry out
+shows_some (Some text) out = shows text out
 
 -- `question_party`: 4, 5, 27 or 10
 unfoldable pub party_at : Caches → Core → List ℕ → Rest → List ℕ → Given

@@ -1,9 +1,9 @@
 -- Laws of the cases: what each calls for, and which others come to the same rest.
+use Rattle.std.specs.Prelude.{Option, Some, None}
 use mathlib.Core.Path.{◌≡◌, refl, sym, ap, ◌∙◌}
 use mathlib.Core.Bool.{Bool, true, false, ◌&&◌, ◌||◌, not}
 use mathlib.Core.List.{List, []}
 use mathlib.Core.Logic.{◌⊎◌, inl, inr}
-use mathlib.Core.Option.{Option}
 use Prim.Native.Nat.{ℕ, ◌-◌, ◌≤◌, ◌<◌}
 use native.Mathlib.Omega.{arith}
 use lib.ListN.{length, get_or}
@@ -17,8 +17,6 @@ use Rattle.cache.specs.order.Entries.{Referral}
 use Rattle.cache.specs.order.Memory.{referrals, domains, decode}
 use Rattle.cache_lookup.specs.Lookup.{longest_match, with_key, expired}
 use Rattle.cache_lookup.specs.Code.{entry_at}
-use Rattle.cache_lookup.specs.declared.Found.{Found}
-use Rattle.cache_lookup.specs.declared.Found.TheVariants.{At, Nothing}
 use Rattle.cache_store.specs.entry_after_reply.Stored.{prefixed}
 use Rattle.walk_steps.specs.steps.Steps.{Question, Called, stops, asks, replaces, goes, turned, from_step2, is_there, hit_at, with_hit, with_path, longest, domain_named, dc_request, step2, step2_with, step3, step4, step5, step5_with, step5_domain, step6, step6_host, step7, step9, step9_with, step10, step11}
 use Rattle.walk_steps.specs.steps.Held.{caches_of, core_of}
@@ -92,7 +90,7 @@ module _ (refs doms : List ℕ) (size clock i : ℕ) (hit : Bool) (path : List �
   unfolding with_hit
   looked e f = (λ k. steps_from left refs doms clock (with_hit (sym e k) (core_of path size hit)) (sym f k)) ∙ sym (by2 refs doms size clock i hit path left)
 
-  pub two_none : longest_match path (decode referrals refs) ≡ Nothing → steps_by refs doms size clock due5 0 hit path left ≡ steps_by refs doms size clock due2 i hit path left
+  pub two_none : longest_match path (decode referrals refs) ≡ None → steps_by refs doms size clock due5 0 hit path left ≡ steps_by refs doms size clock due2 i hit path left
   unfolding hit_at step2 longest caches_of step2_with is_there
   two_none h =
       by5 refs doms size clock 0 hit path left
@@ -100,7 +98,7 @@ module _ (refs doms : List ℕ) (size clock i : ℕ) (hit : Bool) (path : List �
       (ap (λ (o : Option Referral). hit || is_there o) (none_held (decode referrals refs) h) ∙ or_false hit)
       (ap (step2_with (caches_of refs doms) (core_of path size hit) clock) (none_held (decode referrals refs) h))
 
-  module _ (j : ℕ) (h : longest_match path (decode referrals refs) ≡ At j) where
+  module _ (j : ℕ) (h : longest_match path (decode referrals refs) ≡ Some j) where
     hit_there : hit_at (caches_of refs doms) (core_of path size hit) ≡ true
     unfolding hit_at caches_of is_there
     hit_there = ap (λ (o : Option Referral). hit || is_there o) (longest_held path refs j h) ∙ or_true hit
@@ -176,52 +174,52 @@ module _ (refs doms : List ℕ) (size clock i : ℕ) (hit : Bool) (path : List �
   nine e = ap (λ (x : Question). steps_from left refs doms clock (core_of path size hit) (asks x)) (sym e) ∙ sym (by9 refs doms size clock i hit path left)
 
   -- the question by the root entry
-  abbrev Asked : Found → Type 0
-  Asked f = (f ≡ Nothing → step9 (caches_of refs doms) (core_of path size hit) ≡ step5 (decode domains doms) (core_of path size hit))
-      × ((j : ℕ) → f ≡ At j → step9 (caches_of refs doms) (core_of path size hit) ≡ link_at (core_of path size hit) refs j)
+  abbrev Asked : Option ℕ → Type 0
+  Asked f = (f ≡ None → step9 (caches_of refs doms) (core_of path size hit) ≡ step5 (decode domains doms) (core_of path size hit))
+      × ((j : ℕ) → f ≡ Some j → step9 (caches_of refs doms) (core_of path size hit) ≡ link_at (core_of path size hit) refs j)
 
   asked : Asked (root_in path refs)
   unfolding root_in root_at step9 caches_of prefixed step9_with
   asked = go (with_key referrals (first_of 2 path) (decode referrals refs)) refl
     where
-      go : (f : Found) → with_key referrals (first_of 2 path) (decode referrals refs) ≡ f → Asked (root_at refs f)
-      go Nothing h = (
+      go : (f : Option ℕ) → with_key referrals (first_of 2 path) (decode referrals refs) ≡ f → Asked (root_at refs f)
+      go None h = (
         λ e. ap (step9_with (caches_of refs doms) (core_of path size hit)) (none_held (decode referrals refs) h),
         λ j e. absurd (let z : ◌≡◌ {A = ℕ} 0 1 = cc e in omega arith),
       )
-      go (At k) h = at (told (entry_at referrals k refs).settings.root)
+      go (Some k) h = at (told (entry_at referrals k refs).settings.root)
         where
           there : step9 (caches_of refs doms) (core_of path size hit) ≡ choose (entry_at referrals k refs).settings.root (link_at (core_of path size hit) refs k) (step5 (decode domains doms) (core_of path size hit))
           there = ap (step9_with (caches_of refs doms) (core_of path size hit)) (key_held referrals (first_of 2 path) refs k h)
 
-          at : ((entry_at referrals k refs).settings.root ≡ true) ⊎ ((entry_at referrals k refs).settings.root ≡ false) → Asked (choose (entry_at referrals k refs).settings.root (At k) Nothing)
+          at : ((entry_at referrals k refs).settings.root ≡ true) ⊎ ((entry_at referrals k refs).settings.root ≡ false) → Asked (choose (entry_at referrals k refs).settings.root (Some k) None)
           at (inl t) = (
-            λ e. absurd (let z : ◌≡◌ {A = ℕ} 0 1 = cc (choose_yes (At k) Nothing t, e) in omega arith),
-            λ j e. there ∙ (choose_yes _ _ t ∙ ap (link_at (core_of path size hit) refs) (cc (choose_yes (At k) Nothing t, e))),
+            λ e. absurd (let z : ◌≡◌ {A = ℕ} 0 1 = cc (choose_yes (Some k) None t, e) in omega arith),
+            λ j e. there ∙ (choose_yes _ _ t ∙ ap (link_at (core_of path size hit) refs) (cc (choose_yes (Some k) None t, e))),
           )
           at (inr t) = (
             λ e. there ∙ choose_no _ _ t,
-            λ j e. absurd (let z : ◌≡◌ {A = ℕ} 0 1 = cc (choose_no (At k) Nothing t, e) in omega arith),
+            λ j e. absurd (let z : ◌≡◌ {A = ℕ} 0 1 = cc (choose_no (Some k) None t, e) in omega arith),
           )
 
-  pub nine_none : root_in path refs ≡ Nothing → steps_by refs doms size clock due5 0 hit path left ≡ steps_by refs doms size clock due9 i hit path left
+  pub nine_none : root_in path refs ≡ None → steps_by refs doms size clock due5 0 hit path left ≡ steps_by refs doms size clock due9 i hit path left
   nine_none e = by5 refs doms size clock 0 hit path left ∙ nine (asked.0 e)
 
-  pub nine_at : (j : ℕ) → root_in path refs ≡ At j → steps_by refs doms size clock ask_link j hit path left ≡ steps_by refs doms size clock due9 i hit path left
+  pub nine_at : (j : ℕ) → root_in path refs ≡ Some j → steps_by refs doms size clock ask_link j hit path left ≡ steps_by refs doms size clock due9 i hit path left
   nine_at j e = by_link refs doms size clock j hit path left ∙ nine (asked.1 j e)
 
 -- the root entry is there
-pub root_fits : (path raw : List ℕ) (j : ℕ) → root_in path raw ≡ At j → j < place_count raw
+pub root_fits : (path raw : List ℕ) (j : ℕ) → root_in path raw ≡ Some j → j < place_count raw
 unfolding root_in root_at
 root_fits path raw j e = go (with_key referrals (first_of 2 path) (decode referrals raw)) refl e
   where
-    go : (f : Found) → with_key referrals (first_of 2 path) (decode referrals raw) ≡ f → root_at raw f ≡ At j → j < place_count raw
-    go Nothing h e = absurd (let z : ◌≡◌ {A = ℕ} 0 1 = cc e in omega arith)
-    go (At k) h e = at (told (entry_at referrals k raw).settings.root) e
+    go : (f : Option ℕ) → with_key referrals (first_of 2 path) (decode referrals raw) ≡ f → root_at raw f ≡ Some j → j < place_count raw
+    go None h e = absurd (let z : ◌≡◌ {A = ℕ} 0 1 = cc e in omega arith)
+    go (Some k) h e = at (told (entry_at referrals k raw).settings.root) e
       where
-        at : ((entry_at referrals k raw).settings.root ≡ true) ⊎ ((entry_at referrals k raw).settings.root ≡ false) → choose (entry_at referrals k raw).settings.root (At k) Nothing ≡ At j → j < place_count raw
-        at (inl t) e = let z : k ≡ j = cc (choose_yes (At k) Nothing t, e) in let y : k < place_count raw = key_fits referrals (first_of 2 path) raw k h in omega arith
-        at (inr t) e = absurd (let z : ◌≡◌ {A = ℕ} 0 1 = cc (choose_no (At k) Nothing t, e) in omega arith)
+        at : ((entry_at referrals k raw).settings.root ≡ true) ⊎ ((entry_at referrals k raw).settings.root ≡ false) → choose (entry_at referrals k raw).settings.root (Some k) None ≡ Some j → j < place_count raw
+        at (inl t) e = let z : k ≡ j = cc (choose_yes (Some k) None t, e) in let y : k < place_count raw = key_fits referrals (first_of 2 path) raw k h in omega arith
+        at (inr t) e = absurd (let z : ◌≡◌ {A = ℕ} 0 1 = cc (choose_no (Some k) None t, e) in omega arith)
 
 -- steps 7 and 4
 module _ (refs doms : List ℕ) (size clock i : ℕ) (hit : Bool) (path : List ℕ) (left : ℕ) where
@@ -253,14 +251,14 @@ module _ (refs doms : List ℕ) (size clock i : ℕ) (hit : Bool) (path : List �
           ∙ sym (by7 refs doms size clock i hit path left))
 
 -- step 11
-module _ (refs doms : List ℕ) (size clock i : ℕ) (hit : Bool) (path : List ℕ) (left : ℕ) (some : left ≡ 0 → ⊥) {new : List ℕ}
+module _ (refs doms : List ℕ) (size clock i : ℕ) (hit : Bool) (path : List ℕ) (left : ℕ) (moves : left ≡ 0 → ⊥) {new : List ℕ}
     (e : new ≡ step11 (core_of path size hit) (entry_at referrals i refs)) where
   pub eleven_long : 256 < length new → steps_by refs doms size clock too_long 0 hit path left ≡ steps_by refs doms size clock due11 i hit path left
   unfolding steps_from
   eleven_long l =
       by_long refs doms size clock 0 hit path left
       ∙ (ap packed (goes_stops left (caches_of refs doms) clock (core_of path size hit) ends.TooLong 0 [])
-      ∙ (ap packed (sym (replaces_long (caches_of refs doms) clock (core_of path size hit) new left some l))
+      ∙ (ap packed (sym (replaces_long (caches_of refs doms) clock (core_of path size hit) new left moves l))
       ∙ (ap (λ (p : List ℕ). packed (goes left (caches_of refs doms) clock (core_of path size hit) (replaces p))) e
       ∙ sym (by11 refs doms size clock i hit path left))))
 
@@ -268,20 +266,20 @@ module _ (refs doms : List ℕ) (size clock i : ℕ) (hit : Bool) (path : List �
   unfolding steps_from with_path
   eleven_made l =
       by2 refs doms size clock 0 hit new (left - 1)
-      ∙ (ap packed (sym (replaces_made (caches_of refs doms) clock (core_of path size hit) new left some l))
+      ∙ (ap packed (sym (replaces_made (caches_of refs doms) clock (core_of path size hit) new left moves l))
       ∙ (ap (λ (p : List ℕ). packed (goes left (caches_of refs doms) clock (core_of path size hit) (replaces p))) e
       ∙ sym (by11 refs doms size clock i hit path left)))
 
 -- the domain that step 5 looks up
-module _ (doms : List ℕ) (path : List ℕ) {name : List ℕ} {f : Found} (n : name ≡ get_or (components path) 0 []) (e : f ≡ with_key domains name (decode domains doms)) where
-  named : {g : Found} → f ≡ g → with_key domains (get_or (components path) 0 []) (decode domains doms) ≡ g
+module _ (doms : List ℕ) (path : List ℕ) {name : List ℕ} {f : Option ℕ} (n : name ≡ get_or (components path) 0 []) (e : f ≡ with_key domains name (decode domains doms)) where
+  named : {g : Option ℕ} → f ≡ g → with_key domains (get_or (components path) 0 []) (decode domains doms) ≡ g
   named h = ap (λ (x : List ℕ). with_key domains x (decode domains doms)) (sym n) ∙ (sym e ∙ h)
 
-  pub dc_host : f ≡ Nothing → (size : ℕ) (hit : Bool) → step5 (decode domains doms) (core_of path size hit) ≡ step6_host (core_of path size hit)
+  pub dc_host : f ≡ None → (size : ℕ) (hit : Bool) → step5 (decode domains doms) (core_of path size hit) ≡ step6_host (core_of path size hit)
   unfolding step5 domain_named step5_with
   dc_host h size hit = ap (step5_with (core_of path size hit)) (none_held (decode domains doms) (named h))
 
-  module _ (i : ℕ) (h : f ≡ At i) where
+  module _ (i : ℕ) (h : f ≡ Some i) where
     pub dc_fits : i < place_count doms
     dc_fits = key_fits domains (get_or (components path) 0 []) doms i (named h)
 

@@ -1,4 +1,5 @@
 -- Laws of a move: a question put, a replacement, and where the steps come to rest.
+use Rattle.std.specs.Prelude.{Option, None, Some}
 use mathlib.Core.Path.{◌≡◌, refl, sym, ap, ◌∙◌, subst}
 use mathlib.Core.Bool.{Bool, true, false, ◌&&◌}
 use mathlib.Core.List.{List, [], ◌++◌}
@@ -22,13 +23,10 @@ use Rattle.cache.proofs.order.KindLaws.{referral_told, prefix_some}
 use Rattle.unc.proofs.names.WholeLaws.{replaced_normalised, replaced_count}
 use Rattle.laws.specs.Lists.{every}
 use Rattle.laws.proofs.Every.{every_at}
-use Rattle.unc.specs.declared.names.Written.{Written}
-use Rattle.unc.specs.declared.names.Written.TheVariants.{Units, TooLong}
 use Rattle.walk_steps.specs.walk_texts.Texts.{texts_of}
 use Rattle.walk_steps.specs.walk_texts.Code.{with_tried, Standing}
 use Rattle.walk_steps.proofs.walk_texts.TextLaws.{length_texts, put_fits, put_long, tried_taken, written_units, written_long}
 use Rattle.cache.specs.order.Entries.{Referral, Domain}
-use mathlib.Core.Option.{Option, none, some}
 use Rattle.cache.specs.order.Order.{good_referral, good_prefix, good_target}
 use Rattle.cache.specs.order.Memory.{referrals, domains, decode}
 use Rattle.cache_lookup.specs.Code.{entry_at}
@@ -143,7 +141,7 @@ module _ (refs texts : List ℕ) (len i : ℕ) (s : Standing len texts) (u : Usa
     pub new_path : replaced t (length p) (take len texts) ≡ replaced (target_path j (entry_at referrals i refs)) (length (entry_at referrals i refs).prefix) (take len texts)
     new_path = λ k. replaced (a k) (length (b k)) (take len texts)
 
-    pub put_answer : {g : Written} → g ≡ written_within 256 (replaced t (length p) (take len texts))
+    pub put_answer : {g : Option ℕ} → g ≡ written_within 256 (replaced t (length p) (take len texts))
         → g ≡ written_within 256 (replaced (target_path j (entry_at referrals i refs)) (length (entry_at referrals i refs).prefix) (take len texts))
     put_answer f = f ∙ ap (written_within 256) new_path
 
@@ -152,22 +150,22 @@ module _ (refs texts : List ℕ) (len i : ℕ) (s : Standing len texts) (u : Usa
     put_rooms m = m ∙ ap (λ (l : List ℕ). with_tried l texts) new_path
 
   -- step 8
-  module _ (j left began : ℕ) (hit : Bool) (some : left ≡ 0 → ⊥) {g : Written}
+  module _ (j left began : ℕ) (hit : Bool) (moves : left ≡ 0 → ⊥) {g : Option ℕ}
       (f : g ≡ written_within 256 (replaced (target_path j (entry_at referrals i refs)) (length (entry_at referrals i refs).prefix) (take len texts))) {o : List ℕ}
       (m : o ≡ with_tried (replaced (target_path j (entry_at referrals i refs)) (length (entry_at referrals i refs).prefix) (take len texts)) texts) where
     new8 : List ℕ
     new8 = replaced (target_path j (entry_at referrals i refs)) (length (entry_at referrals i refs).prefix) (take len texts)
 
-    pub step8_long : {r : Rested} → g ≡ TooLong → r ≡ ended_at ends.TooLong 0 len left hit
+    pub step8_long : {r : Rested} → g ≡ None → r ≡ ended_at ends.TooLong 0 len left hit
         → (size : ℕ) → rested_with r o ≡ packed (asking left (core_of (take len texts) size hit) (step8 (core_of (take len texts) size hit) (entry_at referrals i refs) j began))
     unfolding step8 new8
     step8_long h r size =
         let x : 256 < length new8 = written_long 256 new8 (sym f ∙ h) in
         (λ k. rested_with (r k) (put_long new8 x m k))
         ∙ (packed_end len texts s ends.TooLong 0 left size hit refl
-        ∙ ap packed (sym (asking_long (core_of (take len texts) size hit) (step8 (core_of (take len texts) size hit) (entry_at referrals i refs) j began) left some x)))
+        ∙ ap packed (sym (asking_long (core_of (take len texts) size hit) (step8 (core_of (take len texts) size hit) (entry_at referrals i refs) j began) left moves x)))
 
-    pub step8_put : (n : ℕ) → g ≡ Units n → {p : List ℕ} → p ≡ (entry_at referrals i refs).prefix → (size : ℕ)
+    pub step8_put : (n : ℕ) → g ≡ Some n → {p : List ℕ} → p ≡ (entry_at referrals i refs).prefix → (size : ℕ)
         → rested_with (record { next = Asks (record { kind = Io; entry = length p; party = j; began = began; size = 0; uncovered = false }); path = len; tried = n; left = left - 1; hit = hit }) o
         ≡ packed (asking left (core_of (take len texts) size hit) (step8 (core_of (take len texts) size hit) (entry_at referrals i refs) j began))
     unfolding step8 packed rests rested_of next_of tried_of asking_of new8
@@ -186,21 +184,21 @@ module _ (refs texts : List ℕ) (len i : ℕ) (s : Standing len texts) (u : Usa
           };
           texts = v k;
         })
-        ∙ ap packed (sym (asking_put (core_of (take len texts) size hit) (step8 (core_of (take len texts) size hit) (entry_at referrals i refs) j began) left some y))
+        ∙ ap packed (sym (asking_put (core_of (take len texts) size hit) (step8 (core_of (take len texts) size hit) (entry_at referrals i refs) j began) left moves y))
 
 -- step 11
-module _ (texts : List ℕ) (len : ℕ) (s : Standing len texts) {new path : List ℕ} (at : new ≡ path) {g : Written} (f : g ≡ written_within 256 new) {o : List ℕ}
+module _ (texts : List ℕ) (len : ℕ) (s : Standing len texts) {new path : List ℕ} (at : new ≡ path) {g : Option ℕ} (f : g ≡ written_within 256 new) {o : List ℕ}
     (m : o ≡ with_tried new texts) where
-  pub step11_answer : (r : Written) → g ≡ r → r ≡ written_within 256 path
+  pub step11_answer : (r : Option ℕ) → g ≡ r → r ≡ written_within 256 path
   step11_answer r q = sym q ∙ (f ∙ ap (written_within 256) at)
 
-  pub step11_long : g ≡ TooLong → o ≡ moved_to path texts
+  pub step11_long : g ≡ None → o ≡ moved_to path texts
   unfolding moved_to
   step11_long q =
       let x : 256 < length new = written_long 256 new (sym f ∙ q) in
       put_long new x m ∙ sym (choose_no _ _ (lt-leb _ _ (subst (λ (l : List ℕ). 256 < length l) at x)))
 
-  module _ (n : ℕ) (q : g ≡ Units n) where
+  module _ (n : ℕ) (q : g ≡ Some n) where
     fits11 : length new ≤ 256
     fits11 = (written_units 256 new n (sym f ∙ q)).1
 
@@ -237,11 +235,11 @@ unfolding goes
 goes_stops zero c clock w e status tried = refl
 goes_stops (suc n) c clock w e status tried = refl
 
-host_hit : (p : List ℕ) (s : ℕ) (h g : Bool) → step5_with (core_of p s h) none ≡ step5_with (core_of p s g) none
+host_hit : (p : List ℕ) (s : ℕ) (h g : Bool) → step5_with (core_of p s h) None ≡ step5_with (core_of p s g) None
 unfolding step5_with step6_host
 host_hit p s h g = refl
 
-with_hit_lem : (p : List ℕ) (s : ℕ) (h g : Bool) (d : Domain) → step5_with (core_of p s h) (some d) ≡ step5_with (core_of p s g) (some d)
+with_hit_lem : (p : List ℕ) (s : ℕ) (h g : Bool) (d : Domain) → step5_with (core_of p s h) (Some d) ≡ step5_with (core_of p s g) (Some d)
 unfolding step5_with step5_domain dc_request step10 step6
 with_hit_lem p s h g d = refl
 
@@ -254,8 +252,8 @@ unfolding step5
 step5_hit raw p s h g = go (domain_named (get_or (components p) 0 []) (decode domains raw))
   where
     go : (o : Option Domain) → step5_with (core_of p s h) o ≡ step5_with (core_of p s g) o
-    go none = host_hit p s h g
-    go (some d) = with_hit_lem p s h g d
+    go None = host_hit p s h g
+    go (Some d) = with_hit_lem p s h g d
 
 -- steps 9 and 7, whatever the hit
 pub step9_hit : (refs doms p : List ℕ) (s : ℕ) (h g : Bool) → step9 (caches_of refs doms) (core_of p s h) ≡ step9 (caches_of refs doms) (core_of p s g)
@@ -263,8 +261,8 @@ unfolding step9 caches_of step9_with link_request
 step9_hit refs doms p s h g = go (prefixed (first_of 2 p) (decode referrals refs))
   where
     go : (o : Option Referral) → step9_with (caches_of refs doms) (core_of p s h) o ≡ step9_with (caches_of refs doms) (core_of p s g) o
-    go none = step5_hit doms p s h g
-    go (some e) = ap (choose e.settings.root (link_request (core_of p s h) (length e.prefix) e.hint e.hint false)) (step5_hit doms p s h g)
+    go None = step5_hit doms p s h g
+    go (Some e) = ap (choose e.settings.root (link_request (core_of p s h) (length e.prefix) e.hint e.hint false)) (step5_hit doms p s h g)
 
 pub step7_hit : (p : List ℕ) (s : ℕ) (h g : Bool) (e : Referral) → step7 (core_of p s h) e ≡ step7 (core_of p s g) e
 unfolding step7 step4 step3 step8 step11

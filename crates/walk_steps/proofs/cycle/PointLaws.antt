@@ -1,4 +1,5 @@
 -- Laws of the points of the steps.
+use Rattle.std.specs.Prelude.{Option, Some, None}
 use mathlib.Core.Path.{◌≡◌, refl, sym, ap, ◌∙◌, subst}
 use mathlib.Core.Bool.{Bool, true, false}
 use mathlib.Core.List.{List, []}
@@ -14,8 +15,6 @@ use Rattle.laws.proofs.Tests.{not_both}
 use Rattle.laws.proofs.Orders.{told}
 use Rattle.unc.specs.names.Code.{written_within}
 use Rattle.unc.specs.names.Paths.{is_sysvol, replaced}
-use Rattle.unc.specs.declared.names.Written.{Written}
-use Rattle.unc.specs.declared.names.Written.TheVariants.{Units, TooLong}
 use Rattle.walk_steps.specs.walk_texts.Texts.{texts_of}
 use Rattle.walk_steps.specs.walk_texts.Code.{Standing}
 use Rattle.walk_steps.proofs.walk_texts.TextLaws.{path_in_lem, taken_stands, written_units, written_long}
@@ -25,8 +24,6 @@ use Rattle.cache.specs.order.Memory.{referrals, domains, decode, in_order}
 use Rattle.cache.proofs.order.MemoryLaws.{cache_told, order_good, length_decode}
 use Rattle.cache_lookup.specs.Lookup.{longest_match, target_path}
 use Rattle.cache_lookup.specs.Code.{entry_at}
-use Rattle.cache_lookup.specs.declared.Found.{Found}
-use Rattle.cache_lookup.specs.declared.Found.TheVariants.{At, Nothing}
 use Rattle.cache.specs.order.Entries.{Referral}
 use Rattle.walk_steps.specs.declared.steps.Kind.{Kind}
 use Rattle.walk_steps.specs.declared.steps.Kind.TheVariants.{Dc, Root, Link, Sysvol}
@@ -132,10 +129,10 @@ module _ (what i n : ℕ) (a : what < 16) (b : i < 65536) where
   }
 
 -- what the look-ups find
-pub found_at : {f : Found} (i : ℕ) → i < 65536 → f ≡ At i → FoundAt f i
+pub found_at : {f : Option ℕ} (i : ℕ) → i < 65536 → f ≡ Some i → FoundAt f i
 found_at i l e = record { none = λ h. absurd (omega arith); there = λ h. e }
 
-pub found_none : {f : Found} → f ≡ Nothing → FoundAt f nowhere
+pub found_none : {f : Option ℕ} → f ≡ None → FoundAt f nowhere
 found_none e = record { none = λ h. e; there = λ h. absurd (h refl) }
 
 module _ (doms path : List ℕ) where
@@ -156,10 +153,10 @@ module _ (doms path : List ℕ) where
         few = λ a b. omega arith;
       })
 
-pub longest_few : (path raw : List ℕ) (i : ℕ) → in_order referrals raw ≡ true → longest_match path (decode referrals raw) ≡ At i → i < 65536
+pub longest_few : (path raw : List ℕ) (i : ℕ) → in_order referrals raw ≡ true → longest_match path (decode referrals raw) ≡ Some i → i < 65536
 longest_few path raw i o e = let z : i < 32 = place_few raw i o (longest_fits path raw i e) in omega arith
 
-pub root_place : (path raw : List ℕ) (i : ℕ) → in_order referrals raw ≡ true → root_in path raw ≡ At i → i < 65536
+pub root_place : (path raw : List ℕ) (i : ℕ) → in_order referrals raw ≡ true → root_in path raw ≡ Some i → i < 65536
 root_place path raw i o e = let z : i < 32 = place_few raw i o (root_fits path raw i e) in omega arith
 
 -- by the units of a point
@@ -174,17 +171,17 @@ module _ (texts : List ℕ) (n : ℕ) {u : ℕ} (a : u ≡ units_of n) where
   units_sysvol e = e ∙ ap (λ (k : ℕ). is_sysvol (take k texts)) a
 
   module _ (refs doms : List ℕ) {r : ℕ} where
-    pub sought_two : {f : Found} → what_of n ≡ due2 → f ≡ longest_match (take u texts) (decode referrals refs) → FoundAt f r → Sought refs doms (take (units_of n) texts) (what_of n) r
+    pub sought_two : {f : Option ℕ} → what_of n ≡ due2 → f ≡ longest_match (take u texts) (decode referrals refs) → FoundAt f r → Sought refs doms (take (units_of n) texts) (what_of n) r
     sought_two w e g = record {
-      two = λ h. subst (λ (x : Found). FoundAt x r) (e ∙ ap (λ (k : ℕ). longest_match (take k texts) (decode referrals refs)) a) g;
+      two = λ h. subst (λ (x : Option ℕ). FoundAt x r) (e ∙ ap (λ (k : ℕ). longest_match (take k texts) (decode referrals refs)) a) g;
       nine = λ h. absurd (omega arith);
       five = λ h. absurd (omega arith);
     }
 
-    pub sought_nine : {f : Found} → what_of n ≡ due9 → f ≡ root_in (take u texts) refs → FoundAt f r → Sought refs doms (take (units_of n) texts) (what_of n) r
+    pub sought_nine : {f : Option ℕ} → what_of n ≡ due9 → f ≡ root_in (take u texts) refs → FoundAt f r → Sought refs doms (take (units_of n) texts) (what_of n) r
     sought_nine w e g = record {
       two = λ h. absurd (omega arith);
-      nine = λ h. subst (λ (x : Found). FoundAt x r) (e ∙ ap (λ (k : ℕ). root_in (take k texts) refs) a) g;
+      nine = λ h. subst (λ (x : Option ℕ). FoundAt x r) (e ∙ ap (λ (k : ℕ). root_in (take k texts) refs) a) g;
       five = λ h. absurd (omega arith);
     }
 
@@ -441,9 +438,9 @@ module _ (refs texts : List ℕ) (n : ℕ) (p : Point refs texts n) (w : what_of
   unfolding replaced_at
   good_new l = new_good (take (units_of n) texts) (entry_at referrals (place_in n) refs) p.ready.good due_there.good due_there.matched l
 
-  module _ (doms : List ℕ) (clock : ℕ) (some : left_of n ≡ 0 → ⊥) {g : Written} (f : g ≡ written_within 256 (replaced_at refs texts n)) {o : List ℕ} (v : o ≡ moved_to (replaced_at refs texts n) texts) where
+  module _ (doms : List ℕ) (clock : ℕ) (some : left_of n ≡ 0 → ⊥) {g : Option ℕ} (f : g ≡ written_within 256 (replaced_at refs texts n)) {o : List ℕ} (v : o ≡ moved_to (replaced_at refs texts n) texts) where
     -- too long
-    pub long_halts : {r : ℕ} → g ≡ TooLong → Parts too_long 0 (hit_in n) (units_of n) (left_of n) r → SameRest refs doms clock n texts r o
+    pub long_halts : {r : ℕ} → g ≡ None → Parts too_long 0 (hit_in n) (units_of n) (left_of n) r → SameRest refs doms clock n texts r o
     unfolding moved_to
     long_halts {r} h q =
         let l : 256 < length (replaced_at refs texts n) = written_long 256 (replaced_at refs texts n) (sym f ∙ h) in
@@ -455,7 +452,7 @@ module _ (refs texts : List ℕ) (n : ℕ) (p : Point refs texts n) (w : what_of
         (omega (arith, q.its_case)))
 
     -- a move
-    module _ (len : ℕ) (h : g ≡ Units len) where
+    module _ (len : ℕ) (h : g ≡ Some len) where
       fit : (len ≡ length (replaced_at refs texts n)) × (length (replaced_at refs texts n) ≤ 256)
       fit = written_units 256 (replaced_at refs texts n) len (sym f ∙ h)
 

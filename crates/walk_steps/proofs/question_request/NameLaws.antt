@@ -1,8 +1,8 @@
 -- Laws of the name asked.
+use Rattle.std.specs.Prelude.{Option, Some, None}
 use mathlib.Core.Path.{◌≡◌, refl, sym, ap, ◌∙◌}
 use mathlib.Core.Bool.{Bool, true}
 use mathlib.Core.List.{List}
-use mathlib.Core.Option.{Option, some}
 use Prim.Native.Nat.{ℕ, ◌≤◌}
 use native.Mathlib.Omega.{arith}
 use lib.ListN.{length, take}
@@ -22,42 +22,40 @@ use Rattle.walk_steps.specs.declared.steps.Next.{Next}
 use Rattle.walk_steps.specs.declared.steps.Next.TheVariants.{Asks, Ends}
 use Rattle.walk_steps.specs.question_request.Questions.{request_name, name_fits, rest_fits, with_request, out_after}
 use Rattle.walk_steps.specs.question_request.Code.{name_units, next_units, named}
-use Rattle.walk_steps.specs.declared.question_request.Name.{Name}
-use Rattle.walk_steps.specs.declared.question_request.Name.TheVariants.{First, Absent}
 
 -- by the kind
 module _ (kind : Kind) (path : List ℕ) {n : ℕ} where
-  pub units_dc : kind ≡ Dc → n ≡ length (first_of 1 path) → First n ≡ name_units kind path
+  pub units_dc : kind ≡ Dc → n ≡ length (first_of 1 path) → Some n ≡ name_units kind path
   unfolding name_units
   units_dc h e = rw (h, e)
 
-  pub units_root : kind ≡ Root → n ≡ length (first_of 2 path) → First n ≡ name_units kind path
+  pub units_root : kind ≡ Root → n ≡ length (first_of 2 path) → Some n ≡ name_units kind path
   unfolding name_units
   units_root h e = rw (h, e)
 
-  pub units_sysvol : kind ≡ Sysvol → n ≡ length (first_of 2 path) → First n ≡ name_units kind path
+  pub units_sysvol : kind ≡ Sysvol → n ≡ length (first_of 2 path) → Some n ≡ name_units kind path
   unfolding name_units
   units_sysvol h e = rw (h, e)
 
-pub units_link : (kind : Kind) (path : List ℕ) → kind ≡ Link → First (length path) ≡ name_units kind path
+pub units_link : (kind : Kind) (path : List ℕ) → kind ≡ Link → Some (length path) ≡ name_units kind path
 unfolding name_units
 units_link kind path h = rw h
 
-pub units_io : (kind : Kind) (path : List ℕ) → kind ≡ Io → Absent ≡ name_units kind path
+pub units_io : (kind : Kind) (path : List ℕ) → kind ≡ Io → None ≡ name_units kind path
 unfolding name_units
 units_io kind path h = rw h
 
 -- by the next move
-pub units_ends : (next : Next) (path : List ℕ) (e : End) (status : ℕ) → next ≡ Ends e status → Absent ≡ next_units next path
+pub units_ends : (next : Next) (path : List ℕ) (e : End) (status : ℕ) → next ≡ Ends e status → None ≡ next_units next path
 unfolding next_units
 units_ends next path e status h = rw h
 
-pub units_asks : (next : Next) (path : List ℕ) (q : Asking) {r : Name} → next ≡ Asks q → r ≡ name_units q.kind path → r ≡ next_units next path
+pub units_asks : (next : Next) (path : List ℕ) (q : Asking) {r : Option ℕ} → next ≡ Asks q → r ≡ name_units q.kind path → r ≡ next_units next path
 unfolding next_units
 units_asks next path q h e = e ∙ rw h
 
 -- the name lies inside the path
-kind_within : (kind : Kind) (path : List ℕ) (n : ℕ) → name_units kind path ≡ First n → n ≤ length path
+kind_within : (kind : Kind) (path : List ℕ) (n : ℕ) → name_units kind path ≡ Some n → n ≤ length path
 unfolding name_units
 kind_within Dc path n h = let e : n ≡ length (first_of 1 path) = cc in omega (arith, (spans 1 path).inside)
 kind_within Root path n h = let e : n ≡ length (first_of 2 path) = cc in omega (arith, (spans 2 path).inside)
@@ -65,38 +63,38 @@ kind_within Link path n h = let e : n ≡ length path = cc in omega arith
 kind_within Sysvol path n h = let e : n ≡ length (first_of 2 path) = cc in omega (arith, (spans 2 path).inside)
 kind_within Io path n h = absurd (let z : ◌≡◌ {A = ℕ} 0 1 = cc in omega arith)
 
-units_within : (next : Next) (path : List ℕ) (n : ℕ) → next_units next path ≡ First n → n ≤ length path
+units_within : (next : Next) (path : List ℕ) (n : ℕ) → next_units next path ≡ Some n → n ≤ length path
 unfolding next_units
 units_within (Asks q) path n h = kind_within q.kind path n h
 units_within (Ends e status) path n h = absurd (let z : ◌≡◌ {A = ℕ} 0 1 = cc in omega arith)
 
-module _ (next : Next) (path : List ℕ) {r : Name} (e : r ≡ next_units next path) where
-  pub part_whole : (n : ℕ) → r ≡ First n → n ≡ length (take n path)
+module _ (next : Next) (path : List ℕ) {r : Option ℕ} (e : r ≡ next_units next path) where
+  pub part_whole : (n : ℕ) → r ≡ Some n → n ≡ length (take n path)
   part_whole n h = sym (length-take-le n path (units_within next path n (sym e ∙ h)))
 
-  pub absent_fits : (room : ℕ) → r ≡ Absent → true ≡ name_fits room (named (next_units next path) path)
+  pub absent_fits : (room : ℕ) → r ≡ None → true ≡ name_fits room (named (next_units next path) path)
   unfolding name_fits named
-  absent_fits room h = ap (λ (x : Name). name_fits room (named x path)) (sym h ∙ e)
+  absent_fits room h = ap (λ (x : Option ℕ). name_fits room (named x path)) (sym h ∙ e)
 
-  pub first_fits : (room n : ℕ) {k : ℕ} → r ≡ First n → k ≡ length (request (take n path)) → leb k room ≡ name_fits room (named (next_units next path) path)
+  pub first_fits : (room n : ℕ) {k : ℕ} → r ≡ Some n → k ≡ length (request (take n path)) → leb k room ≡ name_fits room (named (next_units next path) path)
   unfolding name_fits named
-  first_fits room n h g = ap (λ (x : ℕ). leb x room) g ∙ ap (λ (x : Name). name_fits room (named x path)) (sym h ∙ e)
+  first_fits room n h g = ap (λ (x : ℕ). leb x room) g ∙ ap (λ (x : Option ℕ). name_fits room (named x path)) (sym h ∙ e)
 
-  pub absent_out : (out : List ℕ) → r ≡ Absent → out ≡ with_request (named (next_units next path) path) out
+  pub absent_out : (out : List ℕ) → r ≡ None → out ≡ with_request (named (next_units next path) path) out
   unfolding with_request named
-  absent_out out h = ap (λ (x : Name). with_request (named x path) out) (sym h ∙ e)
+  absent_out out h = ap (λ (x : Option ℕ). with_request (named x path) out) (sym h ∙ e)
 
-  pub first_out : (out : List ℕ) (n : ℕ) {o : List ℕ} → r ≡ First n → o ≡ buffer_with (take n path) out → o ≡ with_request (named (next_units next path) path) out
+  pub first_out : (out : List ℕ) (n : ℕ) {o : List ℕ} → r ≡ Some n → o ≡ buffer_with (take n path) out → o ≡ with_request (named (next_units next path) path) out
   unfolding with_request named
-  first_out out n h g = g ∙ ap (λ (x : Name). with_request (named x path) out) (sym h ∙ e)
+  first_out out n h g = g ∙ ap (λ (x : Option ℕ). with_request (named x path) out) (sym h ∙ e)
 
 -- the units of the path are the name of the request
 kind_named : (w : Core) (q : Question) (kind : Kind) → q.kind ≡ kind → named (name_units kind w.path) w.path ≡ request_name w (waits q)
 unfolding named name_units request_name name_asked
-kind_named w q Dc h = rw h (ap some (spans 1 w.path).begin)
-kind_named w q Root h = rw h (ap some (spans 2 w.path).begin)
-kind_named w q Link h = rw h (ap some (take_all (length w.path) w.path (omega arith)))
-kind_named w q Sysvol h = rw h (ap some (spans 2 w.path).begin)
+kind_named w q Dc h = rw h (ap Some (spans 1 w.path).begin)
+kind_named w q Root h = rw h (ap Some (spans 2 w.path).begin)
+kind_named w q Link h = rw h (ap Some (take_all (length w.path) w.path (omega arith)))
+kind_named w q Sysvol h = rw h (ap Some (spans 2 w.path).begin)
 kind_named w q Io h = rw h
 
 ended_named : (w : Core) (e : End) (status : ℕ) (tried : List ℕ) → named (next_units (Ends e status) w.path) w.path ≡ request_name w (ended e status tried)

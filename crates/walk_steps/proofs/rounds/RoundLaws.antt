@@ -1,4 +1,5 @@
 -- Laws of rounds: how many parties there are, and whether the entry in use has them.
+use Rattle.std.specs.Prelude.{Option, Some, None}
 use mathlib.Core.Path.{◌≡◌, refl, sym, ap, ◌∙◌}
 use mathlib.Core.Bool.{Bool, true, false, ◌||◌}
 use mathlib.Core.List.{List, []}
@@ -13,8 +14,6 @@ use Rattle.cache.specs.places.Layout.{place_count}
 use Rattle.cache.specs.order.Memory.{referrals, domains, decode}
 use Rattle.cache_lookup.specs.Lookup.{with_key}
 use Rattle.cache_lookup.specs.Code.{entry_at}
-use Rattle.cache_lookup.specs.declared.Found.{Found}
-use Rattle.cache_lookup.specs.declared.Found.TheVariants.{At, Nothing}
 use Rattle.cache_lookup.proofs.EntryLaws.{count_targets, count_dcs}
 use Rattle.cache_store.specs.entry_after_reply.Stored.{held, prefixed}
 use Rattle.walk_steps.specs.steps.Steps.{Caches, domain_named, is_there, dc_count, target_count, domain_in_use, referral_in_use, party_count, is_in_use, next_place}
@@ -26,20 +25,20 @@ use Rattle.walk_steps.proofs.steps.HeldLaws.{none_held, key_held, key_fits}
 use Rattle.walk_steps.specs.rounds.Code.{domain_there, dcs_named, targets_under, in_round}
 
 -- the domain of the first component
-pub place_named : (path raw : List ℕ) {name : List ℕ} {f : Found} → name ≡ get_or (components path) 0 [] → f ≡ with_key domains name (decode domains raw)
+pub place_named : (path raw : List ℕ) {name : List ℕ} {f : Option ℕ} → name ≡ get_or (components path) 0 [] → f ≡ with_key domains name (decode domains raw)
     → f ≡ with_key domains (get_or (components path) 0 []) (decode domains raw)
 place_named path raw n e = e ∙ ap (λ (x : List ℕ). with_key domains x (decode domains raw)) n
 
-module _ (path raw : List ℕ) {f : Found} (e : f ≡ with_key domains (get_or (components path) 0 []) (decode domains raw)) where
-  pub there_gone : f ≡ Nothing → false ≡ domain_there path raw
+module _ (path raw : List ℕ) {f : Option ℕ} (e : f ≡ with_key domains (get_or (components path) 0 []) (decode domains raw)) where
+  pub there_gone : f ≡ None → false ≡ domain_there path raw
   unfolding domain_there domain_named is_there
   there_gone h = sym (ap is_there (none_held (decode domains raw) (sym e ∙ h)))
 
-  pub dcs_gone : f ≡ Nothing → 0 ≡ dcs_named path raw
+  pub dcs_gone : f ≡ None → 0 ≡ dcs_named path raw
   unfolding dcs_named domain_named dc_count
   dcs_gone h = sym (ap dc_count (none_held (decode domains raw) (sym e ∙ h)))
 
-  module _ (i : ℕ) (h : f ≡ At i) where
+  module _ (i : ℕ) (h : f ≡ Some i) where
     pub there_held : true ≡ domain_there path raw
     unfolding domain_there domain_named is_there
     there_held = sym (ap is_there (key_held domains (get_or (components path) 0 []) raw i (sym e ∙ h)))
@@ -52,12 +51,12 @@ module _ (path raw : List ℕ) {f : Found} (e : f ≡ with_key domains (get_or (
     dcs_held g = g ∙ sym (ap dc_count (key_held domains (get_or (components path) 0 []) raw i (sym e ∙ h)))
 
 -- the entry of a prefix
-module _ (prefix raw : List ℕ) {f : Found} (e : f ≡ with_key referrals prefix (decode referrals raw)) where
-  pub targets_gone : f ≡ Nothing → 0 ≡ targets_under prefix raw
+module _ (prefix raw : List ℕ) {f : Option ℕ} (e : f ≡ with_key referrals prefix (decode referrals raw)) where
+  pub targets_gone : f ≡ None → 0 ≡ targets_under prefix raw
   unfolding targets_under prefixed target_count
   targets_gone h = sym (ap target_count (none_held (decode referrals raw) (sym e ∙ h)))
 
-  module _ (i : ℕ) (h : f ≡ At i) where
+  module _ (i : ℕ) (h : f ≡ Some i) where
     pub targets_fit : i < place_count raw
     targets_fit = key_fits referrals prefix raw i (sym e ∙ h)
 
@@ -70,17 +69,17 @@ pub dcs_few : (path raw : List ℕ) → dcs_named path raw ≤ 8
 unfolding dcs_named domain_named dc_count
 dcs_few path raw = go (with_key domains (get_or (components path) 0 []) (decode domains raw)) refl
   where
-    go : (f : Found) → with_key domains (get_or (components path) 0 []) (decode domains raw) ≡ f → dc_count (held (with_key domains (get_or (components path) 0 []) (decode domains raw)) (decode domains raw)) ≤ 8
-    go Nothing h = rw (none_held (decode domains raw) h) (omega arith)
-    go (At i) h = rw (key_held domains (get_or (components path) 0 []) raw i h, count_dcs raw i) (omega arith)
+    go : (f : Option ℕ) → with_key domains (get_or (components path) 0 []) (decode domains raw) ≡ f → dc_count (held (with_key domains (get_or (components path) 0 []) (decode domains raw)) (decode domains raw)) ≤ 8
+    go None h = rw (none_held (decode domains raw) h) (omega arith)
+    go (Some i) h = rw (key_held domains (get_or (components path) 0 []) raw i h, count_dcs raw i) (omega arith)
 
 pub targets_few : (prefix raw : List ℕ) → targets_under prefix raw ≤ 8
 unfolding targets_under prefixed target_count
 targets_few prefix raw = go (with_key referrals prefix (decode referrals raw)) refl
   where
-    go : (f : Found) → with_key referrals prefix (decode referrals raw) ≡ f → target_count (held (with_key referrals prefix (decode referrals raw)) (decode referrals raw)) ≤ 8
-    go Nothing h = rw (none_held (decode referrals raw) h) (omega arith)
-    go (At i) h = rw (key_held referrals prefix raw i h, count_targets raw i) (omega arith)
+    go : (f : Option ℕ) → with_key referrals prefix (decode referrals raw) ≡ f → target_count (held (with_key referrals prefix (decode referrals raw)) (decode referrals raw)) ≤ 8
+    go None h = rw (none_held (decode referrals raw) h) (omega arith)
+    go (Some i) h = rw (key_held referrals prefix raw i h, count_targets raw i) (omega arith)
 
 -- both places are among n
 module _ (n party began : ℕ) where

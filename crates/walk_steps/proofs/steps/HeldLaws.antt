@@ -1,9 +1,9 @@
 -- Laws of entries that were found, in either cache.
+use Rattle.std.specs.Prelude.{None, Some, Option}
 use mathlib.Core.Path.{◌≡◌, sym, ap, ◌∙◌}
 use mathlib.Core.Bool.{true, false}
 use mathlib.Core.List.{List}
 use mathlib.Core.Logic.{◌⊎◌, inl, inr}
-use mathlib.Core.Option.{none, some}
 use Prim.Native.Nat.{ℕ, ◌<◌}
 use native.Mathlib.Omega.{arith}
 use lib.ListN.{get_or}
@@ -19,8 +19,6 @@ use Rattle.cache.proofs.order.MemoryLaws.{length_decode, decode_at, place_free, 
 use Rattle.cache.proofs.order.KindLaws.{referrals_lawful}
 use Rattle.cache_lookup.specs.Lookup.{longest_match, with_key}
 use Rattle.cache_lookup.specs.Code.{entry_at}
-use Rattle.cache_lookup.specs.declared.Found.{Found}
-use Rattle.cache_lookup.specs.declared.Found.TheVariants.{At, Nothing}
 use Rattle.cache_lookup.proofs.LookupLaws.{used_inside, longest_found, LongestAt, KeyAt, key_found}
 use Rattle.cache_lookup.proofs.StoreLaws.{entry_good}
 use Rattle.cache_store.specs.entry_after_reply.Stored.{held, held_at}
@@ -43,34 +41,34 @@ module _ {E : Type 0} (k : Kind E) (raw : List ℕ) (i : ℕ) (e : E) (here : ge
           absurd (let z : ◌≡◌ {A = ℕ} 0 1 = cc (place_free k (place_at i raw) (eqb-true (unit_at 0 (place_at i raw)) 0 t), there) in omega arith)
       go (inr t) = cc (place_used k (place_at i raw) t, there)
 
-  pub used_held : {f : Found} → f ≡ At i → held f (decode k raw) ≡ some (entry_at k i raw)
+  pub used_held : {f : Option ℕ} → f ≡ Some i → held f (decode k raw) ≡ Some (entry_at k i raw)
   unfolding held held_at
   used_held h = rw (h, here, used_is)
 
-pub none_held : {E : Type 0} {f : Found} (ps : List (Place E)) → f ≡ Nothing → held f ps ≡ none
+pub none_held : {E : Type 0} {f : Option ℕ} (ps : List (Place E)) → f ≡ None → held f ps ≡ None
 unfolding held
 none_held ps h = rw h
 
 -- the entry of an equal key
-module _ {E : Type 0} (k : Kind E) (name raw : List ℕ) (i : ℕ) (h : with_key k name (decode k raw) ≡ At i) where
+module _ {E : Type 0} (k : Kind E) (name raw : List ℕ) (i : ℕ) (h : with_key k name (decode k raw) ≡ Some i) where
   there : KeyAt k name (decode k raw) i
   there = key_found k name (decode k raw) i h
 
   pub key_fits : i < place_count raw
   key_fits = used_fits k raw i there.entry there.here
 
-  pub key_held : held (with_key k name (decode k raw)) (decode k raw) ≡ some (entry_at k i raw)
+  pub key_held : held (with_key k name (decode k raw)) (decode k raw) ≡ Some (entry_at k i raw)
   key_held = used_held k raw i there.entry there.here h
 
 -- the entry of the longest match
-module _ (path raw : List ℕ) (i : ℕ) (h : longest_match path (decode referrals raw) ≡ At i) where
+module _ (path raw : List ℕ) (i : ℕ) (h : longest_match path (decode referrals raw) ≡ Some i) where
   best : LongestAt path (decode referrals raw) i
   best = longest_found path (decode referrals raw) i h
 
   pub longest_fits : i < place_count raw
   longest_fits = used_fits referrals raw i best.entry best.found.here
 
-  pub longest_held : longest path (decode referrals raw) ≡ some (entry_at referrals i raw)
+  pub longest_held : longest path (decode referrals raw) ≡ Some (entry_at referrals i raw)
   unfolding longest
   longest_held = used_held referrals raw i best.entry best.found.here h
 

@@ -1,4 +1,5 @@
 -- Laws of what the steps find and put.
+use Rattle.std.specs.Prelude.{Option, Some, None}
 use mathlib.Core.Path.{◌≡◌, refl, sym, ap, ◌∙◌}
 use mathlib.Core.Bool.{Bool, true, false, ◌&&◌}
 use mathlib.Core.List.{List, []}
@@ -23,8 +24,6 @@ use Rattle.cache.specs.places.Layout.{place_count, text_at, room_at}
 use Rattle.cache.specs.order.Memory.{referrals, decode, referral_of}
 use Rattle.cache_lookup.specs.Lookup.{with_key}
 use Rattle.cache_lookup.specs.Code.{entry_at}
-use Rattle.cache_lookup.specs.declared.Found.{Found}
-use Rattle.cache_lookup.specs.declared.Found.TheVariants.{At, Nothing}
 use Rattle.walk_steps.specs.steps.Steps.{Core, Question, waits, ended, rests, asking}
 use Rattle.walk_steps.specs.steps.Held.{asking_of, next_of, tried_of}
 use Rattle.walk_steps.specs.steps.Code.{rested_of, ended_at, asked_at, rested_at, domain_asking, root_at, root_in}
@@ -74,20 +73,20 @@ pub asked_as : {r : Rested} (left : ℕ) (w : Core) (q : Question) (a : Asking) 
 asked_as left w q a e h g t = e ∙ ((λ j. asked_at (h j) (g j) left w.hit) ∙ asked_rests left w q t)
 
 -- step 9's root entry
-module _ (path raw : List ℕ) {f : Found} (e : f ≡ with_key referrals (first_of 2 path) (decode referrals raw)) where
-  pub root_none : f ≡ Nothing → Nothing ≡ root_in path raw
+module _ (path raw : List ℕ) {f : Option ℕ} (e : f ≡ with_key referrals (first_of 2 path) (decode referrals raw)) where
+  pub root_none : f ≡ None → None ≡ root_in path raw
   unfolding root_in root_at
   root_none h = sym (ap (root_at raw) (sym e ∙ h))
 
-  module _ (i : ℕ) (h : f ≡ At i) where
+  module _ (i : ℕ) (h : f ≡ Some i) where
     pub root_fits : i < place_count raw
     root_fits = key_fits referrals (first_of 2 path) raw i (sym e ∙ h)
 
-    pub root_there : {r : Bool} → r ≡ (entry_at referrals i raw).settings.root → r ≡ true → At i ≡ root_in path raw
+    pub root_there : {r : Bool} → r ≡ (entry_at referrals i raw).settings.root → r ≡ true → Some i ≡ root_in path raw
     unfolding root_in root_at
     root_there p t = sym (ap (root_at raw) (sym e ∙ h) ∙ choose_yes _ _ (sym p ∙ t))
 
-    pub root_link : {r : Bool} → r ≡ (entry_at referrals i raw).settings.root → r ≡ false → Nothing ≡ root_in path raw
+    pub root_link : {r : Bool} → r ≡ (entry_at referrals i raw).settings.root → r ≡ false → None ≡ root_in path raw
     unfolding root_in root_at
     root_link p t = sym (ap (root_at raw) (sym e ∙ h) ∙ choose_no _ _ (sym p ∙ t))
 
@@ -118,7 +117,7 @@ pub first_within : (k : ℕ) (path : List ℕ) {n : ℕ} → n ≡ length (first
 first_within k path e = omega (arith, (spans k path).inside)
 
 -- the first two components, as a part of the path
-pub first_part : (path : List ℕ) (ps : List (Place Referral)) {n : ℕ} {f : Found} → n ≡ length (first_of 2 path) → f ≡ with_key referrals (take n path) ps
+pub first_part : (path : List ℕ) (ps : List (Place Referral)) {n : ℕ} {f : Option ℕ} → n ≡ length (first_of 2 path) → f ≡ with_key referrals (take n path) ps
     → f ≡ with_key referrals (first_of 2 path) ps
 first_part path ps e h = h ∙ ((λ j. with_key referrals (take (e j) path) ps) ∙ ap (λ (x : List ℕ). with_key referrals x ps) (spans 2 path).begin)
 

@@ -1,4 +1,5 @@
 -- Laws of a walk's texts: units copied within one list, the path tried put and taken, and what stands in the two rooms then.
+use Rattle.std.specs.Prelude.{Some, None}
 use mathlib.Core.Path.{◌≡◌, refl, sym, ap, ◌∙◌}
 use mathlib.Core.List.{List, [], ◌++◌, append-nil}
 use mathlib.Core.Logic.{◌⊎◌, inl, inr}
@@ -15,7 +16,6 @@ use Rattle.laws.proofs.Pasting.{get_d_pasted_low, get_d_pasted_high, get_d_part,
 use Rattle.laws.proofs.Parts.{part_part}
 use Rattle.unc.specs.names.Paths.{replaced}
 use Rattle.unc.specs.names.Code.{written_within}
-use Rattle.unc.specs.declared.names.Written.TheVariants.{Units, TooLong}
 use Rattle.walk_steps.specs.walk_texts.Texts.{texts_of}
 use Rattle.walk_steps.specs.walk_texts.Code.{with_tried, Standing}
 
@@ -81,32 +81,32 @@ tried_moved n d {a} ea eo h =
 
 -- what a text that fits its room and one that is too long are told, and what they tell
 module _ (m : ℕ) (s : List ℕ) where
-  pub told_long : m < length s → TooLong ≡ written_within m s
+  pub told_long : m < length s → None ≡ written_within m s
   unfolding written_within
-  told_long h = sym (choose_no (Units (length s)) TooLong (lt-leb (length s) m h))
+  told_long h = sym (choose_no (Some (length s)) None (lt-leb (length s) m h))
 
-  pub told_fits : {n : ℕ} → n ≡ length s → n ≤ m → Units n ≡ written_within m s
+  pub told_fits : {n : ℕ} → n ≡ length s → n ≤ m → Some n ≡ written_within m s
   unfolding written_within
-  told_fits e h = sym (choose_yes (Units (length s)) TooLong (le-leb (length s) m (rw (← e) h)) ∙ (λ i. Units (sym e i)))
+  told_fits e h = sym (choose_yes (Some (length s)) None (le-leb (length s) m (rw (← e) h)) ∙ (λ i. Some (sym e i)))
 
-  pub written_units : (u : ℕ) → written_within m s ≡ Units u → (u ≡ length s) × (length s ≤ m)
+  pub written_units : (u : ℕ) → written_within m s ≡ Some u → (u ≡ length s) × (length s ≤ m)
   written_units u h = go (lt_or_le m (length s))
     where
       go : (m < length s) ⊎ (length s ≤ m) → (u ≡ length s) × (length s ≤ m)
       go (inl l) =
-          let e : TooLong ≡ written_within m s = told_long l in
+          let e : None ≡ written_within m s = told_long l in
           absurd (let z : ◌≡◌ {A = ℕ} 0 1 = cc in omega arith)
       go (inr l) =
-          let e : Units (length s) ≡ written_within m s = told_fits refl l in
+          let e : Some (length s) ≡ written_within m s = told_fits refl l in
           (cc, l)
 
-  pub written_long : written_within m s ≡ TooLong → m < length s
+  pub written_long : written_within m s ≡ None → m < length s
   written_long h = go (lt_or_le m (length s))
     where
       go : (m < length s) ⊎ (length s ≤ m) → m < length s
       go (inl l) = l
       go (inr l) =
-          let e : Units (length s) ≡ written_within m s = told_fits refl l in
+          let e : Some (length s) ≡ written_within m s = told_fits refl l in
           absurd (let z : ◌≡◌ {A = ℕ} 0 1 = cc in omega arith)
 
 -- the texts with a new path tried

@@ -1,5 +1,5 @@
 -- Shapes of the code, proved equal to the rules; nothing here is to be believed.
-use Rattle.std.specs.Prelude.{ℕ, ◌≤◌, ◌<◌, ◌/◌, ◌%◌, ◌≡◌, Bool, true, false, List, [], leb, eqb, length, take}
+use Rattle.std.specs.Prelude.{ℕ, ◌≤◌, ◌<◌, ◌/◌, ◌%◌, ◌≡◌, Bool, true, false, List, [], leb, eqb, length, take, Option, Some, None}
 use Rattle.laws.specs.Choice.{choose}
 use Rattle.unc.specs.names.Paths.{first_of, is_sysvol, matches, replaced}
 use Rattle.walk_steps.specs.walk_texts.Texts.{texts_of}
@@ -10,8 +10,6 @@ use Rattle.cache.specs.order.Memory.{referrals, domains, decode, in_order}
 use Rattle.cache.specs.order.Entries.{Referral}
 use Rattle.cache_lookup.specs.Lookup.{longest_match, target_path, expired}
 use Rattle.cache_lookup.specs.Code.{entry_at}
-use Rattle.cache_lookup.specs.declared.Found.{Found}
-use Rattle.cache_lookup.specs.declared.Found.TheVariants.{At, Nothing}
 use Rattle.walk_steps.specs.steps.Steps.{Core, Question, Called, stops, asks, replaces, Turn, Resting, goes, turned, from_step2, step3, step5, step6_host, step7, step9, step11, link_request}
 use Rattle.walk_steps.specs.steps.Held.{caches_of, tried_of, core_of}
 use Rattle.walk_steps.specs.steps.Code.{rested_of, root_in}
@@ -188,9 +186,9 @@ nowhere = 65536
 abbrev pub no_dc : ℕ
 no_dc = 65537
 
-pub record FoundAt (found : Found) (r : ℕ) : Type 0 where
-  pub none : r ≡ nowhere → found ≡ Nothing
-  pub there : (r ≡ nowhere → ⊥) → found ≡ At r
+pub record FoundAt (found : Option ℕ) (r : ℕ) : Type 0 where
+  pub none : r ≡ nowhere → found ≡ None
+  pub there : (r ≡ nowhere → ⊥) → found ≡ Some r
 
 -- step 5: a host, a domain without a DC, or the DC hinted at
 pub record DcAt (doms path : List ℕ) (r : ℕ) : Type 0 where

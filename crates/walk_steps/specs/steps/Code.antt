@@ -1,12 +1,10 @@
 -- Shapes of the code, proved equal to the rules; nothing here is to be believed.
-use Rattle.std.specs.Prelude.{ℕ, ◌-◌, Bool, false, List, [], length, take, eqb}
+use Rattle.std.specs.Prelude.{ℕ, ◌-◌, Bool, false, List, [], length, take, eqb, Option, Some, None}
 use Rattle.laws.specs.Choice.{choose}
 use Rattle.unc.specs.names.Paths.{first_of}
 use Rattle.cache.specs.order.Memory.{referrals, decode}
 use Rattle.cache_lookup.specs.Lookup.{with_key}
 use Rattle.cache_lookup.specs.Code.{entry_at}
-use Rattle.cache_lookup.specs.declared.Found.{Found}
-use Rattle.cache_lookup.specs.declared.Found.TheVariants.{At, Nothing}
 use Rattle.walk_steps.specs.steps.Steps.{Core, Called, stops, asks, Resting}
 use Rattle.walk_steps.specs.declared.steps.Kind.{Kind}
 use Rattle.walk_steps.specs.declared.steps.End.{End}
@@ -56,9 +54,9 @@ domain_asking kind path party size =
     record { kind = kind; entry = length (first_of 1 path); party = party; began = party; size = size; uncovered = false }
 
 -- the root entry that step 9 asks
-unfoldable pub root_at : List ℕ → Found → Found
-root_at raw Nothing = Nothing
-root_at raw (At i) = choose (entry_at referrals i raw).settings.root (At i) Nothing
+unfoldable pub root_at : List ℕ → Option ℕ → Option ℕ
+root_at raw None = None
+root_at raw (Some i) = choose (entry_at referrals i raw).settings.root (Some i) None
 
-unfoldable pub root_in : List ℕ → List ℕ → Found
+unfoldable pub root_in : List ℕ → List ℕ → Option ℕ
 root_in path raw = root_at raw (with_key referrals (first_of 2 path) (decode referrals raw))

@@ -13,15 +13,12 @@
 --   5 step5              9 step9, link_request
 --                       10 step10
 -- Replies: referral_answered (3.1.5.4), referral_answer and stored_turn (3.1.5.4.3, 3.1.5.4.4), dc_answer (3.1.5.4.2). The limit: goes.
-use Rattle.std.specs.Prelude.{ℕ, zero, suc, ◌+◌, ◌*◌, ◌/◌, min, Bool, true, false, ◌&&◌, ◌||◌, not, List, [], ◌∷◌, length, get_or, take, leb, ltb, eqb}
-use Rattle.std.proofs.Math.Option.{Option, none, some}
+use Rattle.std.specs.Prelude.{ℕ, zero, suc, ◌+◌, ◌*◌, ◌/◌, min, Bool, true, false, ◌&&◌, ◌||◌, not, List, [], ◌∷◌, length, get_or, take, leb, ltb, eqb, Option, None, Some}
 use Rattle.laws.specs.Choice.{choose}
 use Rattle.unc.specs.names.Paths.{components, component_count, first_of, is_sysvol, replaced, path_units}
 use Rattle.cache.specs.order.Entries.{Referral, Domain, Place}
 use Rattle.cache.specs.order.Memory.{referrals, domains}
 use Rattle.cache_lookup.specs.Lookup.{longest_match, with_key, expired, target_path, target_hinted, dc_hinted}
-use Rattle.cache_lookup.specs.declared.Found.{Found}
-use Rattle.cache_lookup.specs.declared.Found.TheVariants.{At, Nothing}
 use Rattle.reply_read.specs.referral.Request.{most_size}
 use Rattle.reply_read.specs.referral.Replies as replies
 use Rattle.reply_read.specs.referral.Replies.{malformed, nothing, says, read_referral}
@@ -159,8 +156,8 @@ step5_domain w d =
 
 -- Step 5: the first component is looked up in the domain cache.
 unfoldable pub step5_with : Core → Option Domain → Question
-step5_with w none = step6_host w
-step5_with w (some d) = step5_domain w d
+step5_with w None = step6_host w
+step5_with w (Some d) = step5_domain w d
 
 unfoldable pub step5 : List (Place Domain) → Core → Question
 step5 ds w = step5_with w (domain_named (get_or (components w.path) 0 []) ds)
@@ -171,23 +168,23 @@ link_request w entry place began uncovered =
     record { kind = Link; entry = entry; party = place; began = began; size = w.size; tried = []; uncovered = uncovered }
 
 unfoldable pub step9_with : Caches → Core → Option Referral → Question
-step9_with c w none = step5 c.domains w
-step9_with c w (some e) = choose e.settings.root (link_request w (length e.prefix) e.hint e.hint false) (step5 c.domains w)
+step9_with c w None = step5 c.domains w
+step9_with c w (Some e) = choose e.settings.root (link_request w (length e.prefix) e.hint e.hint false) (step5 c.domains w)
 
 unfoldable pub step9 : Caches → Core → Question
 step9 c w = step9_with c w (prefixed (first_of 2 w.path) c.referrals)
 
 -- Step 2: the longest match in the referral cache. An expired root goes to step 5, an expired link to step 9, a fresh entry to step 3 or 4.
 unfoldable pub step2_with : Caches → Core → ℕ → Option Referral → Called
-step2_with c w clock none = asks (step5 c.domains w)
-step2_with c w clock (some e) = choose (expired clock e) (asks (choose e.settings.root (step5 c.domains w) (step9 c w))) (step7 w e)
+step2_with c w clock None = asks (step5 c.domains w)
+step2_with c w clock (Some e) = choose (expired clock e) (asks (choose e.settings.root (step5 c.domains w) (step9 c w))) (step7 w e)
 
 unfoldable pub step2 : Caches → Core → ℕ → Called
 step2 c w clock = step2_with c w clock (longest w.path c.referrals)
 
 unfoldable pub is_there : {E : Type 0} → Option E → Bool
-is_there none = false
-is_there (some e) = true
+is_there None = false
+is_there (Some e) = true
 
 -- "ReferralCache hit": a match at step 2, expired or not
 unfoldable pub hit_at : Caches → Core → Bool
@@ -233,12 +230,12 @@ referral_in_use c w q = prefixed (take q.entry w.path) c.referrals
 
 -- how many parties the entry in use has; 0 where it is gone
 unfoldable pub dc_count : Option Domain → ℕ
-dc_count none = 0
-dc_count (some d) = length d.dcs
+dc_count None = 0
+dc_count (Some d) = length d.dcs
 
 unfoldable pub target_count : Option Referral → ℕ
-target_count none = 0
-target_count (some e) = length e.targets
+target_count None = 0
+target_count (Some e) = length e.targets
 
 unfoldable pub party_count : Caches → Core → Question → ℕ
 party_count c w q = counted q.kind
@@ -317,16 +314,16 @@ with_domains ps c = record { referrals = c.referrals; domains = ps }
 unfoldable pub dc_hint_set : Caches → Core → ℕ → Caches
 dc_hint_set c w place = at (with_key domains (get_or (components w.path) 0 []) c.domains)
   where
-    at : Found → Caches
-    at Nothing = c
-    at (At i) = with_domains (dc_hinted i place c.domains) c
+    at : Option ℕ → Caches
+    at None = c
+    at (Some i) = with_domains (dc_hinted i place c.domains) c
 
 unfoldable pub target_hint_set : Caches → Core → Question → Caches
 target_hint_set c w q = at (with_key referrals (take q.entry w.path) c.referrals)
   where
-    at : Found → Caches
-    at Nothing = c
-    at (At i) = with_referrals (target_hinted i q.party c.referrals) c
+    at : Option ℕ → Caches
+    at None = c
+    at (Some i) = with_referrals (target_hinted i q.party c.referrals) c
 
 unfoldable pub hint_set : Caches → Core → Question → Caches
 hint_set c w q = by q.kind
@@ -351,9 +348,9 @@ empty_end Io = Failed
 unfoldable pub dcs_in : Caches → Core → List (List ℕ) → Caches
 dcs_in c w names = at (with_key domains (get_or (components w.path) 0 []) c.domains)
   where
-    at : Found → Caches
-    at Nothing = c
-    at (At i) = with_domains (dcs_stored i names c.domains) c
+    at : Option ℕ → Caches
+    at None = c
+    at (Some i) = with_domains (dcs_stored i names c.domains) c
 
 unfoldable pub dc_answer : Caches → Core → replies.Reply (List (List ℕ)) → Turn
 dc_answer c w malformed = record { caches = c; core = w; called = ends Malformed 0 }
@@ -429,8 +426,8 @@ io_fails w q status e =
 
 unfoldable pub io_with : Caches → Core → Question → ℕ → Option Referral → Turn
 -- cannot come: the entry was found to be in use
-io_with c w q status none = record { caches = c; core = w; called = ends Gone 0 }
-io_with c w q status (some e) =
+io_with c w q status None = record { caches = c; core = w; called = ends Gone 0 }
+io_with c w q status (Some e) =
     choose (eqb (severity status) 3)
     (record { caches = c; core = w; called = io_fails w q status e })
     (record { caches = hint_set c w q; core = w; called = stops Done status q.tried })

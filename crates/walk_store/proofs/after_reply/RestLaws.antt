@@ -1,9 +1,9 @@
 -- Laws of where the steps rest: what they keep, and whether the request of the rest fits the buffer.
+use Rattle.std.specs.Prelude.{Some}
 use mathlib.Core.Path.{◌≡◌, refl, sym, ap, ◌∙◌, subst}
 use mathlib.Core.Bool.{Bool, true, false}
 use mathlib.Core.List.{List, []}
 use mathlib.Core.Logic.{◌⊎◌, inl, inr}
-use mathlib.Core.Option.{some}
 use Prim.Native.Nat.{ℕ, zero, suc, ◌≤◌}
 use native.Mathlib.Omega.{arith}
 use lib.ListN.{length, take}
@@ -102,7 +102,7 @@ first_short : (k : ℕ) (s : List ℕ) → length s ≤ 256 → length (first_of
 first_short k s h = omega (arith, (spans k s).inside)
 
 -- a buffer of 516 bytes holds every request of a path that fits its room
-name_fits_lem : (room : ℕ) (name : List ℕ) → 516 ≤ room → length name ≤ 256 → name_fits room (some name) ≡ true
+name_fits_lem : (room : ℕ) (name : List ℕ) → 516 ≤ room → length name ≤ 256 → name_fits room (Some name) ≡ true
 unfolding name_fits
 name_fits_lem room name h l =
     let z : length (request name) ≤ room = omega (arith, length_request name) in

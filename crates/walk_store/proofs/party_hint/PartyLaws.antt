@@ -1,4 +1,5 @@
 -- Laws of the hint of the party that answered, by the kind of the question.
+use Rattle.std.specs.Prelude.{Option, Some, None}
 use mathlib.Core.Path.{◌≡◌, refl, sym, ap, ◌∙◌, subst}
 use mathlib.Core.Bool.{Bool, true, ◌||◌}
 use mathlib.Core.List.{List, []}
@@ -16,8 +17,6 @@ use Rattle.cache.specs.order.Order.{good_prefix}
 use Rattle.cache.specs.order.Memory.{referrals, domains, decode, encode, in_order}
 use Rattle.cache_lookup.specs.Lookup.{with_key, target_hinted, dc_hinted}
 use Rattle.cache_lookup.specs.Code.{entry_at}
-use Rattle.cache_lookup.specs.declared.Found.{Found}
-use Rattle.cache_lookup.specs.declared.Found.TheVariants.{At, Nothing}
 use Rattle.walk_steps.specs.steps.Steps.{Caches, Core, Question, with_referrals, with_domains, target_hint_set, dc_hint_set, hint_set, is_in_use}
 use Rattle.walk_steps.specs.steps.Held.{caches_of, core_of, question_of}
 use Rattle.walk_steps.specs.declared.steps.Kind.{Kind}
@@ -103,14 +102,14 @@ unfolding unhinted
 nothing_set refs doms o p e = record { caches = e; back = refl; refs_order = o; doms_order = p; able = none_hinted refs doms }
 
 -- TargetHint of the entry in use
-module _ (refs path : List ℕ) (q : Asking) (order : in_order referrals refs ≡ true) (party : q.party < targets_under (take q.entry path) refs) {g : Found}
+module _ (refs path : List ℕ) (q : Asking) (order : in_order referrals refs ≡ true) (party : q.party < targets_under (take q.entry path) refs) {g : Option ℕ}
     (e : g ≡ with_key referrals (take q.entry path) (decode referrals refs)) where
-  pub target_none : g ≡ Nothing → (doms : List ℕ) (size : ℕ) (hit : Bool) → in_order domains doms ≡ true
+  pub target_none : g ≡ None → (doms : List ℕ) (size : ℕ) (hit : Bool) → in_order domains doms ≡ true
       → Hinting refs doms Unset refs doms (target_hint_set (caches_of refs doms) (core_of path size hit) (question_of q []))
   unfolding target_hint_set question_of caches_of
-  target_none h doms size hit o = nothing_set refs doms order o (let z : with_key referrals (take q.entry path) (decode referrals refs) ≡ Nothing = sym e ∙ h in rw z refl)
+  target_none h doms size hit o = nothing_set refs doms order o (let z : with_key referrals (take q.entry path) (decode referrals refs) ≡ None = sym e ∙ h in rw z refl)
 
-  module _ (i : ℕ) (h : g ≡ At i) where
+  module _ (i : ℕ) (h : g ≡ Some i) where
     pub link_fits : i < place_count refs
     link_fits = targets_fit (take q.entry path) refs e i h
 
@@ -132,7 +131,7 @@ module _ (refs path : List ℕ) (q : Asking) (order : in_order referrals refs �
       set_is : (size : ℕ) (hit : Bool)
           → record { referrals = target_hinted i q.party (decode referrals refs); domains = decode domains doms } ≡ target_hint_set (caches_of refs doms) (core_of path size hit) (question_of q [])
       unfolding target_hint_set question_of caches_of with_referrals
-      set_is size hit = let z : with_key referrals (take q.entry path) (decode referrals refs) ≡ At i = sym e ∙ h in rw z refl
+      set_is size hit = let z : with_key referrals (take q.entry path) (decode referrals refs) ≡ Some i = sym e ∙ h in rw z refl
 
       pub target_set : (size : ℕ) (hit : Bool) → in_order domains doms ≡ true
           → Hinting refs doms (Target i old) m doms (target_hint_set (caches_of refs doms) (core_of path size hit) (question_of q []))
@@ -146,18 +145,18 @@ module _ (refs path : List ℕ) (q : Asking) (order : in_order referrals refs �
       }
 
 -- DCHint of the domain of the first component
-module _ (doms path : List ℕ) (q : Asking) (order : in_order domains doms ≡ true) (party : q.party < dcs_named path doms) {name : List ℕ} (y : name ≡ get_or (components path) 0 []) {g : Found}
+module _ (doms path : List ℕ) (q : Asking) (order : in_order domains doms ≡ true) (party : q.party < dcs_named path doms) {name : List ℕ} (y : name ≡ get_or (components path) 0 []) {g : Option ℕ}
     (e : g ≡ with_key domains name (decode domains doms)) where
   named_is : g ≡ with_key domains (get_or (components path) 0 []) (decode domains doms)
   named_is = place_named path doms y e
 
-  pub dc_none : g ≡ Nothing → (refs : List ℕ) (size : ℕ) (hit : Bool) → in_order referrals refs ≡ true
+  pub dc_none : g ≡ None → (refs : List ℕ) (size : ℕ) (hit : Bool) → in_order referrals refs ≡ true
       → Hinting refs doms Unset refs doms (dc_hint_set (caches_of refs doms) (core_of path size hit) q.party)
   unfolding dc_hint_set caches_of
   dc_none h refs size hit o =
-      nothing_set refs doms o order (let z : with_key domains (get_or (components path) 0 []) (decode domains doms) ≡ Nothing = sym named_is ∙ h in rw z refl)
+      nothing_set refs doms o order (let z : with_key domains (get_or (components path) 0 []) (decode domains doms) ≡ None = sym named_is ∙ h in rw z refl)
 
-  module _ (i : ℕ) (h : g ≡ At i) where
+  module _ (i : ℕ) (h : g ≡ Some i) where
     pub through_fits : i < place_count doms
     through_fits = dcs_fit path doms named_is i h
 
@@ -177,7 +176,7 @@ module _ (doms path : List ℕ) (q : Asking) (order : in_order domains doms ≡ 
       through_is : (size : ℕ) (hit : Bool)
           → record { referrals = decode referrals refs; domains = dc_hinted i q.party (decode domains doms) } ≡ dc_hint_set (caches_of refs doms) (core_of path size hit) q.party
       unfolding dc_hint_set caches_of with_domains
-      through_is size hit = let z : with_key domains (get_or (components path) 0 []) (decode domains doms) ≡ At i = sym named_is ∙ h in rw z refl
+      through_is size hit = let z : with_key domains (get_or (components path) 0 []) (decode domains doms) ≡ Some i = sym named_is ∙ h in rw z refl
 
       pub dc_set : (size : ℕ) (hit : Bool) → in_order referrals refs ≡ true → Hinting refs doms (Dc i old) refs m (dc_hint_set (caches_of refs doms) (core_of path size hit) q.party)
       unfolding unhinted caches_of

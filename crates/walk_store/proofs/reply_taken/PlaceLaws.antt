@@ -1,8 +1,8 @@
 -- Laws of a place that is written, saved before and put back: of an entry, and of DCs.
+use Rattle.std.specs.Prelude.{Option, None, Some}
 use mathlib.Core.Path.{◌≡◌, refl, sym, ap, ◌∙◌, subst}
 use mathlib.Core.Bool.{Bool, true, false}
 use mathlib.Core.List.{List, [], ◌∷◌, map}
-use mathlib.Core.Option.{Option, none, some}
 use Prim.Native.Nat.{ℕ, zero, suc, ◌<◌}
 use native.Mathlib.Omega.{arith}
 use lib.ListN.{length, get_or, take, set, length-set}
@@ -22,8 +22,6 @@ use Rattle.cache.proofs.order.KindLaws.{referrals_lawful, domains_lawful}
 use Rattle.cache.proofs.order.MemoryLaws.{Lawful, cache_told, order_good, length_decode, encode_decode, decode_encode, place_encode, changed_encode}
 use Rattle.cache_lookup.specs.Lookup.{with_key}
 use Rattle.cache_lookup.specs.Code.{entry_at}
-use Rattle.cache_lookup.specs.declared.Found.{Found}
-use Rattle.cache_lookup.specs.declared.Found.TheVariants.{At, Nothing}
 use Rattle.cache_lookup.proofs.LookupLaws.{key_found}
 use Rattle.reply_read.specs.referral.Code.{referral_shown}
 use Rattle.reply_read.specs.declared.referral.ReferralFound.{ReferralFound}
@@ -71,12 +69,12 @@ record Good (e : Referral) (path : List ℕ) : Type 0 where
   matching : matches e.prefix path ≡ true
 
 fresh_stored : (reply : List ℕ) (f : ReferralFound) → Storable reply f → (interlink : Bool) (clock : ℕ) (path : List ℕ) → matches (spanned reply f.prefix) path ≡ true
-    → Good (stored_entry none (referral_shown reply f) interlink clock) path
+    → Good (stored_entry None (referral_shown reply f) interlink clock) path
 unfolding stored_entry fresh referral_shown
 fresh_stored reply f s interlink clock path m = record { well = fresh_good (referral_shown reply f) false interlink 0 clock s.good; matching = m }
 
 refreshed_stored : (e : Referral) (reply : List ℕ) (f : ReferralFound) → Storable reply f → (interlink : Bool) (clock : ℕ) (path : List ℕ) → good_referral e ≡ true → matches e.prefix path ≡ true
-    → Good (stored_entry (some e) (referral_shown reply f) interlink clock) path
+    → Good (stored_entry (Some e) (referral_shown reply f) interlink clock) path
 unfolding stored_entry refreshed
 refreshed_stored e reply f s interlink clock path g m = record { well = refreshed_good e (referral_shown reply f) interlink clock g s.good; matching = m }
 
@@ -86,10 +84,10 @@ module _ (refs : List ℕ) (order : in_order referrals refs ≡ true) (reply : L
   unfolding prefixed
   stored_good = go (with_key referrals (spanned reply f.prefix) (decode referrals refs)) refl
     where
-      go : (g : Found) → with_key referrals (spanned reply f.prefix) (decode referrals refs) ≡ g
+      go : (g : Option ℕ) → with_key referrals (spanned reply f.prefix) (decode referrals refs) ≡ g
           → Good (stored_entry (held (with_key referrals (spanned reply f.prefix) (decode referrals refs)) (decode referrals refs)) (referral_shown reply f) interlink clock) path
-      go Nothing h = subst (λ (o : Option Referral). Good (stored_entry o (referral_shown reply f) interlink clock) path) (sym (none_held (decode referrals refs) h)) (fresh_stored reply f s interlink clock path m)
-      go (At i) h =
+      go None h = subst (λ (o : Option Referral). Good (stored_entry o (referral_shown reply f) interlink clock) path) (sym (none_held (decode referrals refs) h)) (fresh_stored reply f s interlink clock path m)
+      go (Some i) h =
           let k = key_found referrals (spanned reply f.prefix) (decode referrals refs) i h in
           let e : entry_at referrals i refs ≡ k.entry = used_is referrals refs i k.entry k.here in
           subst (λ (o : Option Referral). Good (stored_entry o (referral_shown reply f) interlink clock) path) (sym (key_held referrals (spanned reply f.prefix) refs i h))
@@ -99,9 +97,9 @@ module _ (refs : List ℕ) (order : in_order referrals refs ≡ true) (reply : L
   place_fits : store_place clock (spanned reply f.prefix) (decode referrals refs) < place_count refs
   place_fits = go (with_key referrals (spanned reply f.prefix) (decode referrals refs)) refl
     where
-      go : (g : Found) → with_key referrals (spanned reply f.prefix) (decode referrals refs) ≡ g → store_place clock (spanned reply f.prefix) (decode referrals refs) < place_count refs
-      go Nothing h = subst (λ (n : ℕ). n < place_count refs) (place_new clock (spanned reply f.prefix) (decode referrals refs) refl h refl) (new_fits refs order clock refl)
-      go (At i) h = subst (λ (n : ℕ). n < place_count refs) (place_found clock (spanned reply f.prefix) (decode referrals refs) refl h) (key_fits referrals (spanned reply f.prefix) refs i h)
+      go : (g : Option ℕ) → with_key referrals (spanned reply f.prefix) (decode referrals refs) ≡ g → store_place clock (spanned reply f.prefix) (decode referrals refs) < place_count refs
+      go None h = subst (λ (n : ℕ). n < place_count refs) (place_new clock (spanned reply f.prefix) (decode referrals refs) refl h refl) (new_fits refs order clock refl)
+      go (Some i) h = subst (λ (n : ℕ). n < place_count refs) (place_found clock (spanned reply f.prefix) (decode referrals refs) refl h) (key_fits referrals (spanned reply f.prefix) refs i h)
 
   module _ {place : ℕ} (p : place ≡ store_place clock (spanned reply f.prefix) (decode referrals refs)) where
     pub place_inside : place < place_count refs

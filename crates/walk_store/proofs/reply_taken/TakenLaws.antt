@@ -1,4 +1,5 @@
 -- Laws of a reply that is taken: what it calls for, the turn that it makes, and the caches put back.
+use Rattle.std.specs.Prelude.{Option, Some, None}
 use mathlib.Core.Path.{◌≡◌, refl, sym, ap, ◌∙◌, subst}
 use mathlib.Core.Bool.{Bool, true, false, not, ◌&&◌, ◌||◌, true≢false}
 use mathlib.Core.List.{List, [], map}
@@ -21,8 +22,6 @@ use Rattle.cache.proofs.places.LayoutLaws.{length_place}
 use Rattle.cache.specs.order.Entries.{Referral}
 use Rattle.cache.specs.order.Memory.{referrals, domains, decode, encode, in_order}
 use Rattle.cache_lookup.specs.Lookup.{with_key}
-use Rattle.cache_lookup.specs.declared.Found.{Found}
-use Rattle.cache_lookup.specs.declared.Found.TheVariants.{At, Nothing}
 use Rattle.reply_read.specs.referral.Replies as replies
 use Rattle.reply_read.specs.referral.Replies.{read_referral}
 use Rattle.reply_read.specs.referral.Code.{ReferralInside, referral_shown, reply_of, denoted}
@@ -360,14 +359,14 @@ module _ (refs doms path : List ℕ) (size clock : ℕ) (hit : Bool) (q : Asking
 
 -- a DC reply, into the domain of the first component
 module _ (refs doms path : List ℕ) (size : ℕ) (hit : Bool) (q : Asking) (u : Using refs doms path q) (k : q.kind ≡ kind.Dc) (reply : List ℕ) {name : List ℕ} (y : name ≡ get_or (components path) 0 [])
-    {g : Found} (e : g ≡ with_key domains name (decode domains doms)) where
+    {g : Option ℕ} (e : g ≡ with_key domains name (decode domains doms)) where
   named_is : g ≡ with_key domains (get_or (components path) 0 []) (decode domains doms)
   named_is = place_named path doms y e
 
-  pub dc_there : {A : Type 0} → g ≡ Nothing → A
+  pub dc_there : {A : Type 0} → g ≡ None → A
   dc_there h = absurd (true≢false (sym (in_use_dc refs doms path q {r = domain_there path doms} k refl ∙ u.used 0 true) ∙ sym (there_gone path doms named_is h)))
 
-  pub domain_at_lem : (i : ℕ) → g ≡ At i → DomainAt i doms
+  pub domain_at_lem : (i : ℕ) → g ≡ Some i → DomainAt i doms
   domain_at_lem i h = domain_found doms u.doms_order (get_or (components path) 0 []) i (sym named_is ∙ h)
 
   module _ (f : DcsFound) (d : denoted_dcs reply f ≡ read_dcs q.size reply) where
@@ -388,7 +387,7 @@ module _ (refs doms path : List ℕ) (size : ℕ) (hit : Bool) (q : Asking) (u :
     dc_nothing h saved =
         ends_taken (core_of path size hit) q.kind path refs doms saved end.NoDc path_not_found u.refs_order u.doms_order (ap (dc_answer (caches_of refs doms) (core_of path size hit)) (dcs_read h))
 
-    module _ (h : f.answer ≡ answer.Says) (w : DcsInside reply f) (i : ℕ) (z : g ≡ At i) where
+    module _ (h : f.answer ≡ answer.Says) (w : DcsInside reply f) (i : ℕ) (z : g ≡ Some i) where
       storable : StorableDcs reply f
       storable = storable_dcs q.size reply f d w h
 
@@ -405,7 +404,7 @@ module _ (refs doms path : List ℕ) (size : ℕ) (hit : Bool) (q : Asking) (u :
             ≡ answered
         unfolding dc_answer dcs_in with_hit with_domains caches_of reply_of
         answer_is =
-            (let j : with_key domains (get_or (components path) 0 []) (decode domains doms) ≡ At i = sym named_is ∙ z in rw j refl)
+            (let j : with_key domains (get_or (components path) 0 []) (decode domains doms) ≡ Some i = sym named_is ∙ z in rw j refl)
             ∙ ap (dc_answer (caches_of refs doms) (core_of path size hit)) (dcs_read h)
 
         dcs_turn : taken_turn (core_of path size hit) q.kind (Dcs i) refs then ≡ answered

@@ -31,7 +31,7 @@ add_once-names-requires c = (
   omega (arith, c.loop-i.invariant.fit.few),
   (
     c.loop-i.invariant.fit,
-    going_name c.args.reply.now c.unit_at-n.result c.loop-i.names c.loop-i.e c.loop-i.i c.loop-i.invariant (omega arith) c.domain_at.ensures.name _ c.in-Good.is c.domain_at.ensures.inside,
+    going_name c.args.reply.now c.unit_at-n.result c.loop-i.names c.loop-i.e c.loop-i.i c.loop-i.invariant (omega arith) c.domain_at.ensures.name _ c.in-Some.is c.domain_at.ensures.inside,
   ),
 )
 
@@ -42,8 +42,8 @@ next_entry-e-requires c =
 
 pub loop-i-preserved : goal.loop-i-preserved
 loop-i-preserved c =
-    going_next c.args.reply.now c.unit_at-n.result c.loop-i.names c.loop-i.e c.loop-i.i c.loop-i.invariant (omega arith) c.in-Good.s c.add_once-names.result
-    c.next_entry-e.result (name_taken c.args.reply.now c.loop-i.e c.in-Good.s c.domain_at.ensures.name c.in-Good.is) c.add_once-names.ensures c.next_entry-e.ensures
+    going_next c.args.reply.now c.unit_at-n.result c.loop-i.names c.loop-i.e c.loop-i.i c.loop-i.invariant (omega arith) c.in-Some.s c.add_once-names.result
+    c.next_entry-e.result (name_taken c.args.reply.now c.loop-i.e c.in-Some.s c.domain_at.ensures.name c.in-Some.is) c.add_once-names.ensures c.next_entry-e.ensures
 
 pub returns : goal.returns
 returns c =

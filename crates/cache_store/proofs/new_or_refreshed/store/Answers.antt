@@ -13,9 +13,9 @@ returns-in_default c =
 
 pub refresh-requires : goal.refresh-requires
 refresh-requires c =
-    (held_there c.args.cache.now c.requires.0 _ _ (sym c.find_prefix.ensures ∙ c.in-At.is), c.requires.1)
+    (held_there c.args.cache.now c.requires.0 _ _ (sym c.find_prefix.ensures ∙ c.in-Some.is), c.requires.1)
 
 pub returns : goal.returns
 returns c =
-    stored_refreshed c.args.cache.now c.requires.0 _ _ (sym c.find_prefix.ensures ∙ c.in-At.is)
+    stored_refreshed c.args.cache.now c.requires.0 _ _ (sym c.find_prefix.ensures ∙ c.in-Some.is)
     c.args.reply.now c.args.found c.args.interlink c.args.clock c.requires.1 refl c.refresh.ensures.entry

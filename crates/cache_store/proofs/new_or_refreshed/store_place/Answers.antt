@@ -5,4 +5,4 @@ pub returns-in_default : goal.returns-in_default
 returns-in_default c = place_new _ _ _ c.find_prefix.ensures c.in_default.is c.new_place.ensures
 
 pub returns : goal.returns
-returns c = place_found _ _ _ c.find_prefix.ensures c.in-At.is
+returns c = place_found _ _ _ c.find_prefix.ensures c.in-Some.is

@@ -5,4 +5,4 @@ pub returns-in_default : goal.returns-in_default
 returns-in_default c = hint_none _ c.number_line.ensures c.in_default.is
 
 pub returns : goal.returns
-returns c = hint_some _ c.number_line.ensures c.in-Value.is
+returns c = hint_some _ c.number_line.ensures c.in-Some.is

@@ -5,4 +5,4 @@ pub returns-in_default : goal.returns-in_default
 returns-in_default c = within_none _ _ _ c.number_line.ensures c.in_default.is
 
 pub returns : goal.returns
-returns c = within_some _ _ _ c.number_line.ensures c.in-Value.is
+returns c = within_some _ _ _ c.number_line.ensures c.in-Some.is

@@ -31,6 +31,6 @@ returns c =
     record {
       value = number_known (value_at c.args.key (drop c.args.at c.args.text.now)) c.requires.good
           (c.decimal_form.ensures ∙ ap decimal_form (value_slice c.args.text.now c.args.at c.args.key c.line_end-end.ensures c.requires.keyed))
-          c.in-Value.is;
+          c.in-Some.is;
       next = ap (λ (x : ℕ). x + 1) c.line_end-end.ensures;
     }

@@ -30,12 +30,12 @@ pub slice_bounds-good_value-start : goal.slice_bounds-good_value-start
 slice_bounds-good_value-start c = omega (arith, key_fits c.args.key.now c.args.line.now c.has_key.ensures c.if-not-has_key.false)
 
 pub good_value-requires : goal.good_value-requires
-good_value-requires c = spelled_good _ c.spelled_form.ensures c.in-Units.is
+good_value-requires c = spelled_good _ c.spelled_form.ensures c.in-Some.is
 
 pub returns : goal.returns
 returns c =
     let key = c.args.key.now in
     let line = c.args.line.now in
-    let w = spelled_good _ c.spelled_form.ensures c.in-Units.is in
+    let w = spelled_good _ c.spelled_form.ensures c.in-Some.is in
     path_said key line c.has_key.ensures c.if-not-has_key.false (sym (ap is_spelled (tail_value key line (length line - length key) (omega arith))) ∙ w.0)
     (c.good_value.ensures ∙ ap (λ (x : List ℕ). good_prefix (unspelled x)) (tail_value key line (length line - length key) (omega arith)))

@@ -14,38 +14,38 @@ returns-in_default c =
 pub dc_span-requires : goal.dc_span-requires
 dc_span-requires c =
     let a = c.args in
-    let w = ended_at_lem a.r.now a.at _ (sym c.in-Ended.is ∙ c.read_text.ensures) in
+    let w = ended_at_lem a.r.now a.at _ (sym c.in-Some.is ∙ c.read_text.ensures) in
     omega (arith, w.within)
 
 pub returns-in_default-dc_span : goal.returns-in_default-dc_span
 returns-in_default-dc_span c =
     let a = c.args in
-    let w = ended_at_lem a.r.now a.at _ (sym c.in-Ended.is ∙ c.read_text.ensures) in record { name = (no_dc_lem a.r.now 0 (ap dc_of w.is ∙ text_bad a.r.now c.in_default-dc_span.is c.dc_span.ensures.name)).0; placed = (no_dc_lem a.r.now _ (ap dc_of w.is ∙ text_bad a.r.now c.in_default-dc_span.is c.dc_span.ensures.name)).1 }
+    let w = ended_at_lem a.r.now a.at _ (sym c.in-Some.is ∙ c.read_text.ensures) in record { name = (no_dc_lem a.r.now 0 (ap dc_of w.is ∙ text_bad a.r.now c.in_default-dc_span.is c.dc_span.ensures.name)).0; placed = (no_dc_lem a.r.now _ (ap dc_of w.is ∙ text_bad a.r.now c.in_default-dc_span.is c.dc_span.ensures.name)).1 }
 
 pub overflow_add-result : goal.overflow_add-result
 overflow_add-result c =
     let a = c.args in
-    let w = ended_at_lem a.r.now a.at _ (sym c.in-Ended.is ∙ c.read_text.ensures) in
+    let w = ended_at_lem a.r.now a.at _ (sym c.in-Some.is ∙ c.read_text.ensures) in
     omega (arith, w.within)
 
 pub overflow_mul-result : goal.overflow_mul-result
 overflow_mul-result c =
     let a = c.args in
-    let w = ended_at_lem a.r.now a.at _ (sym c.in-Ended.is ∙ c.read_text.ensures) in
+    let w = ended_at_lem a.r.now a.at _ (sym c.in-Some.is ∙ c.read_text.ensures) in
     omega (arith, w.within)
 
 pub overflow_add-result-2 : goal.overflow_add-result-2
 overflow_add-result-2 c =
     let a = c.args in
-    let w = ended_at_lem a.r.now a.at _ (sym c.in-Ended.is ∙ c.read_text.ensures) in
+    let w = ended_at_lem a.r.now a.at _ (sym c.in-Some.is ∙ c.read_text.ensures) in
     omega (arith, w.within, w.from_is)
 
 pub returns : goal.returns
 returns c =
     let a = c.args in
-    let w = ended_at_lem a.r.now a.at _ (sym c.in-Ended.is ∙ c.read_text.ensures) in record {
-      name = (some_dc a.r.now _ _ _ (ap dc_of w.is ∙ text_good a.r.now _ c.in-Good.is c.dc_span.ensures.name)
-          (text_inside_lem a.r.now _ c.in-Good.is c.dc_span.ensures.inside) (past_ended a.at a.r.now _ w.is)).0;
-      placed = (some_dc a.r.now _ _ _ (ap dc_of w.is ∙ text_good a.r.now _ c.in-Good.is c.dc_span.ensures.name)
-          (text_inside_lem a.r.now _ c.in-Good.is c.dc_span.ensures.inside) (past_ended a.at a.r.now _ w.is)).1;
+    let w = ended_at_lem a.r.now a.at _ (sym c.in-Some.is ∙ c.read_text.ensures) in record {
+      name = (some_dc a.r.now _ _ _ (ap dc_of w.is ∙ text_good a.r.now _ c.in-Some-dc_span.is c.dc_span.ensures.name)
+          (text_inside_lem a.r.now _ c.in-Some-dc_span.is c.dc_span.ensures.inside) (past_ended a.at a.r.now _ w.is)).0;
+      placed = (some_dc a.r.now _ _ _ (ap dc_of w.is ∙ text_good a.r.now _ c.in-Some-dc_span.is c.dc_span.ensures.name)
+          (text_inside_lem a.r.now _ c.in-Some-dc_span.is c.dc_span.ensures.inside) (past_ended a.at a.r.now _ w.is)).1;
     }

@@ -20,7 +20,7 @@ returns-in_default c =
 pub domain_span-requires : goal.domain_span-requires
 domain_span-requires c =
     let a = c.args in
-    let w = ended_at_lem a.r.now (a.e + c.read_unit-o.result) _ (sym c.in-Ended.is ∙ c.read_text.ensures) in
+    let w = ended_at_lem a.r.now (a.e + c.read_unit-o.result) _ (sym c.in-Some.is ∙ c.read_text.ensures) in
     omega (arith, w.within)
 
 pub returns : goal.returns
@@ -28,4 +28,4 @@ unfolding domain_at text_of
 returns c =
     let a = c.args in
     let t = sym (ap (λ (o : ℕ). text_from a.r.now (a.e + o)) c.read_unit-o.ensures) in
-    let w = ended_at_lem a.r.now (a.e + c.read_unit-o.result) _ (sym c.in-Ended.is ∙ c.read_text.ensures) in record { name = c.domain_span.ensures.name ∙ sym (ap domain_said (t ∙ w.is)); inside = c.domain_span.ensures.inside }
+    let w = ended_at_lem a.r.now (a.e + c.read_unit-o.result) _ (sym c.in-Some.is ∙ c.read_text.ensures) in record { name = c.domain_span.ensures.name ∙ sym (ap domain_said (t ∙ w.is)); inside = c.domain_span.ensures.inside }

@@ -41,4 +41,4 @@ pub returns : goal.returns
 returns c =
     let a = c.args in
     domain_good a.r.now a.e c.entry_fits.ensures c.if-not-entry_fits.false (ap (λ (z : Start). z.version) c.read_start-s.ensures) c.if-s-ne3.false
-    (ap (λ (z : Marks). z.flags) c.read_marks-m.ensures) c.has_flag.ensures c.if-not-has_flag.false (text_good a.r.now _ c.in-Good.is c.domain_at.ensures.name)
+    (ap (λ (z : Marks). z.flags) c.read_marks-m.ensures) c.has_flag.ensures c.if-not-has_flag.false (text_good a.r.now _ c.in-Some.is c.domain_at.ensures.name)

@@ -30,8 +30,8 @@ good_entry-requires c = (
   record {
     version_is = ap (λ (z : Start). z.version) c.read_start-s.ensures;
     kind_is = ap (λ (z : Marks). z.kind) c.read_marks-m.ensures;
-    first_is = text_good c.args.r.now _ c.in-Good.is c.prefix_of.ensures.path;
-    first_inside = text_inside_lem c.args.r.now _ c.in-Good.is c.prefix_of.ensures.inside;
+    first_is = text_good c.args.r.now _ c.in-Some.is c.prefix_of.ensures.path;
+    first_inside = text_inside_lem c.args.r.now _ c.in-Some.is c.prefix_of.ensures.inside;
   },
   (omega arith, omega arith),
 )

@@ -23,11 +23,11 @@ returns-in_default c =
 
 pub same_spans-requires : goal.same_spans-requires
 same_spans-requires c =
-    (text_inside_lem c.args.r.now _ c.in-Good.is c.prefix_of.ensures.inside, c.requires.0.first_inside)
+    (text_inside_lem c.args.r.now _ c.in-Some.is c.prefix_of.ensures.inside, c.requires.0.first_inside)
 
 pub returns-then-not-same_spans : goal.returns-then-not-same_spans
 returns-then-not-same_spans c =
-    entry_unlike c.args.r.now c.args.e (text_good c.args.r.now _ c.in-Good.is c.prefix_of.ensures.path) c.requires.0.first_is
+    entry_unlike c.args.r.now c.args.e (text_good c.args.r.now _ c.in-Some.is c.prefix_of.ensures.path) c.requires.0.first_is
     c.same_spans.ensures c.if-not-same_spans.true
 
 pub target_of-requires : goal.target_of-requires
@@ -43,6 +43,6 @@ returns-in_default-target_of c =
 
 pub returns : goal.returns
 returns c =
-    entry_good c.args.r.now c.args.e (text_good c.args.r.now _ c.in-Good.is c.prefix_of.ensures.path) c.requires.0.first_is
+    entry_good c.args.r.now c.args.e (text_good c.args.r.now _ c.in-Some.is c.prefix_of.ensures.path) c.requires.0.first_is
     c.good_fields.ensures c.if-not-good_fields.false c.same_spans.ensures c.if-not-same_spans.false
-    (text_good c.args.r.now _ c.in-Good-target_of.is c.target_of.ensures.path)
+    (text_good c.args.r.now _ c.in-Some-target_of.is c.target_of.ensures.path)

@@ -13,10 +13,10 @@ returns-in_default c =
 pub path_span-requires : goal.path_span-requires
 path_span-requires c =
     let a = c.args in
-    let w = ended_at_lem a.r.now a.at _ (sym c.in-Ended.is ∙ c.read_text.ensures) in
+    let w = ended_at_lem a.r.now a.at _ (sym c.in-Some.is ∙ c.read_text.ensures) in
     omega (arith, w.within)
 
 pub returns : goal.returns
 returns c =
     let a = c.args in
-    let w = ended_at_lem a.r.now a.at _ (sym c.in-Ended.is ∙ c.read_text.ensures) in record { path = c.path_span.ensures.path ∙ sym (ap path_of w.is); inside = c.path_span.ensures.inside }
+    let w = ended_at_lem a.r.now a.at _ (sym c.in-Some.is ∙ c.read_text.ensures) in record { path = c.path_span.ensures.path ∙ sym (ap path_of w.is); inside = c.path_span.ensures.inside }

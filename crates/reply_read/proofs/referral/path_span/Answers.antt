@@ -1,6 +1,6 @@
 -- The path in a text: its body is found by its ends and its components are counted in one scan.
+use Rattle.std.specs.Prelude.{Some}
 use mathlib.Core.Path.{sym, ap, ◌∙◌}
-use mathlib.Core.Option.{some}
 use Prim.Native.Nat.{◌-◌}
 use native.Mathlib.Omega.{arith}
 use Rattle.reply_bytes.specs.texts.Code.{spanned, part_of}
@@ -46,4 +46,4 @@ returns c =
     let w = body_within (spanned c.args.r.now c.args.s) c.lead-from.result c.trail-to.result 0 c.lead-from.ensures c.trail-to.ensures in
     let l = length_spanned c.args.r.now c.args.s in
     let e = ap (λ (x : Span). good_count 0 (spanned c.args.r.now x)) c.part.ensures ∙ ap (good_count 0) (part_spanned c.args.r.now c.args.s c.lead-from.result c.trail-to.result (omega arith) (omega arith)) in
-    let f = ap (spanned c.args.r.now) c.part-2.ensures ∙ part_spanned c.args.r.now c.args.s (c.lead-from.result - 1) c.trail-to.result (omega arith) (omega arith) in record { path = (good_text_lem c.args.r.now c.part-2.result ((λ i. some (f i)) ∙ path_found (spanned c.args.r.now c.args.s) c.lead-from.result c.trail-to.result c.good_count-n.result c.lead-from.ensures c.trail-to.ensures (c.good_count-n.ensures ∙ e) c.if-from-eq0.false (omega arith) (omega arith)) (inside_is c.args.r.now c.part-2.result (part_of c.args.s (c.lead-from.result - 1) c.trail-to.result) c.part-2.ensures (omega arith))).0; inside = (good_text_lem c.args.r.now c.part-2.result ((λ i. some (f i)) ∙ path_found (spanned c.args.r.now c.args.s) c.lead-from.result c.trail-to.result c.good_count-n.result c.lead-from.ensures c.trail-to.ensures (c.good_count-n.ensures ∙ e) c.if-from-eq0.false (omega arith) (omega arith)) (inside_is c.args.r.now c.part-2.result (part_of c.args.s (c.lead-from.result - 1) c.trail-to.result) c.part-2.ensures (omega arith))).1 }
+    let f = ap (spanned c.args.r.now) c.part-2.ensures ∙ part_spanned c.args.r.now c.args.s (c.lead-from.result - 1) c.trail-to.result (omega arith) (omega arith) in record { path = (good_text_lem c.args.r.now c.part-2.result ((λ i. Some (f i)) ∙ path_found (spanned c.args.r.now c.args.s) c.lead-from.result c.trail-to.result c.good_count-n.result c.lead-from.ensures c.trail-to.ensures (c.good_count-n.ensures ∙ e) c.if-from-eq0.false (omega arith) (omega arith)) (inside_is c.args.r.now c.part-2.result (part_of c.args.s (c.lead-from.result - 1) c.trail-to.result) c.part-2.ensures (omega arith))).0; inside = (good_text_lem c.args.r.now c.part-2.result ((λ i. Some (f i)) ∙ path_found (spanned c.args.r.now c.args.s) c.lead-from.result c.trail-to.result c.good_count-n.result c.lead-from.ensures c.trail-to.ensures (c.good_count-n.ensures ∙ e) c.if-from-eq0.false (omega arith) (omega arith)) (inside_is c.args.r.now c.part-2.result (part_of c.args.s (c.lead-from.result - 1) c.trail-to.result) c.part-2.ensures (omega arith))).1 }

@@ -74,7 +74,7 @@ returns-in_default c =
     }
 
 pub span_matches-requires : goal.span_matches-requires
-span_matches-requires c = text_inside_lem c.args.r.now _ c.in-Good.is c.prefix_of.ensures.inside
+span_matches-requires c = text_inside_lem c.args.r.now _ c.in-Some.is c.prefix_of.ensures.inside
 
 pub returns-then-not-span_matches : goal.returns-then-not-span_matches
 unfolding read_referral referral_count
@@ -85,7 +85,7 @@ returns-then-not-span_matches c =
           ∙ read_bad a.size r (every (good_entry r) (entries r) && matches_read (prefix_at r 8) a.asked.now) (referral_in r) (omega arith) (omega arith)
           (ap (λ (z : Header). z.count) c.read_header-h.ensures) c.if-h-eq0.false
           (and_no_right (every (good_entry r) (entries r))
-          (read_matches a.asked.now (text_good r _ c.in-Good.is c.prefix_of.ensures.path) c.span_matches.ensures ∙ c.if-not-span_matches.true));
+          (read_matches a.asked.now (text_good r _ c.in-Some.is c.prefix_of.ensures.path) c.span_matches.ensures ∙ c.if-not-span_matches.true));
       within = none_within r Malformed c.no_referral-then-not-span_matches.ensures;
     }
 
@@ -100,8 +100,8 @@ referral_in-requires c =
       short = omega arith;
       long = good_long r (omega arith) (omega arith) g;
       good = g;
-      prefix_is = text_good r _ c.in-Good.is c.prefix_of.ensures.path;
-      prefix_inside = text_inside_lem r _ c.in-Good.is c.prefix_of.ensures.inside;
+      prefix_is = text_good r _ c.in-Some.is c.prefix_of.ensures.path;
+      prefix_inside = text_inside_lem r _ c.in-Some.is c.prefix_of.ensures.inside;
     }
 
 pub returns : goal.returns
@@ -113,6 +113,6 @@ returns c =
           ∙ read_good a.size r (every (good_entry r) (entries r) && matches_read (prefix_at r 8) a.asked.now) (referral_in r) (omega arith) (omega arith)
           (ap (λ (z : Header). z.count) c.read_header-h.ensures) c.if-h-eq0.false
           (and_both (sym c.good_entries.ensures ∙ c.if-not-good_entries.false)
-          (read_matches a.asked.now (text_good r _ c.in-Good.is c.prefix_of.ensures.path) c.span_matches.ensures ∙ search rules));
+          (read_matches a.asked.now (text_good r _ c.in-Some.is c.prefix_of.ensures.path) c.span_matches.ensures ∙ search rules));
       within = c.referral_in.ensures.within;
     }

@@ -46,8 +46,8 @@ loop-i-preserved c =
     let r = c.args.r.now in
     let n = c.read_header-h.result.count in
     let l = c.loop-i in
-    let path = c.in-Good.path in
-    (omega arith, (length-set l.kept l.i _ ∙ l.invariant.1.0, (left_next r n l.i l.e (omega arith) l.invariant.1.1.0 c.next_entry-e.ensures, (target_next n l.i r l.e l.kept path c.opens_at-opens.result l.invariant.1.1.1.0 (omega (arith, l.invariant.1.0)) (omega arith) (omega arith) c.next_entry-e.ensures (text_good r path c.in-Good.is c.target_of.ensures.path) c.opens_at-opens.ensures, kept_next r l.kept l.i path c.opens_at-opens.result l.invariant.1.1.1.1 (text_inside_lem r path c.in-Good.is c.target_of.ensures.inside)))))
+    let path = c.in-Some.path in
+    (omega arith, (length-set l.kept l.i _ ∙ l.invariant.1.0, (left_next r n l.i l.e (omega arith) l.invariant.1.1.0 c.next_entry-e.ensures, (target_next n l.i r l.e l.kept path c.opens_at-opens.result l.invariant.1.1.1.0 (omega (arith, l.invariant.1.0)) (omega arith) (omega arith) c.next_entry-e.ensures (text_good r path c.in-Some.is c.target_of.ensures.path) c.opens_at-opens.ensures, kept_next r l.kept l.i path c.opens_at-opens.result l.invariant.1.1.1.1 (text_inside_lem r path c.in-Some.is c.target_of.ensures.inside)))))
 
 pub returns : goal.returns
 unfolding referral_count

@@ -9,4 +9,4 @@ returns-in_default c = text_refused c.args.s (λ n. after Boot (with_boot n c.ar
 
 pub returns : goal.returns
 unfolding takes_boot with_boot
-returns c = text_taken_lem c.args.s (λ n. after Boot (with_boot n c.args.s)) c.text_line.ensures c.in-Units.is c.with_last-2.ensures
+returns c = text_taken_lem c.args.s (λ n. after Boot (with_boot n c.args.s)) c.text_line.ensures c.in-Some.is c.with_last-2.ensures

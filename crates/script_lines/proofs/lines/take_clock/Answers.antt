@@ -8,4 +8,4 @@ returns-in_default c = number_refused c.args.s (λ n. after c.args.last (with_cl
 
 pub returns : goal.returns
 unfolding takes_clock with_clock
-returns c = number_taken c.args.s (λ n. after c.args.last (with_clock n c.args.s)) c.number_line.ensures c.in-Value.is c.with_last-2.ensures
+returns c = number_taken c.args.s (λ n. after c.args.last (with_clock n c.args.s)) c.number_line.ensures c.in-Some.is c.with_last-2.ensures

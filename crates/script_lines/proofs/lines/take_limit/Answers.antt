@@ -9,4 +9,4 @@ returns-in_default c = number_refused c.args.s (λ n. after Limit (with_limit n 
 
 pub returns : goal.returns
 unfolding takes_limit with_limit
-returns c = number_taken c.args.s (λ n. after Limit (with_limit n c.args.s)) c.number_line.ensures c.in-Value.is c.with_last-2.ensures
+returns c = number_taken c.args.s (λ n. after Limit (with_limit n c.args.s)) c.number_line.ensures c.in-Some.is c.with_last-2.ensures

@@ -9,4 +9,4 @@ returns-in_default c = text_refused c.args.s (λ n. after Path (with_path_units 
 
 pub returns : goal.returns
 unfolding takes_path with_path_units
-returns c = text_taken_lem c.args.s (λ n. after Path (with_path_units n c.args.s)) c.text_line.ensures c.in-Units.is c.with_last-2.ensures
+returns c = text_taken_lem c.args.s (λ n. after Path (with_path_units n c.args.s)) c.text_line.ensures c.in-Some.is c.with_last-2.ensures

@@ -9,4 +9,4 @@ returns-in_default c = number_refused c.args.s (λ n. after Size (with_size n c.
 
 pub returns : goal.returns
 unfolding takes_size with_size
-returns c = number_taken c.args.s (λ n. after Size (with_size n c.args.s)) c.number_line.ensures c.in-Value.is c.with_last-2.ensures
+returns c = number_taken c.args.s (λ n. after Size (with_size n c.args.s)) c.number_line.ensures c.in-Some.is c.with_last-2.ensures

@@ -9,4 +9,4 @@ returns-in_default c = number_refused c.args.s (λ n. after Status (with_status 
 
 pub returns : goal.returns
 unfolding takes_status with_status
-returns c = number_taken c.args.s (λ n. after Status (with_status n c.args.s)) c.status_of.ensures c.in-Value.is c.with_last-2.ensures
+returns c = number_taken c.args.s (λ n. after Status (with_status n c.args.s)) c.status_of.ensures c.in-Some.is c.with_last-2.ensures

@@ -23,7 +23,7 @@ pub returns-in_default : goal.returns-in_default
 returns-in_default c = text_bad c.args.key.now c.args.line.now c.args.out.now (c.spelled_form.ensures ∙ ap spelled_form (tail_value c.args.key.now c.args.line.now (length c.args.line.now - length c.args.key.now) (omega arith))) c.in_default.is
 
 pub returns-then-out-n : goal.returns-then-out-n
-returns-then-out-n c = text_long c.args.key.now c.args.line.now c.args.out.now ((spelled_good _ c.spelled_form.ensures c.in-Units.is).1 ∙ ap (λ (x : List ℕ). length (unspelled x)) (tail_value c.args.key.now c.args.line.now (length c.args.line.now - length c.args.key.now) (omega arith))) c.if-out-n.true
+returns-then-out-n c = text_long c.args.key.now c.args.line.now c.args.out.now ((spelled_good _ c.spelled_form.ensures c.in-Some.is).1 ∙ ap (λ (x : List ℕ). length (unspelled x)) (tail_value c.args.key.now c.args.line.now (length c.args.line.now - length c.args.key.now) (omega arith))) c.if-out-n.true
 
 pub slice_bounds-unspell-count : goal.slice_bounds-unspell-count
 slice_bounds-unspell-count c = omega (arith, (key_fits c.args.key.now c.args.line.now c.has_key.ensures c.if-not-has_key.false))
@@ -32,7 +32,7 @@ pub slice_bounds-unspell-start : goal.slice_bounds-unspell-start
 slice_bounds-unspell-start c = omega (arith, (key_fits c.args.key.now c.args.line.now c.has_key.ensures c.if-not-has_key.false))
 
 pub unspell-requires : goal.unspell-requires
-unspell-requires c = ((spelled_good _ c.spelled_form.ensures c.in-Units.is).0, omega (arith, (spelled_good _ c.spelled_form.ensures c.in-Units.is).1, c.if-out-n.false))
+unspell-requires c = ((spelled_good _ c.spelled_form.ensures c.in-Some.is).0, omega (arith, (spelled_good _ c.spelled_form.ensures c.in-Some.is).1, c.if-out-n.false))
 
 pub returns : goal.returns
-returns c = text_said_lem c.args.key.now c.args.line.now c.args.out.now c.has_key.ensures c.if-not-has_key.false (sym (ap is_spelled (tail_value c.args.key.now c.args.line.now (length c.args.line.now - length c.args.key.now) (omega arith))) ∙ (spelled_good _ c.spelled_form.ensures c.in-Units.is).0) ((spelled_good _ c.spelled_form.ensures c.in-Units.is).1 ∙ ap (λ (x : List ℕ). length (unspelled x)) (tail_value c.args.key.now c.args.line.now (length c.args.line.now - length c.args.key.now) (omega arith))) c.if-out-n.false (c.unspell.ensures.memory ∙ ap (λ (x : List ℕ). pasted c.args.out.now 0 (unspelled x)) (tail_value c.args.key.now c.args.line.now (length c.args.line.now - length c.args.key.now) (omega arith)))
+returns c = text_said_lem c.args.key.now c.args.line.now c.args.out.now c.has_key.ensures c.if-not-has_key.false (sym (ap is_spelled (tail_value c.args.key.now c.args.line.now (length c.args.line.now - length c.args.key.now) (omega arith))) ∙ (spelled_good _ c.spelled_form.ensures c.in-Some.is).0) ((spelled_good _ c.spelled_form.ensures c.in-Some.is).1 ∙ ap (λ (x : List ℕ). length (unspelled x)) (tail_value c.args.key.now c.args.line.now (length c.args.line.now - length c.args.key.now) (omega arith))) c.if-out-n.false (c.unspell.ensures.memory ∙ ap (λ (x : List ℕ). pasted c.args.out.now 0 (unspelled x)) (tail_value c.args.key.now c.args.line.now (length c.args.line.now - length c.args.key.now) (omega arith)))

@@ -5,4 +5,4 @@ pub returns-in_default : goal.returns-in_default
 returns-in_default c = found_none _ _ c.find.ensures c.in_default.is
 
 pub returns : goal.returns
-returns c = found_at _ _ _ c.find.ensures c.in-At.is
+returns c = found_at _ _ _ c.find.ensures c.in-Some.is

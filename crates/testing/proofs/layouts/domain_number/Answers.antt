@@ -18,16 +18,16 @@ pub returns-then-k-eq0 : goal.returns-then-k-eq0
 unfolding span_of
 returns-then-k-eq0 c =
     let a = c.args in
-    record { span = c.in-Good.s; is = sym (ap (domain_at a.r.now) c.entry_at-e.ensures.start) ∙ text_good a.r.now c.in-Good.s c.in-Good.is c.domain_at.ensures.name; number = number_at (span_of c.in-Good.s) a.k 0 c.if-k-eq0.true refl }
+    record { span = c.in-Some.s; is = sym (ap (domain_at a.r.now) c.entry_at-e.ensures.start) ∙ text_good a.r.now c.in-Some.s c.in-Some.is c.domain_at.ensures.name; number = number_at (span_of c.in-Some.s) a.k 0 c.if-k-eq0.true refl }
 
 pub returns-then-k-eq1 : goal.returns-then-k-eq1
 unfolding span_of
 returns-then-k-eq1 c =
     let a = c.args in
-    record { span = c.in-Good.s; is = sym (ap (domain_at a.r.now) c.entry_at-e.ensures.start) ∙ text_good a.r.now c.in-Good.s c.in-Good.is c.domain_at.ensures.name; number = number_at (span_of c.in-Good.s) a.k 1 c.if-k-eq1.true refl }
+    record { span = c.in-Some.s; is = sym (ap (domain_at a.r.now) c.entry_at-e.ensures.start) ∙ text_good a.r.now c.in-Some.s c.in-Some.is c.domain_at.ensures.name; number = number_at (span_of c.in-Some.s) a.k 1 c.if-k-eq1.true refl }
 
 pub returns : goal.returns
 unfolding span_of
 returns c =
     let a = c.args in
-    record { span = c.in-Good.s; is = sym (ap (domain_at a.r.now) c.entry_at-e.ensures.start) ∙ text_good a.r.now c.in-Good.s c.in-Good.is c.domain_at.ensures.name; number = number_past (span_of c.in-Good.s) a.k (omega arith) }
+    record { span = c.in-Some.s; is = sym (ap (domain_at a.r.now) c.entry_at-e.ensures.start) ∙ text_good a.r.now c.in-Some.s c.in-Some.is c.domain_at.ensures.name; number = number_past (span_of c.in-Some.s) a.k (omega arith) }

@@ -9,13 +9,13 @@ pub returns-in_default : goal.returns-in_default
 returns-in_default c = gone_left c.requires c.place.ensures c.args.status c.in_default.is c.clear_units.ensures c.rest.ensures
 
 pub set_target_hint-requires : goal.set_target_hint-requires
-set_target_hint-requires c = (c.requires.order, (done_fits c.requires c.place.ensures _ c.in-At.is, done_party c.requires c.place.ensures _ c.in-At.is))
+set_target_hint-requires c = (c.requires.order, (done_fits c.requires c.place.ensures _ c.in-Some.is, done_party c.requires c.place.ensures _ c.in-Some.is))
 
 pub returns-then-status-ne-ERROR : goal.returns-then-status-ne-ERROR
-returns-then-status-ne-ERROR c = done_left c.requires c.place.ensures _ c.in-At.is c.args.status c.if-status-ne-ERROR.true c.set_target_hint.ensures
+returns-then-status-ne-ERROR c = done_left c.requires c.place.ensures _ c.in-Some.is c.args.status c.if-status-ne-ERROR.true c.set_target_hint.ensures
 
 pub io_fails-requires : goal.io_fails-requires
-io_fails-requires c = failing c.requires c.place.ensures _ c.in-At.is c.clear_units-2.ensures
+io_fails-requires c = failing c.requires c.place.ensures _ c.in-Some.is c.clear_units-2.ensures
 
 pub returns : goal.returns
-returns c = fails_left c.requires c.place.ensures _ c.in-At.is c.args.status (search rules) c.clear_units-2.ensures c.io_fails.ensures
+returns c = fails_left c.requires c.place.ensures _ c.in-Some.is c.args.status (search rules) c.clear_units-2.ensures c.io_fails.ensures

@@ -6,10 +6,10 @@ pub returns-in_default : goal.returns-in_default
 returns-in_default c = dc_gone _ _ _ _ c.host.ensures c.find_domain.ensures c.in_default.is
 
 pub dc-requires : goal.dc-requires
-dc-requires c = dc_fits _ _ _ [] c.host.ensures c.find_domain.ensures _ c.in-At.is c.requires.1
+dc-requires c = dc_fits _ _ _ [] c.host.ensures c.find_domain.ensures _ c.in-Some.is c.requires.1
 
 pub put-requires : goal.put-requires
-put-requires c = dc_short _ _ _ [] c.host.ensures c.find_domain.ensures _ c.in-At.is c.requires.1 c.dc.ensures
+put-requires c = dc_short _ _ _ [] c.host.ensures c.find_domain.ensures _ c.in-Some.is c.requires.1 c.dc.ensures
 
 pub returns : goal.returns
-returns c = dc_put _ _ _ _ c.host.ensures c.find_domain.ensures _ c.in-At.is c.dc.ensures c.put.ensures
+returns c = dc_put _ _ _ _ c.host.ensures c.find_domain.ensures _ c.in-Some.is c.dc.ensures c.put.ensures

@@ -53,13 +53,13 @@ pub interlink-returns-in_default : goal.interlink-returns-in_default
 interlink-returns-in_default t c = long_halts c.args.refs.now c.args.texts.now c.args.n c.requires.0 c.requires.1 c.args.doms.now c.args.clock c.if-n-eq0.false c.step11.ensures.answer c.step11.ensures.texts c.in_default.is c.case_at.ensures
 
 pub interlink-point-requires : goal.interlink-point-requires
-interlink-point-requires t c = (look_few, (first_few, (len_few c.args.refs.now c.args.texts.now c.args.n c.requires.0 c.requires.1 c.args.doms.now c.args.clock c.if-n-eq0.false c.step11.ensures.answer c.step11.ensures.texts _ c.in-Units.is, fewer c.args.n c.requires.0.counted)))
+interlink-point-requires t c = (look_few, (first_few, (len_few c.args.refs.now c.args.texts.now c.args.n c.requires.0 c.requires.1 c.args.doms.now c.args.clock c.if-n-eq0.false c.step11.ensures.answer c.step11.ensures.texts _ c.in-Some.is, fewer c.args.n c.requires.0.counted)))
 
 pub interlink-lookup-requires : goal.interlink-lookup-requires
-interlink-lookup-requires t c = (moves_fall c.args.n _ c.decreases c.if-n-eq0.false c.point.ensures.its_left, (next_point c.args.refs.now c.args.texts.now c.args.n c.requires.0 c.requires.1 c.args.doms.now c.args.clock c.if-n-eq0.false c.step11.ensures.answer c.step11.ensures.texts _ c.in-Units.is c.had_hit.ensures c.point.ensures, c.point.ensures.its_case))
+interlink-lookup-requires t c = (moves_fall c.args.n _ c.decreases c.if-n-eq0.false c.point.ensures.its_left, (next_point c.args.refs.now c.args.texts.now c.args.n c.requires.0 c.requires.1 c.args.doms.now c.args.clock c.if-n-eq0.false c.step11.ensures.answer c.step11.ensures.texts _ c.in-Some.is c.had_hit.ensures c.point.ensures, c.point.ensures.its_case))
 
 pub interlink-returns : goal.interlink-returns
-interlink-returns t c = next_halts c.args.refs.now c.args.texts.now c.args.n c.requires.0 c.requires.1 c.args.doms.now c.args.clock c.if-n-eq0.false c.step11.ensures.answer c.step11.ensures.texts _ c.in-Units.is c.had_hit.ensures c.point.ensures c.lookup.ensures
+interlink-returns t c = next_halts c.args.refs.now c.args.texts.now c.args.n c.requires.0 c.requires.1 c.args.doms.now c.args.clock c.if-n-eq0.false c.step11.ensures.answer c.step11.ensures.texts _ c.in-Some.is c.had_hit.ensures c.point.ensures c.lookup.ensures
 
 pub link-step9-requires : goal.link-step9-requires
 link-step9-requires t c = (c.requires.0, c.if-n-eq-DUE9.true)

@@ -1,8 +1,8 @@
 use Rattle.walk_steps.proofs.cycle.PointLaws.{found_at, found_none}
 use Rattle.walk_steps.proofs.cycle.number.Goals as goal
 
-pub returns-in-At : goal.returns-in-At
-returns-in-At c = found_at _ (c.requires _ c.in-At.is) c.in-At.is
+pub returns-in-Some : goal.returns-in-Some
+returns-in-Some c = found_at _ (c.requires _ c.in-Some.is) c.in-Some.is
 
-pub returns-in-Nothing : goal.returns-in-Nothing
-returns-in-Nothing c = found_none c.in-Nothing.is
+pub returns-in-None : goal.returns-in-None
+returns-in-None c = found_none c.in-None.is

@@ -12,7 +12,7 @@ pub returns-in_default : goal.returns-in_default
 returns-in_default c = record { answer = step11_answer c.args.texts.now _ (due_stands c.args.refs.now c.args.texts.now c.args.n c.requires.0 c.requires.1 c.units.ensures) (replaced_at_lem c.args.refs.now c.args.texts.now c.args.n c.place-i.ensures c.units.ensures c.target_hint-hint.ensures) c.put_target.ensures.answer c.put_target.ensures.texts _ c.in_default.is; texts = step11_long c.args.texts.now _ (due_stands c.args.refs.now c.args.texts.now c.args.n c.requires.0 c.requires.1 c.units.ensures) (replaced_at_lem c.args.refs.now c.args.texts.now c.args.n c.place-i.ensures c.units.ensures c.target_hint-hint.ensures) c.put_target.ensures.answer c.put_target.ensures.texts c.in_default.is }
 
 pub take_tried-requires : goal.take_tried-requires
-take_tried-requires c = step11_room c.args.texts.now _ (due_stands c.args.refs.now c.args.texts.now c.args.n c.requires.0 c.requires.1 c.units.ensures) (replaced_at_lem c.args.refs.now c.args.texts.now c.args.n c.place-i.ensures c.units.ensures c.target_hint-hint.ensures) c.put_target.ensures.answer c.put_target.ensures.texts _ c.in-Units.is
+take_tried-requires c = step11_room c.args.texts.now _ (due_stands c.args.refs.now c.args.texts.now c.args.n c.requires.0 c.requires.1 c.units.ensures) (replaced_at_lem c.args.refs.now c.args.texts.now c.args.n c.place-i.ensures c.units.ensures c.target_hint-hint.ensures) c.put_target.ensures.answer c.put_target.ensures.texts _ c.in-Some.is
 
 pub returns : goal.returns
-returns c = record { answer = step11_answer c.args.texts.now _ (due_stands c.args.refs.now c.args.texts.now c.args.n c.requires.0 c.requires.1 c.units.ensures) (replaced_at_lem c.args.refs.now c.args.texts.now c.args.n c.place-i.ensures c.units.ensures c.target_hint-hint.ensures) c.put_target.ensures.answer c.put_target.ensures.texts _ c.in-Units.is; texts = step11_moved c.args.texts.now _ (due_stands c.args.refs.now c.args.texts.now c.args.n c.requires.0 c.requires.1 c.units.ensures) (replaced_at_lem c.args.refs.now c.args.texts.now c.args.n c.place-i.ensures c.units.ensures c.target_hint-hint.ensures) c.put_target.ensures.answer c.put_target.ensures.texts _ c.in-Units.is c.take_tried.ensures }
+returns c = record { answer = step11_answer c.args.texts.now _ (due_stands c.args.refs.now c.args.texts.now c.args.n c.requires.0 c.requires.1 c.units.ensures) (replaced_at_lem c.args.refs.now c.args.texts.now c.args.n c.place-i.ensures c.units.ensures c.target_hint-hint.ensures) c.put_target.ensures.answer c.put_target.ensures.texts _ c.in-Some.is; texts = step11_moved c.args.texts.now _ (due_stands c.args.refs.now c.args.texts.now c.args.n c.requires.0 c.requires.1 c.units.ensures) (replaced_at_lem c.args.refs.now c.args.texts.now c.args.n c.place-i.ensures c.units.ensures c.target_hint-hint.ensures) c.put_target.ensures.answer c.put_target.ensures.texts _ c.in-Some.is c.take_tried.ensures }

@@ -14,7 +14,7 @@ pub overflow_cast-q : goal.overflow_cast-q
 overflow_cast-q c = omega (arith, prefix_inside c.args.refs.now c.args.texts.now _ c.args.i c.requires.0 c.requires.1.0 c.prefix-k.ensures, c.requires.0.few)
 
 pub overflow_cast-result-2 : goal.overflow_cast-result-2
-overflow_cast-result-2 c = omega (arith, (written_units _ _ _ (sym c.put_target.ensures.answer ∙ c.in-Units.is)).0, (written_units _ _ _ (sym c.put_target.ensures.answer ∙ c.in-Units.is)).1)
+overflow_cast-result-2 c = omega (arith, (written_units _ _ _ (sym c.put_target.ensures.answer ∙ c.in-Some.is)).0, (written_units _ _ _ (sym c.put_target.ensures.answer ∙ c.in-Some.is)).1)
 
 pub returns : goal.returns
-returns c = step8_put c.args.refs.now c.args.texts.now _ c.args.i c.requires.0 c.requires.1.0 c.args.party c.args.left c.args.began c.args.hit c.if-left-eq0.false c.put_target.ensures.answer c.put_target.ensures.texts _ c.in-Units.is c.prefix-k.ensures
+returns c = step8_put c.args.refs.now c.args.texts.now _ c.args.i c.requires.0 c.requires.1.0 c.args.party c.args.left c.args.began c.args.hit c.if-left-eq0.false c.put_target.ensures.answer c.put_target.ensures.texts _ c.in-Some.is c.prefix-k.ensures

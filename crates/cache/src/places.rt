@@ -1,8 +1,8 @@
 // Lent memory as places of 2,336 units, one layout for both caches (specs/places/Layout.antt): reading and writing one place.
-ghost use Rattle.std.specs.Prelude.{◌≡◌, ◌∷◌, ◌++◌, ◌+◌, ◌-◌, ◌/◌, ◌≤◌, ◌<◌, length};
+ghost use Rattle.std.specs.Prelude.{◌≡◌, ◌∷◌, ◌++◌, ◌+◌, ◌-◌, ◌≤◌, ◌<◌, length};
 ghost use Rattle.laws.specs.Lists.{part};
 ghost use Rattle.cache.specs.places.Layout.{place_count, place_at, unit_at, wide_at, room_at, text_at, list_count, blank, wide_units, room_units, place_units};
-ghost use Rattle.cache.specs.places.Code.{changed, zeros, tidy_rooms, tidy, put_unit, put_wide, put_settings, key_only};
+ghost use Rattle.cache.specs.places.Code.{changed, zeros, tidy_room, tidy_rooms, tidy, put_unit, put_wide, put_settings, key_only};
 
 // The texts of a place. Their lengths are the first units of its head.
 const TEXTS: usize = 9;
@@ -36,6 +36,7 @@ pub const ROOM: usize = unc::path_form::PATH_UNITS;
 pub const PLACE: usize = HEAD + TEXTS * ROOM;
 
 // Unit j of place i.
+#[tactic(auto, using(crate::proofs::places::LayoutLaws::place_unit))]
 pub fn unit(cache: &[u16], i: usize, j: usize) -> u16
     requires { (i < place_count cache.now) × (j < place_units) }
     ensures { result ≡ unit_at j (place_at i cache.now) }
@@ -44,12 +45,13 @@ pub fn unit(cache: &[u16], i: usize, j: usize) -> u16
 }
 
 // The number of 32 bits at units j and j + 1 of place i.
+#[tactic(auto, using(crate::proofs::places::LayoutLaws::place_wide))]
 pub fn wide(cache: &[u16], i: usize, j: usize) -> u32
     requires { (i < place_count cache.now) × (j + 1 < place_units) }
     ensures { result ≡ wide_at j (place_at i cache.now) }
 {
     let at = i * PLACE + j;
-    cache[at] as u32 + 65536 * cache[at + 1] as u32
+    u32::from(cache[at]) + 65536 * u32::from(cache[at + 1])
 }
 
 // Text j of place i, as it lies in the cache.
@@ -58,14 +60,9 @@ pub fn text(cache: &[u16], i: usize, j: usize) -> &[u16]
     ensures { result.now ≡ text_at j (place_at i cache.now) }
 {
     let at = i * PLACE;
-    let units = cache[at + j] as usize;
+    let units = usize::from(cache[at + j]);
     let start = at + HEAD + j * ROOM;
-    if units < ROOM {
-        let end = start + units;
-        return &cache[start..end];
-    }
-    let end = start + ROOM;
-    &cache[start..end]
+    &cache[start..start + units.min(ROOM)]
 }
 
 // The room of text j of place i.
@@ -74,8 +71,7 @@ pub fn room(cache: &[u16], i: usize, j: usize) -> &[u16]
     ensures { (result.now ≡ room_at j (place_at i cache.now)) × (length result.now ≡ room_units) }
 {
     let start = i * PLACE + HEAD + j * ROOM;
-    let end = start + ROOM;
-    &cache[start..end]
+    &cache[start..start + ROOM]
 }
 
 // How many texts the list of place i has.
@@ -83,11 +79,7 @@ pub fn list_count(cache: &[u16], i: usize) -> usize
     requires { i < place_count cache.now }
     ensures { result ≡ list_count (place_at i cache.now) }
 {
-    let count = unit(cache, i, COUNT) as usize;
-    if count < 8 {
-        return count;
-    }
-    8
+    usize::from(unit(cache, i, COUNT).min(8))
 }
 
 pub fn put_unit(cache: &mut [u16], i: usize, j: usize, v: u16)
@@ -142,8 +134,7 @@ pub fn save_place(cache: &[u16], i: usize, saved: &mut [u16])
     ensures { saved.new ≡ place_at i cache.now }
 {
     let at = i * PLACE;
-    let end = at + PLACE;
-    memory::copy_units(saved, 0, &cache[at..end]);
+    saved.copy_from_slice(&cache[at..at + PLACE]);
 }
 
 pub fn put_place(cache: &mut [u16], i: usize, saved: &[u16])
@@ -153,57 +144,42 @@ pub fn put_place(cache: &mut [u16], i: usize, saved: &[u16])
     memory::copy_units(cache, i * PLACE, saved);
 }
 
-// Whether every unit from `from` up to `to` is zero. The loop has no exit, so that it runs over many units at a time.
+// Whether every unit from `from` up to `to` is zero. The fold has no exit, so that it runs over many units at a time.
 pub fn all_zero(s: &[u16], from: usize, to: usize) -> bool
     requires { (from ≤ to) × (to ≤ length s.now) }
     ensures { result ≡ zeros (part from (to - from) s.now) }
 {
-    let mut any: u16 = 0;
-    let mut i = from;
-    while i < to {
-        any = any | s[i];
-        i += 1;
-    }
-    any == 0
+    s[from..to].iter().fold(0, |any, unit| any | *unit) == 0
 }
 
-// Whether nothing stands in the nine rooms of a place past their texts.
+// Whether nothing stands in room j of a place past its text.
+#[tactic(auto, using(crate::proofs::places::TidyLaws::room_tested))]
+fn room_tidy(piece: &[u16], j: usize) -> bool
+    requires { (length piece.now ≡ place_units) × (j < 9) }
+    ensures { result ≡ tidy_room piece.now j }
+{
+    let units = usize::from(piece[j]);
+    let start = HEAD + j * ROOM;
+    units <= ROOM && all_zero(piece, start + units, start + ROOM)
+}
+
 fn rooms_tidy(piece: &[u16]) -> bool
     requires { length piece.now ≡ place_units }
     ensures { result ≡ tidy_rooms piece.now }
 {
-    let mut j = 0;
-    while j < TEXTS {
-        let units = piece[j] as usize;
-        if ROOM < units {
-            return false;
-        }
-        let start = HEAD + j * ROOM;
-        if !all_zero(piece, start + units, start + ROOM) {
-            return false;
-        }
-        j += 1;
-    }
-    true
+    (0..TEXTS).all(|j| room_tidy(piece, j))
 }
 
 // Whether the unused room of a used place is zero.
+#[tactic(auto, using(crate::proofs::places::TidyLaws::tidy_tests))]
 pub fn is_tidy(piece: &[u16]) -> bool
     requires { length piece.now ≡ place_units }
     ensures { result ≡ tidy piece.now }
 {
-    let count = piece[COUNT] as usize;
-    if 8 < count {
-        return false;
-    }
-    if !all_zero(piece, 1 + count, TEXTS) {
-        return false;
-    }
-    if !all_zero(piece, MARKS + count, ROOT) {
-        return false;
-    }
-    if !all_zero(piece, FREE, HEAD) {
-        return false;
-    }
-    rooms_tidy(piece)
+    let count = usize::from(piece[COUNT]);
+    count <= 8
+        && all_zero(piece, 1 + count, TEXTS)
+        && all_zero(piece, MARKS + count, ROOT)
+        && all_zero(piece, FREE, HEAD)
+        && rooms_tidy(piece)
 }

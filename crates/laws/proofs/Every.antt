@@ -6,6 +6,7 @@ use Prim.Native.Nat.{ℕ, zero, suc, ◌<◌, ◌≤◌}
 use native.Mathlib.Nat.{not-suc-le-zero, le_of_suc-le-suc}
 use lib.ListN.{length, get_or, take, drop}
 use lib.Seq.{take-take}
+use Rattle.std.specs.List.{list_all}
 use Rattle.laws.specs.Lists.{every}
 use Rattle.laws.proofs.Choices.{and_left, and_right, and_both}
 
@@ -36,3 +37,9 @@ module _ {ℓ} {A : Type ℓ} (f : A → Bool) where
   -- fewer of the first elements pass too
   pub every_fewer : (m n : ℕ) (xs : List A) → m ≤ n → every f (take n xs) ≡ true → every f (take m xs) ≡ true
   every_fewer m n xs l h = rw (← take-take m n xs l) (every_take m (take n xs) h)
+
+-- as a chain that ends in `all` says it
+pub all_every : {A : Type 0} (f : A → Bool) (xs : List A) → list_all f xs ≡ every f xs
+unfolding every
+all_every f [] = refl
+all_every f (x ∷ xs) = ap (λ (b : Bool). f x && b) (all_every f xs)

@@ -1,6 +1,6 @@
 -- Laws of lists that are made place by place, of lists cut into parts of one length, and of the test of equal lists.
 use mathlib.Core.Path.{◌≡◌, refl, sym, ap, ◌∙◌, subst}
-use mathlib.Core.Bool.{Bool, true, false, true≢false}
+use mathlib.Core.Bool.{Bool, true, ◌&&◌, true≢false}
 use mathlib.Core.List.{List, [], ◌∷◌, ◌++◌, map, flatten}
 use Prim.Native.Nat.{ℕ, zero, suc, ◌+◌, ◌*◌, ◌≤◌, ◌<◌}
 use native.Mathlib.Nat.{add-zero, zero-add, not-suc-le-zero, le_of_suc-le-suc, zero-mul, suc-mul}
@@ -10,10 +10,13 @@ use lib.Dec.{eqb}
 use lib.ListN.{length, get_or, take, drop, set, length-append}
 use lib.Seq.{drop-drop, take-add, take_all, take-append_seam, drop-append-add}
 use borrow.Author.Tests.{eqb-true, eq-eqb}
+use Rattle.std.specs.List.{list_all, range_with_len}
+use Rattle.std.specs.Simd.{first_chunks}
 use Rattle.laws.specs.Lists.{every, part}
 use Rattle.laws.specs.Listed.{listed, same_list}
 use Rattle.laws.proofs.Choices.{and_left, and_right, and_both}
 use Rattle.laws.proofs.Every.{every_at}
+use Rattle.laws.proofs.Pasting.{length_part, get_d_part}
 
 module _ {ℓ} {A : Type ℓ} where
   pub length_listed : (n : ℕ) (f : ℕ → A) → length (listed n f) ≡ n
@@ -52,6 +55,13 @@ module _ {ℓ} {A : Type ℓ} where
   listed_get_d [] z = refl
   listed_get_d (x ∷ xs) z = λ i. x ∷ listed_get_d xs z i
 
+  -- so is a part of it
+  pub listed_part : (n k : ℕ) (xs : List A) (z : A) → n + k ≤ length xs → listed k (λ j. get_or xs (n + j) z) ≡ part n k xs
+  listed_part n k xs z h =
+      let l : length (part n k xs) ≡ k = length_part n k xs h in
+      listed_same k (λ j. get_or xs (n + j) z) (λ j. get_or (part n k xs) j z) (λ j u. sym (get_d_part n k xs j z u))
+      ∙ (ap (λ (i : ℕ). listed i (λ j. get_or (part n k xs) j z)) (sym l) ∙ listed_get_d (part n k xs) z)
+
   -- one value changed
   pub set_listed : (n : ℕ) (f g : ℕ → A) (i : ℕ) → i < n → ((j : ℕ) → j < n → (j ≡ i → ⊥) → f j ≡ g j) → set (listed n f) i (g i) ≡ listed n g
   unfolding listed
@@ -85,26 +95,21 @@ every_set f [] i x h e = refl
 every_set f (y ∷ xs) zero x h e = and_both e (and_right (f y) _ h)
 every_set f (y ∷ xs) (suc i) x h e = and_both (and_left (f y) _ h) (every_set f xs i x (and_right (f y) _ h) e)
 
--- a loop that tests each value of a list made place by place: what is left to test
+-- a test of each value of a list made place by place
 module _ {ℓ} {A : Type ℓ} (f : A → Bool) (n : ℕ) (g : ℕ → A) where
-  pub every_next : (i : ℕ) → i < n → f (g i) ≡ true → every f (drop i (listed n g)) ≡ every f (drop (i + 1) (listed n g))
-  unfolding every
-  every_next i h e = rw (drop_listed n g i h, add-one i, e)
-
-  pub every_stop : (i : ℕ) → i < n → f (g i) ≡ false → every f (drop i (listed n g)) ≡ false
-  unfolding every
-  every_stop i h e = rw (drop_listed n g i h, e)
-
-  pub every_end : (i : ℕ) → n ≤ i → every f (drop i (listed n g)) ≡ true
-  unfolding every
-  every_end i h = rw (drop_listed_end n g i h)
-
   pub every_listed : every f (listed n g) ≡ true → (i : ℕ) → i < n → f (g i) ≡ true
   every_listed h i u =
       ap f (sym (get_d_listed n g i (g 0) u)) ∙ every_at f (listed n g) h i (g 0) (rw (length_listed n g) u)
 
   pub listed_every : ((i : ℕ) → i < n → f (g i) ≡ true) → every f (listed n g) ≡ true
   listed_every h = every_all f n g h
+
+-- as a chain over a range says it: the values from place i on, k of them
+pub range_every : {A : Type 0} (f : A → Bool) (n : ℕ) (g : ℕ → A) (i k : ℕ) → i + k ≡ n → list_all (λ j. f (g j)) (range_with_len i k) ≡ every f (drop i (listed n g))
+unfolding every
+range_every f n g i zero h = rw (drop_listed_end n g i (omega arith))
+range_every f n g i (suc k) h =
+    ap (λ (b : Bool). f (g i) && b) (range_every f n g (i + 1) k (omega arith)) ∙ rw (drop_listed n g i (omega arith), add-one i) refl
 
 -- lists cut into parts of k
 module _ {ℓ} {A : Type ℓ} where
@@ -151,6 +156,19 @@ module _ {ℓ} {A : Type ℓ} where
         let a : length x ≡ k = h 0 (omega arith) in
         let s : suc i * k ≡ length x + i * k = rw (suc-mul i k) (omega arith) in
         rw (s, drop-append-add x (flatten xss) (i * k)) (part_flatten xss (λ j r. h (suc j) (omega arith)) i (le_of_suc-le-suc q))
+
+-- the parts of k, as `as_chunks` says them
+pub chunks_listed : {A : Type 0} (k n : ℕ) (d : List A) → first_chunks k n d ≡ listed n (λ j. part (j * k) k d)
+unfolding listed part
+chunks_listed k zero d = refl
+chunks_listed k (suc n) d =
+    let e : (j : ℕ) → k + j * k ≡ suc j * k = λ j. rw (suc-mul j k) (omega arith) in
+    let first : take k d ≡ take k (drop (0 * k) d) = rw (zero-mul k) refl in
+    let later : first_chunks k n (drop k d) ≡ listed n (λ j. take k (drop (suc j * k) d)) =
+    chunks_listed k n (drop k d)
+    ∙ listed_same n (λ j. take k (drop (j * k) (drop k d))) (λ j. take k (drop (suc j * k) d))
+    (λ j h. ap (take k) (drop-drop (j * k) k d) ∙ ap (λ (x : ℕ). take k (drop x d)) (e j)) in
+    λ i. first i ∷ later i
 
 -- the test of equal lists
 pub same_list_true : (a b : List ℕ) → same_list a b ≡ true → a ≡ b

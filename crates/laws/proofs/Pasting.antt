@@ -7,6 +7,7 @@ use native.Mathlib.Numerals.{add-one}
 use native.Mathlib.Omega.{arith}
 use lib.ListN.{length, get_or, take, drop, set, replicate, length-append, length-take, length-drop, length-replicate, take-append-drop, get_or-append}
 use lib.Seq.{ext_get_or, get_or-take, get_or-drop, get_or-append-add, set_split, drop-drop}
+use borrow.Rule.Slice.PartMut.{put_mid}
 use Rattle.laws.specs.Lists.{pasted, part, roomed}
 use Rattle.laws.proofs.Orders.{Lies, low, within, high, lies}
 
@@ -186,6 +187,17 @@ module _ {ℓ} {A : Type ℓ} where
       let h : length d ≤ 0 + length p = omega arith in
       ap (λ (x : List A). p ++ x) (lib.ListN.drop_of_length-le d h) ∙ append-nil p
 
+-- a part written whole, as by `copy_from_slice` or `fill`
+pub pasted_mid : {A : Type 0} (d : List A) (n k : ℕ) (p : List A) {o : List A} → o ≡ p → k ≡ length p → put_mid n k d o ≡ pasted d n p
+unfolding pasted
+pasted_mid d n k p e h = rw (e, h, drop-drop (length p) n d) refl
+
+pub pasted_fill : (d : List ℕ) (n k m v : ℕ) {o : List ℕ} → o ≡ replicate (length (take k (drop n d))) v → k ≡ m → n + k ≤ length d
+    → put_mid n k d o ≡ pasted d n (replicate m v)
+pasted_fill d n k m v e h u =
+    let l : length (take k (drop n d)) ≡ m = simp (length-take, length-drop) (omega arith) in
+    pasted_mid d n k (replicate m v) (e ∙ ap (λ (i : ℕ). replicate i v) l) (simp length-replicate h)
+
 -- a text in its room
 pub length_roomed : (n : ℕ) (s : List ℕ) → length s ≤ n → length (roomed n s) ≡ n
 unfolding roomed
@@ -219,10 +231,6 @@ room_in_two d a b e f h =
     ∙ (pasted_join d 0 a (roomed (length d - length a) b) (omega arith)
     ∙ (pasted_whole d (a ++ roomed (length d - length a) b) (simp length-append (omega arith)) ∙ joined_room (length d) a b))))
 
--- one unit more
-pub replicate_more : (n v : ℕ) → replicate n v ++ (v ∷ []) ≡ replicate (n + 1) v
-replicate_more n v = lib.ListN.replicate-append-replicate n 1 v
-
 -- a loop that copies a list: one element more, and at its end (at its start: `pasted-nil`)
 pub copied_more : (d : List ℕ) (at : ℕ) (s : List ℕ) (i : ℕ) {o : List ℕ} → o ≡ pasted d at (take i s) → i < length s → at + i < length d
     → set o (at + i) (get_or s i 0) ≡ pasted d at (take (i + 1) s)
@@ -234,15 +242,3 @@ copied_more d at s i {o} e h u =
 
 pub copied_all : (d : List ℕ) (at : ℕ) (s : List ℕ) (i : ℕ) {o : List ℕ} → o ≡ pasted d at (take i s) → length s ≤ i → o ≡ pasted d at s
 copied_all d at s i e h = e ∙ ap (pasted d at) (lib.Seq.take_all i s h)
-
--- a loop that fills with one value
-pub filled_more : (d : List ℕ) (at v i : ℕ) {o : List ℕ} → o ≡ pasted d at (replicate i v) → at + i < length d
-    → set o (at + i) v ≡ pasted d at (replicate (i + 1) v)
-filled_more d at v i {o} e u =
-    let l : length (replicate i v) ≡ i = length-replicate i v in
-    rw (e, ← replicate_more i v)
-    (ap (λ (k : ℕ). set (pasted d at (replicate i v)) (at + k) v) (sym l)
-    ∙ pasted_more d at (replicate i v) v (omega arith))
-
-pub filled_all : (d : List ℕ) (at v i n : ℕ) {o : List ℕ} → o ≡ pasted d at (replicate i v) → i ≡ n → o ≡ pasted d at (replicate n v)
-filled_all d at v i n e h = e ∙ ap (λ (k : ℕ). pasted d at (replicate k v)) h

@@ -1,15 +1,9 @@
 // Writing units into lent memory: one unit, a piece, zeros, a text in its room. What lies outside the place that is named stays.
+// Each is a method of slices or two; their contracts say by `pasted` what it leaves of the whole memory, as the contracts above do.
 #![tactic(auto)]
 
-ghost use Rattle.std.specs.Prelude.{◌≡◌, [], ◌∷◌, ◌+◌, ◌-◌, ◌≤◌, ◌<◌, min, length, replicate};
+ghost use Rattle.std.specs.Prelude.{◌≡◌, [], ◌∷◌, ◌+◌, ◌≤◌, ◌<◌, length, replicate};
 ghost use Rattle.laws.specs.Lists.{pasted, roomed};
-
-// The smaller of two lengths: what fits.
-pub fn least(a: usize, b: usize) -> usize
-    ensures { result ≡ min a b }
-{
-    if a < b { a } else { b }
-}
 
 pub fn put_unit(dst: &mut [u16], at: usize, v: u16)
     requires { at < length dst.old }
@@ -22,22 +16,14 @@ pub fn copy_units(dst: &mut [u16], at: usize, src: &[u16])
     requires { at + length src.now ≤ length dst.old }
     ensures { dst.new ≡ pasted dst.old at src.now }
 {
-    let mut i = 0;
-    while i < src.len() {
-        dst[at + i] = src[i];
-        i += 1;
-    }
+    dst[at..at + src.len()].copy_from_slice(src);
 }
 
 pub fn clear_units(dst: &mut [u16], at: usize, count: usize)
     requires { at + count ≤ length dst.old }
     ensures { dst.new ≡ pasted dst.old at (replicate count 0) }
 {
-    let mut i = 0;
-    while i < count {
-        dst[at + i] = 0;
-        i += 1;
-    }
+    dst[at..at + count].fill(0);
 }
 
 // A text into the room of `room` units at `at`, with zeros after it.

@@ -1,6 +1,6 @@
 -- Laws of the order test of one used place: what it looks at says that the entry is good and that the place is what it writes.
 use mathlib.Core.Path.{◌≡◌, refl, sym, ap, ◌∙◌, subst}
-use mathlib.Core.Bool.{Bool, true, false, ◌&&◌, not}
+use mathlib.Core.Bool.{Bool, true, false, ◌&&◌, ◌||◌, not}
 use mathlib.Core.List.{List, [], ◌∷◌, map}
 use mathlib.Core.Logic.{◌≢◌, ◌⊎◌, inl, inr, ⊎_elim}
 use Prim.Native.Nat.{ℕ, zero, suc, ◌+◌, ◌-◌, ◌*◌, ◌/◌, ◌%◌, ◌≤◌, ◌<◌}
@@ -12,9 +12,9 @@ use borrow.Author.Tests.{eqb-true, eqb-false, eq-eqb, ne_eqb, leb-true, le-leb, 
 use Rattle.laws.specs.Choice.{choose}
 use Rattle.laws.specs.Lists.{every, part}
 use Rattle.laws.specs.Listed.{listed, same_list}
-use Rattle.laws.proofs.Choices.{choose_yes, choose_no, and_left, and_right, and_both}
+use Rattle.laws.proofs.Choices.{choose_yes, choose_no, and_left, and_right, and_both, or_told, or_right}
 use Rattle.laws.proofs.Orders.{lt_or_le}
-use Rattle.laws.proofs.Tests.{both_ways, refuted, not_both}
+use Rattle.laws.proofs.Tests.{both_ways}
 use Rattle.laws.proofs.Parts.{roomed_blank}
 use Rattle.laws.proofs.Listed.{length_listed, get_d_listed, listed_same, map_listed, every_listed, listed_every, same_list_true}
 use Rattle.unc.specs.names.Names.{good_name}
@@ -318,51 +318,41 @@ module _ (piece : List ℕ) (whole : length piece ≡ 2336) where
         at n (inl e) = inl (sym domain_hint ∙ e)
         at n (inr u) = inr (let v : unit_at hint_unit piece < length (domain_of piece).dcs = rw (sym domain_hint) u in omega arith)
 
--- the ways out of the test of a used place
-module _ (piece : List ℕ) (whole : length piece ≡ 2336) (low : unit_at ttl_unit piece < 65536) (low' : unit_at taken_unit piece < 65536) where
-  referral_fails_lem : (ReferralTests piece → ⊥) → false ≡ (good_referral (referral_of piece) && same_list (referral_units (referral_of piece)) piece)
-  referral_fails_lem f = sym (refuted _ (λ h. f (referral_tests piece whole low low' h)))
-
-  pub referral_untidy : {r : Bool} → r ≡ tidy piece → r ≡ false → false ≡ (good_referral (referral_of piece) && same_list (referral_units (referral_of piece)) piece)
-  referral_untidy e h = referral_fails_lem (λ t. not_both (e ∙ t.tidied) h)
-
-  pub referral_unflagged : {r : Bool} → r ≡ good_flags piece → r ≡ false → false ≡ (good_referral (referral_of piece) && same_list (referral_units (referral_of piece)) piece)
-  referral_unflagged e h = referral_fails_lem (λ t. not_both (e ∙ t.flags) h)
-
-  pub referral_opens : (unit_at mark_units piece ≡ 0 → ⊥) → false ≡ (good_referral (referral_of piece) && same_list (referral_units (referral_of piece)) piece)
-  referral_opens n = referral_fails_lem (λ t. n t.first)
-
-  pub referral_unhinted : unit_at count_unit piece ≤ unit_at hint_unit piece → false ≡ (good_referral (referral_of piece) && same_list (referral_units (referral_of piece)) piece)
-  referral_unhinted h = referral_fails_lem (λ t. let u : unit_at hint_unit piece < unit_at count_unit piece = t.hinted in omega arith)
-
-  pub referral_rest : {a b r : Bool} → a ≡ tidy piece → a ≡ true → b ≡ good_flags piece → b ≡ true → r ≡ good_texts false piece
-      → unit_at mark_units piece ≡ 0 → unit_at hint_unit piece < unit_at count_unit piece
-      → r ≡ (good_referral (referral_of piece) && same_list (referral_units (referral_of piece)) piece)
-  referral_rest ea ha eb hb e z u =
-      e ∙ both_ways _ _
-      (λ t. referral_passes piece whole low low' (record { tidied = sym ea ∙ ha; flags = sym eb ∙ hb; first = z; hinted = u; texts = t }))
-      (λ h. (referral_tests piece whole low low' h).texts)
+-- the tests of a used place one after another
+module _ (piece : List ℕ) (whole : length piece ≡ 2336) (small : (i : ℕ) → unit_at i piece < 65536) where
+  pub referral_tested : (good_referral (referral_of piece) && same_list (referral_units (referral_of piece)) piece)
+      ≡ (tidy piece && good_flags piece && eqb (unit_at mark_units piece) 0 && ltb (unit_at hint_unit piece) (unit_at count_unit piece) && good_texts false piece)
+  referral_tested =
+      both_ways _ _
+      (λ h. let t = referral_tests piece whole (small ttl_unit) (small taken_unit) h in
+      and_both (and_both (and_both (and_both t.tidied t.flags) (eq-eqb _ 0 t.first)) (lt-ltb _ _ t.hinted)) t.texts)
+      (λ h. referral_passes piece whole (small ttl_unit) (small taken_unit) (record {
+        tidied = and_left _ _ (and_left _ _ (and_left _ _ (and_left _ _ h)));
+        flags = and_right _ _ (and_left _ _ (and_left _ _ (and_left _ _ h)));
+        first = eqb-true _ 0 (and_right _ _ (and_left _ _ (and_left _ _ h)));
+        hinted = ltb-true _ _ (and_right _ _ (and_left _ _ h));
+        texts = and_right _ _ h;
+      }))
 
 module _ (piece : List ℕ) (whole : length piece ≡ 2336) where
-  domain_fails : (DomainTests piece → ⊥) → false ≡ (good_domain (domain_of piece) && same_list (domain_units (domain_of piece)) piece)
-  domain_fails f = sym (refuted _ (λ h. f (domain_tests piece whole h)))
+  pub domain_tested : (good_domain (domain_of piece) && same_list (domain_units (domain_of piece)) piece)
+      ≡ (tidy piece && zeros (part mark_units (free_units - mark_units) piece)
+      && (eqb (unit_at hint_unit piece) 0 || ltb (unit_at hint_unit piece) (unit_at count_unit piece)) && good_texts true piece)
+  domain_tested =
+      both_ways _ _
+      (λ h. let t = domain_tests piece whole h in and_both (and_both (and_both t.tidied t.bare) (hint_test t.hinted)) t.texts)
+      (λ h. domain_passes piece whole (record {
+        tidied = and_left _ _ (and_left _ _ (and_left _ _ h));
+        bare = and_right _ _ (and_left _ _ (and_left _ _ h));
+        hinted = hint_told (and_right _ _ (and_left _ _ h));
+        texts = and_right _ _ h;
+      }))
+    where
+      hint_test : (unit_at hint_unit piece ≡ 0) ⊎ (unit_at hint_unit piece < unit_at count_unit piece)
+          → (eqb (unit_at hint_unit piece) 0 || ltb (unit_at hint_unit piece) (unit_at count_unit piece)) ≡ true
+      hint_test (inl e) = rw (eq-eqb (unit_at hint_unit piece) 0 e) refl
+      hint_test (inr u) = or_right (eqb (unit_at hint_unit piece) 0) (lt-ltb _ _ u)
 
-  pub domain_untidy : {r : Bool} → r ≡ tidy piece → r ≡ false → false ≡ (good_domain (domain_of piece) && same_list (domain_units (domain_of piece)) piece)
-  domain_untidy e h = domain_fails (λ t. not_both (e ∙ t.tidied) h)
-
-  pub domain_marked : {r : Bool} → r ≡ zeros (part mark_units (free_units - mark_units) piece) → r ≡ false → false ≡ (good_domain (domain_of piece) && same_list (domain_units (domain_of piece)) piece)
-  domain_marked e h = domain_fails (λ t. not_both (e ∙ t.bare) h)
-
-  pub domain_unhinted : (unit_at hint_unit piece ≡ 0 → ⊥) → unit_at count_unit piece ≤ unit_at hint_unit piece → false ≡ (good_domain (domain_of piece) && same_list (domain_units (domain_of piece)) piece)
-  domain_unhinted n h = domain_fails (λ t. ⊎_elim n (λ u. omega arith) t.hinted)
-
-  pub domain_rest : {a b r : Bool} → a ≡ tidy piece → a ≡ true → b ≡ zeros (part mark_units (free_units - mark_units) piece) → b ≡ true → r ≡ good_texts true piece
-      → (unit_at hint_unit piece ≡ 0) ⊎ (unit_at hint_unit piece < unit_at count_unit piece)
-      → r ≡ (good_domain (domain_of piece) && same_list (domain_units (domain_of piece)) piece)
-  domain_rest ea ha eb hb e u =
-      e ∙ both_ways _ _
-      (λ t. domain_passes piece whole (record { tidied = sym ea ∙ ha; bare = sym eb ∙ hb; hinted = u; texts = t }))
-      (λ h. (domain_tests piece whole h).texts)
-
-  pub tidy_few : {r : Bool} → r ≡ tidy piece → r ≡ true → unit_at count_unit piece ≤ 8
-  tidy_few e h = (tidy_told piece whole (sym e ∙ h)).few
+      hint_told : (eqb (unit_at hint_unit piece) 0 || ltb (unit_at hint_unit piece) (unit_at count_unit piece)) ≡ true
+          → (unit_at hint_unit piece ≡ 0) ⊎ (unit_at hint_unit piece < unit_at count_unit piece)
+      hint_told h = ⊎_elim (λ e. inl (eqb-true _ 0 e)) (λ u. inr (ltb-true _ _ u)) (or_told _ _ h)

@@ -49,24 +49,15 @@ module _ (raw : List ℕ) (i : ℕ) (fits : i < place_count raw) where
   place_room_units j h = ap length (place_room j h) ∙ length_room j h
 
   -- a text, as the slice of n units from s on
-  slice_text : (j s n : ℕ) → j < 9 → s ≡ i * 2336 + (32 + j * 256) → n ≡ min 256 (get_or raw (i * 2336 + j) 0)
+  pub place_text : (j s n : ℕ) → j < 9 → s ≡ i * 2336 + (32 + j * 256) → n ≡ min 256 (get_or raw (i * 2336 + j) 0)
       → take (s + n - s) (drop s raw) ≡ text_at j (place_at i raw)
   unfolding text_at room_at
-  slice_text j s n h p q =
+  place_text j s n h p q =
       part_slice (i * 2336 + (32 + j * 256)) n raw s (s + n) p refl
       ∙ (ap (λ (u : ℕ). part (i * 2336 + (32 + j * 256)) u raw) q
       ∙ (ap (λ (u : ℕ). part (i * 2336 + (32 + j * 256)) (min 256 u) raw) (place_unit j (omega arith))
       ∙ (sym (take_part (unit_at j (place_at i raw)) (i * 2336 + (32 + j * 256)) 256 raw)
       ∙ ap (take (unit_at j (place_at i raw))) (sym (place_part (32 + j * 256) 256 (omega arith))))))
-
-  pub place_text : (j : ℕ) → j < 9 → get_or raw (i * 2336 + j) 0 < 256
-      → take (i * 2336 + 32 + j * 256 + get_or raw (i * 2336 + j) 0 - (i * 2336 + 32 + j * 256)) (drop (i * 2336 + 32 + j * 256) raw)
-      ≡ text_at j (place_at i raw)
-  place_text j h u = slice_text j (i * 2336 + 32 + j * 256) (get_or raw (i * 2336 + j) 0) h (omega arith) (omega arith)
-
-  pub place_text_full : (j : ℕ) → j < 9 → 256 ≤ get_or raw (i * 2336 + j) 0
-      → take (i * 2336 + 32 + j * 256 + 256 - (i * 2336 + 32 + j * 256)) (drop (i * 2336 + 32 + j * 256) raw) ≡ text_at j (place_at i raw)
-  place_text_full j h u = slice_text j (i * 2336 + 32 + j * 256) 256 h (omega arith) (omega arith)
 
   -- a piece written over the memory inside the place
   pub changed_pasted : (n j : ℕ) (p : List ℕ) → n ≡ i * 2336 + j → j + length p ≤ 2336 → pasted raw n p ≡ changed i (λ q. pasted q j p) raw

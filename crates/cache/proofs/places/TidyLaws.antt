@@ -1,22 +1,22 @@
 -- Laws of the test for unused room: what it looks at says that the place is exactly what its texts, hint, marks and settings write.
 use mathlib.Core.Path.{◌≡◌, refl, sym, ap, ◌∙◌}
-use mathlib.Core.Bool.{Bool, true, false}
+use mathlib.Core.Bool.{Bool, true, ◌&&◌}
 use mathlib.Core.List.{List, []}
 use mathlib.Core.Logic.{◌⊎◌, inl, inr}
 use Prim.Native.Nat.{ℕ, ◌+◌, ◌-◌, ◌*◌, ◌≤◌, ◌<◌}
 use native.Mathlib.Nat.{add-sub_of_le}
 use native.Mathlib.Omega.{arith}
-use lib.ListN.{length, get_or, take, drop, length-take, get_or-eq_default}
+use lib.ListN.{length, get_or, take, length-take, get_or-eq_default}
 use lib.Dec.{leb}
-use borrow.Author.Tests.{leb-true, le-leb, lt-leb}
-use Rattle.laws.specs.Lists.{every, part, roomed}
-use Rattle.laws.specs.Listed.{listed}
+use borrow.Author.Tests.{leb-true, le-leb}
+use Rattle.std.specs.List.{list_all, range_with_len}
+use Rattle.laws.specs.Lists.{part, roomed}
 use Rattle.laws.proofs.Orders.{lt_or_le}
-use Rattle.laws.proofs.Choices.{and_left, and_right, and_both, and_no_left}
-use Rattle.laws.proofs.Tests.{both_ways, refuted, not_both}
+use Rattle.laws.proofs.Choices.{and_left, and_right, and_both}
+use Rattle.laws.proofs.Tests.{both_ways}
 use Rattle.laws.proofs.Pasting.{get_d_part, length_part}
 use Rattle.laws.proofs.Parts.{get_d_roomed, roomed_take}
-use Rattle.laws.proofs.Listed.{length_listed, get_d_listed, every_next, every_stop, every_end, every_listed, listed_every, same_list_true, same_same_list}
+use Rattle.laws.proofs.Listed.{length_listed, get_d_listed, range_every, every_listed, listed_every, same_list_true, same_same_list}
 use Rattle.cache.specs.places.Layout.{unit_at, room_at, text_at, list_count, written, count_unit, hint_unit, mark_units, root_unit, head_units}
 use Rattle.cache.specs.places.Code.{place_texts, marks_of, settings_of, tidy, zeros, tidy_room, tidy_rooms, free_units}
 use Rattle.cache.proofs.places.ZeroLaws.{zero_at, zeros_all}
@@ -30,39 +30,18 @@ pub record Tidy (piece : List ℕ) : Type 0 where
   pub rest : zeros (part free_units (head_units - free_units) piece) ≡ true
   pub rooms : tidy_rooms piece ≡ true
 
--- the loop over the rooms: what is left to test from room j on
-pub rooms_from : List ℕ → ℕ → Bool
-rooms_from piece j = every (tidy_room piece) (drop j (listed 9 (λ k. k)))
+-- one room
+pub room_tested : (piece : List ℕ) (j : ℕ)
+    → tidy_room piece j ≡ (leb (unit_at j piece) 256 && zeros (part (32 + j * 256 + unit_at j piece) (32 + j * 256 + 256 - (32 + j * 256 + unit_at j piece)) piece))
+unfolding tidy_room
+room_tested piece j =
+    let k : 256 - unit_at j piece ≡ 32 + j * 256 + 256 - (32 + j * 256 + unit_at j piece) = omega arith in
+    ap (λ (n : ℕ). leb (unit_at j piece) 256 && zeros (part (32 + j * 256 + unit_at j piece) n piece)) k
 
-pub rooms_start : (piece : List ℕ) → tidy_rooms piece ≡ rooms_from piece 0
-unfolding tidy_rooms rooms_from
-rooms_start piece = refl
-
-module _ (piece : List ℕ) (j : ℕ) where
-  room_test : {r : Bool} → unit_at j piece ≤ 256
-      → r ≡ zeros (part (32 + j * 256 + unit_at j piece) (32 + j * 256 + 256 - (32 + j * 256 + unit_at j piece)) piece) → tidy_room piece j ≡ r
-  unfolding tidy_room
-  room_test h e =
-      let k : 32 + j * 256 + 256 - (32 + j * 256 + unit_at j piece) ≡ 256 - unit_at j piece = omega arith in
-      rw (le-leb (unit_at j piece) 256 h) (ap (λ (x : ℕ). zeros (part (32 + j * 256 + unit_at j piece) x piece)) (sym k) ∙ sym e)
-
-  pub rooms_more : {r : Bool} → r ≡ zeros (part (32 + j * 256 + unit_at j piece) (32 + j * 256 + 256 - (32 + j * 256 + unit_at j piece)) piece) → r ≡ true
-      → unit_at j piece ≤ 256 → j < 9 → rooms_from piece j ≡ rooms_from piece (j + 1)
-  unfolding rooms_from
-  rooms_more e t h u = every_next (tidy_room piece) 9 (λ k. k) j u (room_test h e ∙ t)
-
-  pub rooms_stop : {r : Bool} → r ≡ zeros (part (32 + j * 256 + unit_at j piece) (32 + j * 256 + 256 - (32 + j * 256 + unit_at j piece)) piece) → r ≡ false
-      → unit_at j piece ≤ 256 → j < 9 → rooms_from piece j ≡ false
-  unfolding rooms_from
-  rooms_stop e t h u = every_stop (tidy_room piece) 9 (λ k. k) j u (room_test h e ∙ t)
-
-  pub rooms_long : 256 < unit_at j piece → j < 9 → rooms_from piece j ≡ false
-  unfolding rooms_from tidy_room
-  rooms_long h u = every_stop (tidy_room piece) 9 (λ k. k) j u (and_no_left _ (lt-leb _ _ h))
-
-  pub rooms_end : 9 ≤ j → rooms_from piece j ≡ true
-  unfolding rooms_from
-  rooms_end h = every_end (tidy_room piece) 9 (λ k. k) j h
+-- all of them
+pub rooms_all : (piece : List ℕ) {r : Bool} → r ≡ list_all (tidy_room piece) (range_with_len 0 9) → r ≡ tidy_rooms piece
+unfolding tidy_rooms
+rooms_all piece e = e ∙ range_every (tidy_room piece) 9 (λ j. j) 0 9 refl
 
 module _ (piece : List ℕ) (whole : length piece ≡ 2336) where
   pub length_texts_of : length (place_texts piece) ≡ 1 + list_count piece
@@ -235,23 +214,19 @@ module _ (piece : List ℕ) (whole : length piece ≡ 2336) where
       rooms = listed_every (tidy_room piece) 9 (λ k. k) room_told;
     }
 
-  -- the ways out of the test
-  pub not_few : 8 < unit_at count_unit piece → tidy piece ≡ false
-  not_few h = refuted _ (λ t. let u : unit_at count_unit piece ≤ 8 = (tidy_told t).few in omega arith)
-
-  pub not_lengths : {r : Bool} → r ≡ zeros (part (1 + unit_at count_unit piece) (9 - (1 + unit_at count_unit piece)) piece) → r ≡ false → tidy piece ≡ false
-  not_lengths e f = refuted _ (λ t. not_both (e ∙ (tidy_told t).lengths) f)
-
-  pub not_marks : {r : Bool} → r ≡ zeros (part (mark_units + unit_at count_unit piece) (root_unit - (mark_units + unit_at count_unit piece)) piece) → r ≡ false → tidy piece ≡ false
-  not_marks e f = refuted _ (λ t. not_both (e ∙ (tidy_told t).marks) f)
-
-  pub not_rest : {r : Bool} → r ≡ zeros (part free_units (head_units - free_units) piece) → r ≡ false → tidy piece ≡ false
-  not_rest e f = refuted _ (λ t. not_both (e ∙ (tidy_told t).rest) f)
-
-  pub tidy_rooms_lem : {a b c r : Bool} → a ≡ zeros (part (1 + unit_at count_unit piece) (9 - (1 + unit_at count_unit piece)) piece) → a ≡ true
-      → b ≡ zeros (part (mark_units + unit_at count_unit piece) (root_unit - (mark_units + unit_at count_unit piece)) piece) → b ≡ true → c ≡ zeros (part free_units (head_units - free_units) piece) → c ≡ true
-      → r ≡ tidy_rooms piece → unit_at count_unit piece ≤ 8 → r ≡ tidy piece
-  tidy_rooms_lem ea ta eb tb ec tc er h =
-      er ∙ both_ways _ _
-      (λ u. tidy_yes (record { few = h; lengths = sym ea ∙ ta; marks = sym eb ∙ tb; rest = sym ec ∙ tc; rooms = u }))
-      (λ t. (tidy_told t).rooms)
+  -- the tests one after another
+  pub tidy_tests : tidy piece ≡ (leb (unit_at count_unit piece) 8
+      && zeros (part (1 + unit_at count_unit piece) (9 - (1 + unit_at count_unit piece)) piece)
+      && zeros (part (mark_units + unit_at count_unit piece) (root_unit - (mark_units + unit_at count_unit piece)) piece)
+      && zeros (part free_units (head_units - free_units) piece)
+      && tidy_rooms piece)
+  tidy_tests =
+      both_ways _ _
+      (λ t. let s = tidy_told t in and_both (and_both (and_both (and_both (le-leb _ _ s.few) s.lengths) s.marks) s.rest) s.rooms)
+      (λ h. tidy_yes (record {
+        few = leb-true _ _ (and_left _ _ (and_left _ _ (and_left _ _ (and_left _ _ h))));
+        lengths = and_right _ _ (and_left _ _ (and_left _ _ (and_left _ _ h)));
+        marks = and_right _ _ (and_left _ _ (and_left _ _ h));
+        rest = and_right _ _ (and_left _ _ h);
+        rooms = and_right _ _ h;
+      }))

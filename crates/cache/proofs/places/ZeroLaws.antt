@@ -1,17 +1,16 @@
--- Laws of "every unit is zero": the loop that joins the units by "or", and what it says of each unit.
-use mathlib.Core.Path.{◌≡◌, refl, sym, ◌∙◌}
-use mathlib.Core.Bool.{true, ◌&&◌, and_assoc, and-true}
+-- Laws of "every unit is zero": the units joined by "or", and what it says of each unit.
+use mathlib.Core.Path.{◌≡◌, refl, sym, ap, ◌∙◌}
+use mathlib.Core.Bool.{Bool, true, ◌&&◌, and_assoc, and-true}
 use mathlib.Core.List.{List, [], ◌∷◌}
 use Prim.Native.Nat.{ℕ, suc, ◌+◌, ◌-◌, ◌≤◌, ◌<◌}
-use native.Mathlib.Numerals.{add-one}
 use native.Mathlib.Omega.{arith}
 use lib.Bits.{bit_or, or_add_and, and_le_l, and_le_r}
 use lib.Dec.{eqb}
 use lib.ListN.{length, get_or}
 use borrow.Author.Tests.{eqb-true, eq-eqb}
+use Rattle.std.specs.List.{fold}
 use Rattle.laws.specs.Lists.{every, part}
 use Rattle.laws.proofs.Every.{every_at}
-use Rattle.laws.proofs.Parts.{part_cons, part_none}
 use Rattle.laws.proofs.Pasting.{length_part, get_d_part}
 use Rattle.laws.proofs.Tests.{both_ways}
 use Rattle.laws.proofs.Choices.{and_left, and_right, and_both}
@@ -33,19 +32,15 @@ or_zero a b = both_ways _ _ down up
         let y : b ≡ 0 = eqb-true b 0 (and_right (eqb a 0) _ h) in
         eq-eqb (bit_or a b) 0 (omega (arith, or_add_and a b))
 
--- one unit more
-pub zero_more : (s : List ℕ) (i to any : ℕ) → i < to → to ≤ length s
-    → (eqb (bit_or any (get_or s i 0)) 0 && zeros (part (i + 1) (to - (i + 1)) s)) ≡ (eqb any 0 && zeros (part i (to - i) s))
+-- all units joined by "or"
+zeros_fold : (s : List ℕ) (any : ℕ) → eqb (fold bit_or any s) 0 ≡ (eqb any 0 && zeros s)
 unfolding zeros every
-zero_more s i to any h u =
-    let e : to - i ≡ suc (to - (i + 1)) = omega arith in
-    rw (e, add-one i, part_cons i (to - suc i) s 0 (omega arith), or_zero any (get_or s i 0)) (and_assoc (eqb any 0) (eqb (get_or s i 0) 0) _)
+zeros_fold [] any = sym (and-true (eqb any 0))
+zeros_fold (u ∷ s) any =
+    zeros_fold s (bit_or any u) ∙ (ap (λ (b : Bool). b && zeros s) (or_zero any u) ∙ and_assoc (eqb any 0) (eqb u 0) (zeros s))
 
-pub zero_end : (s : List ℕ) (i to any : ℕ) → to ≤ i → eqb any 0 ≡ (eqb any 0 && zeros (part i (to - i) s))
-unfolding zeros every
-zero_end s i to any h =
-    let e : to - i ≡ 0 = omega arith in
-    rw (e, part_none i s) (sym (and-true (eqb any 0)))
+pub zeros_joined : (s : List ℕ) {r : ℕ} → r ≡ fold bit_or 0 s → eqb r 0 ≡ zeros s
+zeros_joined s e = ap (λ (n : ℕ). eqb n 0) e ∙ zeros_fold s 0
 
 -- each unit of such a part is zero
 pub zero_at : (s : List ℕ) (n k i : ℕ) → zeros (part n k s) ≡ true → n + k ≤ length s → n ≤ i → i < n + k → get_or s i 0 ≡ 0

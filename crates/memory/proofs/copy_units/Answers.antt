@@ -1,15 +1,6 @@
 use native.Mathlib.Omega.{arith}
-use Rattle.laws.proofs.Pasting.{pasted_nil, copied_more, copied_all}
-use mathlib.Core.Path.{sym}
-use borrow.Author.Rules.{rules}
+use Rattle.laws.proofs.Pasting.{pasted_mid}
 use Rattle.memory.proofs.copy_units.Goals as goal
 
-pub loop-i-init : goal.loop-i-init
-loop-i-init c = (search rules, (search rules, sym (pasted_nil _ _)))
-
-pub loop-i-preserved : goal.loop-i-preserved
-loop-i-preserved c =
-    (search rules, (search rules, copied_more _ _ _ _ c.loop-i.invariant.1.1 (omega arith) (omega arith)))
-
 pub returns : goal.returns
-returns c = copied_all _ _ _ c.loop-i.i c.loop-i.invariant.1.1 (omega arith)
+returns c = pasted_mid _ _ _ _ c.copy_from_slice.ensures.after (omega arith)

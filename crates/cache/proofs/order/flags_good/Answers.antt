@@ -1,17 +1,13 @@
-use mathlib.Core.Path.{sym, ◌∙◌}
+-- Tests the boundaries and flags of a referral entry.
 use native.Mathlib.Omega.{arith}
 use borrow.Author.Rules.{rules}
-use Rattle.cache.proofs.order.TestLaws.{flags_start, flags_more, flags_stop, flags_end}
+use borrow.Author.Tests.{tests}
+use Rattle.std.proofs.lemmas.Iterator.{YieldsList-from_slice}
+use Rattle.std.proofs.lemmas.Iterator.Search.{all_from_yields_List}
+use Rattle.cache.proofs.order.TestLaws.{flags_all}
 use Rattle.cache.proofs.order.flags_good.Goals as goal
 
-pub loop-j-init : goal.loop-j-init
-loop-j-init c = (search rules, flags_start _)
-
-pub returns-then-piece-j-gt1 : goal.returns-then-piece-j-gt1
-returns-then-piece-j-gt1 c = sym (c.loop-j.invariant.1 ∙ flags_stop _ _ (omega arith) (omega arith))
-
-pub loop-j-preserved : goal.loop-j-preserved
-loop-j-preserved c = (search rules, c.loop-j.invariant.1 ∙ flags_more _ _ (omega arith) (omega arith))
-
 pub returns : goal.returns
-returns c = sym (c.loop-j.invariant.1 ∙ flags_end _ _ (omega arith))
+returns c =
+    flags_all _ (omega arith)
+    (all_from_yields_List _ _ _ _ c.all.ensures.ran (YieldsList-from_slice _ c.iter.ensures.rest) (λ x b q k. search (rules, tests)))

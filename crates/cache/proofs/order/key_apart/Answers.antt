@@ -1,28 +1,26 @@
-use mathlib.Core.Path.{sym, ◌∙◌}
+-- Compares a key with those of later places.
+use mathlib.Core.Path.{refl}
 use native.Mathlib.Omega.{arith}
 use borrow.Author.Rules.{rules}
-use Rattle.cache.proofs.order.TestLaws.{fresh_free, fresh_start, fresh_more, fresh_stop, fresh_end}
+use borrow.Author.Tests.{tests}
+use Rattle.std.proofs.lemmas.Iterator.{YieldsList-from_range}
+use Rattle.std.proofs.lemmas.Iterator.Search.{all_from_yields_List}
+use Rattle.cache.specs.places.Layout.{place_at}
+use Rattle.cache.specs.order.Code.{other_key}
+use Rattle.cache.proofs.order.TestLaws.{key_free, key_all}
 use Rattle.cache.proofs.order.key_apart.Goals as goal
 
 pub returns-then-unit-eq0 : goal.returns-then-unit-eq0
-returns-then-unit-eq0 c = sym (fresh_free _ _ c.unit.ensures c.if-unit-eq0.true)
+returns-then-unit-eq0 c = key_free _ _ c.unit.ensures c.if-unit-eq0.true
 
-pub loop-j-init : goal.loop-j-init
-loop-j-init c = (search rules, fresh_start _ _ c.unit.ensures c.if-unit-eq0.false)
-
-pub returns-then-same_name : goal.returns-then-same_name
-returns-then-same_name c =
-    sym (c.loop-j.invariant.1
-    ∙ fresh_stop _ _ _ c.text-key.ensures c.text.ensures
-    c.same_name.ensures c.if-same_name.true (omega arith))
-
-pub loop-j-preserved : goal.loop-j-preserved
-loop-j-preserved c = (
-  search rules,
-  c.loop-j.invariant.1
-      ∙ fresh_more _ _ _ c.text-key.ensures c.text.ensures
-      c.same_name.ensures c.if-same_name.false (omega arith),
-)
-
-pub returns : goal.returns
-returns c = sym (c.loop-j.invariant.1 ∙ fresh_end _ _ _ (omega arith))
+pub returns-else-unit-eq0 : goal.returns-else-unit-eq0
+unfolding other_key
+returns-else-unit-eq0 c =
+    key_all _ _ _
+    (all_from_yields_List (λ j. other_key c.text-key.result.now (place_at j c.args.cache.now)) _ _ _ c.all.ensures.ran (YieldsList-from_range _ _ _ refl refl)
+    (λ x b q k. search (rules, tests)))
+    c.unit.ensures
+    c.if-unit-eq0.false
+    c.text-key.ensures
+    (omega arith)
+    (omega arith)

@@ -1,23 +1,16 @@
-use mathlib.Core.Path.{sym, ◌∙◌}
+-- Tests that no two keys are equal.
+use mathlib.Core.Path.{refl}
 use native.Mathlib.Omega.{arith}
 use borrow.Author.Rules.{rules}
-use Rattle.cache.proofs.order.TestLaws.{apart_start, apart_more, apart_stop, apart_end}
+use borrow.Author.Tests.{tests}
+use Rattle.std.proofs.lemmas.Iterator.{YieldsList-from_range}
+use Rattle.std.proofs.lemmas.Iterator.Search.{all_from_yields_List}
+use Rattle.cache.specs.order.Code.{key_apart}
+use Rattle.cache.proofs.order.TestLaws.{keys_all}
 use Rattle.cache.proofs.order.keys_apart.Goals as goal
 
-pub loop-i-init : goal.loop-i-init
-loop-i-init c = (search rules, apart_start _)
-
-pub returns-then-not-key_apart : goal.returns-then-not-key_apart
-returns-then-not-key_apart c =
-    sym (c.loop-i.invariant.1
-    ∙ apart_stop _ _ c.key_apart.ensures c.if-not-key_apart.true (omega arith))
-
-pub loop-i-preserved : goal.loop-i-preserved
-loop-i-preserved c = (
-  search rules,
-  c.loop-i.invariant.1
-      ∙ apart_more _ _ c.key_apart.ensures c.if-not-key_apart.false (omega arith),
-)
-
 pub returns : goal.returns
-returns c = sym (c.loop-i.invariant.1 ∙ apart_end _ _ (omega arith))
+returns c =
+    keys_all _
+    (all_from_yields_List (key_apart c.args.cache.now) _ _ _ c.all.ensures.ran (YieldsList-from_range 0 _ _ refl refl) (λ x b q k. search (rules, tests)))
+    (omega arith)

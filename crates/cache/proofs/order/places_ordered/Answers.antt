@@ -1,23 +1,13 @@
-use mathlib.Core.Path.{sym, ◌∙◌}
-use native.Mathlib.Omega.{arith}
+-- The order of every place.
+use mathlib.Core.Path.{◌∙◌}
 use borrow.Author.Rules.{rules}
-use Rattle.cache.proofs.order.TestLaws.{ordered_start, ordered_more, ordered_stop, ordered_end}
+use borrow.Author.Tests.{tests}
+use Rattle.std.proofs.lemmas.Iterator.{YieldsList-from_slice}
+use Rattle.std.proofs.lemmas.Iterator.Search.{all_from_yields_List}
+use Rattle.cache.proofs.order.TestLaws.{places_all}
 use Rattle.cache.proofs.order.places_ordered.Goals as goal
 
-pub loop-i-init : goal.loop-i-init
-loop-i-init c = (search rules, ordered_start _ _)
-
-pub returns-then-not-place_ordered : goal.returns-then-not-place_ordered
-returns-then-not-place_ordered c =
-    sym (c.loop-i.invariant.1
-    ∙ ordered_stop _ _ _ c.place_ordered.ensures c.if-not-place_ordered.true (omega arith))
-
-pub loop-i-preserved : goal.loop-i-preserved
-loop-i-preserved c = (
-  search rules,
-  c.loop-i.invariant.1
-      ∙ ordered_more _ _ _ c.place_ordered.ensures c.if-not-place_ordered.false (omega arith),
-)
-
 pub returns : goal.returns
-returns c = sym (c.loop-i.invariant.1 ∙ ordered_end _ _ _ (omega arith))
+returns c =
+    places_all _ _
+    (all_from_yields_List _ _ _ _ c.all.ensures.ran (YieldsList-from_slice _ (c.iter.ensures.rest ∙ c.as_chunks.ensures.front)) (λ x b q k. search (rules, tests)))

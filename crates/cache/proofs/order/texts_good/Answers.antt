@@ -1,29 +1,20 @@
-use mathlib.Core.Path.{sym, ◌∙◌}
+-- Tests the key and the list of a place.
+use mathlib.Core.Path.{refl}
 use native.Mathlib.Omega.{arith}
 use borrow.Author.Rules.{rules}
-use Rattle.cache.specs.places.Layout.{count_unit}
-use Rattle.cache.proofs.order.TestLaws.{texts_start, texts_more, texts_stop, texts_end}
+use borrow.Author.Tests.{tests}
+use Rattle.std.proofs.lemmas.Iterator.{YieldsList-from_range}
+use Rattle.std.proofs.lemmas.Iterator.Search.{all_from_yields_List}
+use Rattle.cache.specs.places.Layout.{place_at, text_at}
+use Rattle.cache.specs.order.Code.{good_text}
+use Rattle.cache.proofs.order.TestLaws.{texts_all}
 use Rattle.cache.proofs.order.texts_good.Goals as goal
 
-pub overflow_cast-count : goal.overflow_cast-count
-overflow_cast-count c = omega (arith, c.type_inv.piece count_unit)
-
-pub loop-j-init : goal.loop-j-init
-loop-j-init c = (search rules, texts_start _ _)
-
-pub returns-then-not-text_good : goal.returns-then-not-text_good
-returns-then-not-text_good c =
-    sym (c.loop-j.invariant.1
-    ∙ texts_stop _ _ c.loop-j.j (omega arith) (omega arith)
-    c.text.ensures c.text_good.ensures c.if-not-text_good.true (omega arith))
-
-pub loop-j-preserved : goal.loop-j-preserved
-loop-j-preserved c = (
-  search rules,
-  c.loop-j.invariant.1
-      ∙ texts_more _ _ c.loop-j.j (omega arith) (omega arith)
-      c.text.ensures c.text_good.ensures c.if-not-text_good.false (omega arith),
-)
-
 pub returns : goal.returns
-returns c = sym (c.loop-j.invariant.1 ∙ texts_end _ _ _ (omega arith) (omega arith) (omega arith))
+returns c =
+    texts_all _ _
+    (all_from_yields_List (λ j. good_text c.args.domain (text_at j (place_at 0 c.args.piece.now))) _ _ _ c.all.ensures.ran (YieldsList-from_range 0 _ _ refl refl)
+    (λ x b q k. search (rules, tests)))
+    c.list_count-texts.ensures
+    (omega arith)
+    (omega arith)

@@ -1,29 +1,14 @@
-use mathlib.Core.Path.{sym, ◌∙◌}
-use native.Mathlib.Omega.{arith}
+-- Tests the rooms of a place past their texts.
+use mathlib.Core.Path.{refl}
 use borrow.Author.Rules.{rules}
-use Rattle.cache.proofs.places.TidyLaws.{rooms_start, rooms_more, rooms_stop, rooms_long, rooms_end}
+use borrow.Author.Tests.{tests}
+use Rattle.std.proofs.lemmas.Iterator.{YieldsList-from_range}
+use Rattle.std.proofs.lemmas.Iterator.Search.{all_from_yields_List}
+use Rattle.cache.specs.places.Code.{tidy_room}
+use Rattle.cache.proofs.places.TidyLaws.{rooms_all}
 use Rattle.cache.proofs.places.rooms_tidy.Goals as goal
 
-pub loop-j-init : goal.loop-j-init
-loop-j-init c = (search rules, rooms_start _)
-
-pub overflow_cast-units : goal.overflow_cast-units
-overflow_cast-units c = omega (arith, c.type_inv.piece c.loop-j.j)
-
-pub returns-then-units-gt-ROOM : goal.returns-then-units-gt-ROOM
-returns-then-units-gt-ROOM c = sym (c.loop-j.invariant.1 ∙ rooms_long _ _ (omega arith) (omega arith))
-
-pub returns-then-not-all_zero : goal.returns-then-not-all_zero
-returns-then-not-all_zero c =
-    sym (c.loop-j.invariant.1
-    ∙ rooms_stop _ _ c.all_zero.ensures c.if-not-all_zero.true (omega arith) (omega arith))
-
-pub loop-j-preserved : goal.loop-j-preserved
-loop-j-preserved c = (
-  search rules,
-  c.loop-j.invariant.1
-      ∙ rooms_more _ _ c.all_zero.ensures c.if-not-all_zero.false (omega arith) (omega arith),
-)
-
 pub returns : goal.returns
-returns c = sym (c.loop-j.invariant.1 ∙ rooms_end _ _ (omega arith))
+returns c =
+    rooms_all _
+    (all_from_yields_List (tidy_room c.args.piece.now) _ _ _ c.all.ensures.ran (YieldsList-from_range 0 9 9 refl refl) (λ x b q k. search (rules, tests)))

@@ -1,9 +1,11 @@
 // Names, components and paths: document 01, "Paths".
-// - names: equal units and equal names, good components and good names
-// - path_form: the form of a path, and a path normalised
+// - names: units, equal names in memory, good names
+// - path_form: a path normalised, and its components counted
 // - prefix: components of a path, and whether a prefix matches it
+// - text: the trait of texts, and the rules of names and paths over any text
 #![tactic(auto)]
 
 pub mod names;
 pub mod path_form;
 pub mod prefix;
+pub mod text;

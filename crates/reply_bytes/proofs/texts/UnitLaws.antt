@@ -1,7 +1,7 @@
 -- Laws of units, spans and texts in bytes.
 use Rattle.std.specs.Prelude.{Some, None}
 use mathlib.Core.Path.{◌≡◌, refl, sym, ap, ◌∙◌, subst}
-use mathlib.Core.Bool.{Bool, true, false}
+use mathlib.Core.Bool.{true, false}
 use mathlib.Core.List.{List, [], ◌∷◌}
 use mathlib.Core.Logic.{◌⊎◌, inl, inr}
 use Prim.Native.Nat.{ℕ, zero, suc, ◌+◌, ◌-◌, ◌*◌, ◌≤◌, ◌<◌}
@@ -15,9 +15,8 @@ use borrow.Author.Tests.{eq-eqb, ne_eqb}
 use Rattle.laws.specs.Choice.{choose}
 use Rattle.laws.proofs.Choices.{choose_yes, choose_no}
 use Rattle.laws.specs.Lists.{pasted, roomed}
-use Rattle.laws.proofs.Orders.{told}
-use Rattle.laws.proofs.Pasting.{pasted_room}
-use Rattle.unc.specs.names.Names.{same_unit}
+use Rattle.laws.proofs.Orders.{told, lt_or_le}
+use Rattle.laws.proofs.Pasting.{pasted_room, pasted_nil, copied_more}
 use Rattle.reply_bytes.specs.texts.Bytes.{u16_at, Text, terminated, unterminated, longer, text, text_from}
 use Rattle.reply_bytes.specs.texts.Code.{units_at, spanned, Inside, part_of, text_end}
 use Rattle.reply_bytes.specs.declared.texts.Span.{Span}
@@ -87,13 +86,20 @@ text_longer at n u (terminated s) = let q : n + suc (length s) ≡ n + 1 + lengt
 text_longer at n u unterminated = refl
 
 module _ (r : List ℕ) (at i n : ℕ) where
-  pub text_over : length r ≤ i → None ≡ text_end at n (text_from r i)
+  text_over : length r ≤ i → None ≡ text_end at n (text_from r i)
   unfolding text_from text text_end
   text_over h = rw (drop_of_length-le r h)
 
-  pub text_half : i < length r → length r - i < 2 → None ≡ text_end at n (text_from r i)
+  text_half : i < length r → length r - i < 2 → None ≡ text_end at n (text_from r i)
   unfolding text_from text text_end
   text_half h k = rw (drop-cons r i 0 h, drop_of_length-le r {i = suc i} (omega arith))
+
+  pub text_done : length r < i + 2 → None ≡ text_end at n (text_from r i)
+  text_done h = go (lt_or_le i (length r))
+    where
+      go : (i < length r) ⊎ (length r ≤ i) → None ≡ text_end at n (text_from r i)
+      go (inl k) = text_half k (omega arith)
+      go (inr k) = text_over k
 
   pub text_zero : {u : ℕ} → i + 1 < length r → u ≡ u16_at r i → u ≡ 0 → Some (record { from = at; units = n }) ≡ text_end at n (text_from r i)
   unfolding text_from text text_end u16_at choose
@@ -185,7 +191,9 @@ ended_at_lem r i s h = ended_text r i s (text (drop i r)) (begins (drop i r)) h 
 pub unended_at : (r : List ℕ) (i : ℕ) → None ≡ text_end i 0 (text_from r i) → text_from r i ≡ unterminated
 unended_at r i h = unended_text i (text_from r i) h
 
--- a unit of each of two lists, compared
-pub units_told : (s t : List ℕ) (i : ℕ) {x y : ℕ} {r : Bool} → r ≡ same_unit x y → x ≡ get_or s i 0 → y ≡ get_or t i 0
-    → r ≡ same_unit (get_or s i 0) (get_or t i 0)
-units_told s t i e p q = e ∙ (λ j. same_unit (p j) (q j))
+-- What the functions of this crate name.
+-- a text, unit by unit
+pub ruleset text_cases = (text_zero, text_more, text_done)
+
+-- units copied, one by one
+pub ruleset copied = (length_spanned, pasted_nil, copied_more)

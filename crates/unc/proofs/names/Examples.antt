@@ -8,8 +8,9 @@ use Rattle.laws.specs.Choice.{choose}
 use Rattle.laws.specs.Lists.{every}
 use Rattle.unc.specs.names.Names.{folded, same_unit, same_name, plain, nothing_or_dots, good_component}
 use Rattle.unc.specs.names.Paths.{before, pieces, components, component_count, leads, without_trail, body, good_path, normalised, path_units, begins, matches, replaced}
-use Rattle.unc.specs.names.Code.{form_within}
-use Rattle.unc.specs.declared.names.Form.TheVariants.{Bad, Long, Good}
+use Rattle.std.specs.Prelude.{Err}
+use Rattle.unc.specs.names.Code.{form_within, form_of}
+use Rattle.unc.specs.declared.names.PathError.TheVariants.{Bad, Long}
 
 -- \corp\leak\s1
 abbrev prefix : List ℕ
@@ -30,21 +31,21 @@ abbrev long : ℕ → List ℕ
 long n = 92 ∷ replicate n 97
 
 -- normalised, 256 units pass, 257 give 2
-pub passes : form_within path_units (long 255) ≡ Good 256 1
+pub passes : form_within path_units (long 255) ≡ form_of 256 1
 unfolding form_within good_path normalised component_count components pieces before leads body without_trail every good_component nothing_or_dots plain choose
 passes = refl
 
-pub too_long_lem : form_within path_units (long 256) ≡ Long
+pub too_long_lem : form_within path_units (long 256) ≡ Err Long
 unfolding form_within good_path normalised component_count components pieces before leads body without_trail every good_component nothing_or_dots plain choose
 too_long_lem = refl
 
 -- "\" gives 1
-pub alone_bad : form_within path_units (92 ∷ []) ≡ Bad
+pub alone_bad : form_within path_units (92 ∷ []) ≡ Err Bad
 unfolding form_within good_path normalised component_count components pieces before leads body without_trail every good_component nothing_or_dots plain choose
 alone_bad = refl
 
 -- `\abc` has one component, so that its walk ends 21
-pub one_component : form_within path_units (92 ∷ 97 ∷ 98 ∷ 99 ∷ []) ≡ Good 4 1
+pub one_component : form_within path_units (92 ∷ 97 ∷ 98 ∷ 99 ∷ []) ≡ form_of 4 1
 unfolding form_within good_path normalised component_count components pieces before leads body without_trail every good_component nothing_or_dots plain choose
 one_component = refl
 

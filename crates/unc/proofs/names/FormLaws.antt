@@ -16,8 +16,11 @@ use Rattle.laws.proofs.Orders.{told, lt_or_le}
 use Rattle.laws.proofs.Pasting.{room_in_two}
 use Rattle.unc.specs.names.Names.{good_component}
 use Rattle.unc.specs.names.Paths.{pieces, component_count, leads, without_trail, body, good_path, normalised, is_normalised, normalised_count}
-use Rattle.unc.specs.names.Code.{good_count, form_within, room_after}
-use Rattle.unc.specs.declared.names.Form.TheVariants.{Bad, Long, Good}
+use Rattle.std.specs.Prelude.{Ok, Err}
+use Rattle.unc.specs.names.Code.{good_count, form_within, room_after, form_of}
+use Rattle.unc.specs.declared.names.Form.{Form}
+use Rattle.unc.specs.declared.names.PathError.{PathError}
+use Rattle.unc.specs.declared.names.PathError.TheVariants.{Bad, Long}
 use Rattle.unc.proofs.names.PieceLaws.{length_pieces, count_backslash, parts}
 
 -- leading backslashes
@@ -117,22 +120,22 @@ unfolding good_path
 path_unled s h = rw (eq-eqb (leads s) 0 h)
 
 -- the ways of `form_within`
-form_no : (m : ℕ) (s : List ℕ) → good_path s ≡ false → form_within m s ≡ Bad
+form_no : (m : ℕ) (s : List ℕ) → good_path s ≡ false → form_within m s ≡ Err Bad
 unfolding form_within choose
 form_no m s h = rw h
 
-form_over : (m : ℕ) (s : List ℕ) → good_path s ≡ true → m < length (normalised s) → form_within m s ≡ Long
+form_over : (m : ℕ) (s : List ℕ) → good_path s ≡ true → m < length (normalised s) → form_within m s ≡ Err Long
 unfolding form_within choose
 form_over m s h k = rw (h, lt-leb (length (normalised s)) m k)
 
-form_yes : (m : ℕ) (s : List ℕ) → good_path s ≡ true → length (normalised s) ≤ m → form_within m s ≡ Good (length (normalised s)) (component_count (normalised s))
+form_yes : (m : ℕ) (s : List ℕ) → good_path s ≡ true → length (normalised s) ≤ m → form_within m s ≡ form_of (length (normalised s)) (component_count (normalised s))
 unfolding form_within choose
 form_yes m s h k = rw (h, le-leb (length (normalised s)) m k)
 
-never_bad : {u k : ℕ} → Bad ≡ Good u k → ⊥
+never_bad : {f : Form} → Err Bad ≡ Ok f → ⊥
 never_bad h = let z : ◌≡◌ {A = ℕ} 0 1 = cc in omega arith
 
-never_long : {u k : ℕ} → Long ≡ Good u k → ⊥
+never_long : {f : Form} → Err Long ≡ Ok f → ⊥
 never_long h = let z : ◌≡◌ {A = ℕ} 0 1 = cc in omega arith
 
 -- The form, as the scan of a text finds it: `from` and `to` are the ends of its body, k is the count of good components there.
@@ -164,29 +167,29 @@ module _ (s : List ℕ) (from to k : ℕ) (a : from ≡ leads s) (b : to ≡ fro
   unfolding normalised
   room_normalised room f g h = room_in_two room (92 ∷ []) (body s) f (g ∙ rw body_found) (omega arith)
 
-  pub form_lead : (m : ℕ) → from ≡ 0 → form_within m s ≡ Bad
+  pub form_lead : (m : ℕ) → from ≡ 0 → form_within m s ≡ Err Bad
   form_lead m h = form_no m s (path_unled s (sym a ∙ h))
 
   module _ (c : k ≡ good_count 0 (take (to - from) (drop from s))) where
     pub count_found : k ≡ good_count 0 (body s)
     count_found = c ∙ ap (good_count 0) body_found
 
-    pub form_bad : (m : ℕ) → k ≡ 0 → form_within m s ≡ Bad
+    pub form_bad : (m : ℕ) → k ≡ 0 → form_within m s ≡ Err Bad
     form_bad m h = form_no m s (path_bad s (count_none (body s) (sym count_found ∙ h)))
 
     module _ (h : from ≡ 0 → ⊥) (g : k ≡ 0 → ⊥) where
       pub found_good : good_path s ≡ true
       found_good = path_good_lem s (λ e. h (a ∙ e)) (count_some (body s) (λ e. g (count_found ∙ e))).0
 
-      pub form_long : (m : ℕ) → m < to - from + 1 → form_within m s ≡ Long
+      pub form_long : (m : ℕ) → m < to - from + 1 → form_within m s ≡ Err Long
       form_long m l = form_over m s found_good (rw (← body_length) l)
 
-      pub form_good : (m : ℕ) → to - from + 1 ≤ m → form_within m s ≡ Good (to - from + 1) k
+      pub form_good : (m : ℕ) → to - from + 1 ≤ m → form_within m s ≡ form_of (to - from + 1) k
       unfolding normalised
       form_good m l =
           let e : k ≡ component_count (normalised s) =
           count_found ∙ ((count_some (body s) (λ e. g (count_found ∙ e))).1 ∙ sym (count_normalised (body s))) in
-          form_yes m s found_good (rw (← body_length) l) ∙ (λ i. Good (sym body_length i) (sym e i))
+          form_yes m s found_good (rw (← body_length) l) ∙ (λ i. form_of (sym body_length i) (sym e i))
 
 -- A form told: what follows for the path and for its room.
 module _ (s room : List ℕ) where
@@ -202,8 +205,8 @@ module _ (s room : List ℕ) where
   unfolding room_after choose
   room_after_good h k = rw (h, le-leb (length (normalised s)) (length room) k)
 
-  -- of a form that is not Good the room stays
-  pub form_stays : form_within (length room) s ≢ Good (length (normalised s)) (component_count (normalised s)) → room ≡ room_after s room
+  -- of a text without a form the room stays
+  pub form_stays : form_within (length room) s ≢ form_of (length (normalised s)) (component_count (normalised s)) → room ≡ room_after s room
   form_stays h = go (told (good_path s)) (lt_or_le (length room) (length (normalised s)))
     where
       go : (good_path s ≡ true) ⊎ (good_path s ≡ false) → (length room < length (normalised s)) ⊎ (length (normalised s) ≤ length room) → room ≡ room_after s room
@@ -211,8 +214,8 @@ module _ (s room : List ℕ) where
       go (inl a) (inl b) = sym (room_after_long a b)
       go (inl a) (inr b) = absurd (h (form_yes (length room) s a b))
 
-  -- of a form that is Good the path is good and fits
-  pub form_fits : {u k : ℕ} → form_within (length room) s ≡ Good u k → (good_path s ≡ true) × (length (normalised s) ≤ length room)
+  -- of a text with a form the path is good and fits
+  pub form_fits : {f : Form} → form_within (length room) s ≡ Ok f → (good_path s ≡ true) × (length (normalised s) ≤ length room)
   form_fits h = go (told (good_path s)) (lt_or_le (length room) (length (normalised s)))
     where
       go : (good_path s ≡ true) ⊎ (good_path s ≡ false) → (length room < length (normalised s)) ⊎ (length (normalised s) ≤ length room)
@@ -221,14 +224,54 @@ module _ (s room : List ℕ) where
       go (inl a) (inl b) = absurd (never_long (sym (form_over (length room) s a b) ∙ h))
       go (inr a) b = absurd (never_bad (sym (form_no (length room) s a) ∙ h))
 
-  pub form_room : {u k : ℕ} {o : List ℕ} → form_within (length room) s ≡ Good u k → o ≡ roomed (length room) (normalised s) → o ≡ room_after s room
+  pub form_room : {f : Form} {o : List ℕ} → form_within (length room) s ≡ Ok f → o ≡ roomed (length room) (normalised s) → o ≡ room_after s room
   form_room h e = e ∙ sym (room_after_good (form_fits h).0 (form_fits h).1)
 
-  pub form_stays_bad : Bad ≡ form_within (length room) s → room ≡ room_after s room
-  form_stays_bad e = form_stays (λ h. never_bad (e ∙ h))
+  pub form_stays_err : {e : PathError} → form_within (length room) s ≡ Err e → room ≡ room_after s room
+  form_stays_err {e} h = form_stays (λ k. let z : ◌≡◌ {A = ℕ} 0 1 = cc (sym h ∙ k) in omega arith)
 
-  pub form_stays_long : Long ≡ form_within (length room) s → room ≡ room_after s room
-  form_stays_long e = form_stays (λ h. never_long (e ∙ h))
+-- What a text's form tells of it as a path.
+module _ (m : ℕ) (s : List ℕ) where
+  pub told_bad : form_within m s ≡ Err Bad → good_path s ≡ false
+  told_bad h = go (told (good_path s)) (lt_or_le m (length (normalised s)))
+    where
+      go : (good_path s ≡ true) ⊎ (good_path s ≡ false) → (m < length (normalised s)) ⊎ (length (normalised s) ≤ m) → good_path s ≡ false
+      go (inr a) b = a
+      go (inl a) (inl b) = absurd (let z : ◌≡◌ {A = ℕ} 0 1 = cc (sym (form_over m s a b) ∙ h) in omega arith)
+      go (inl a) (inr b) = absurd (let z : ◌≡◌ {A = ℕ} 0 1 = cc (sym (form_yes m s a b) ∙ h) in omega arith)
+
+  pub told_long : form_within m s ≡ Err Long → (good_path s ≡ true) × (leb (length (normalised s)) m ≡ false)
+  told_long h = go (told (good_path s)) (lt_or_le m (length (normalised s)))
+    where
+      go : (good_path s ≡ true) ⊎ (good_path s ≡ false) → (m < length (normalised s)) ⊎ (length (normalised s) ≤ m)
+          → (good_path s ≡ true) × (leb (length (normalised s)) m ≡ false)
+      go (inl a) (inl b) = (a, lt-leb (length (normalised s)) m b)
+      go (inl a) (inr b) = absurd (let z : ◌≡◌ {A = ℕ} 0 1 = cc (sym (form_yes m s a b) ∙ h) in omega arith)
+      go (inr a) b = absurd (let z : ◌≡◌ {A = ℕ} 0 1 = cc (sym (form_no m s a) ∙ h) in omega arith)
+
+  module _ {f : Form} (h : form_within m s ≡ Ok f) where
+    pub told_good : good_path s ≡ true
+    told_good = go (told (good_path s))
+      where
+        go : (good_path s ≡ true) ⊎ (good_path s ≡ false) → good_path s ≡ true
+        go (inl a) = a
+        go (inr a) = absurd (never_bad (sym (form_no m s a) ∙ h))
+
+    pub told_fits : length (normalised s) ≤ m
+    told_fits = go (lt_or_le m (length (normalised s)))
+      where
+        go : (m < length (normalised s)) ⊎ (length (normalised s) ≤ m) → length (normalised s) ≤ m
+        go (inl b) = absurd (never_long (sym (form_over m s told_good b) ∙ h))
+        go (inr b) = b
+
+    told_form : record { units = length (normalised s); components = component_count (normalised s) } ≡ f
+    told_form = cc (sym (form_yes m s told_good told_fits) ∙ h)
+
+    pub told_units : f.units ≡ length (normalised s)
+    told_units = ap (λ (x : Form). x.units) (sym told_form)
+
+    pub told_components : f.components ≡ component_count (normalised s)
+    told_components = ap (λ (x : Form). x.components) (sym told_form)
 
 -- the number of components of a text that is a normalised path
 module _ (s : List ℕ) where
@@ -250,3 +293,19 @@ module _ (s : List ℕ) where
       let n : component_count s ≡ 0 + length (pieces (drop 1 s)) =
       ap component_count (drop-cons s 0 0 l) ∙ (count_backslash (get_or s 0 0) (drop 1 s) e ∙ (sym (length_pieces (drop 1 s)) ∙ omega arith)) in
       f ∙ rw (t, le-leb (length s) 256 h, eq-eqb (get_or s 0 0) 92 e, n)
+
+-- What the functions of this crate name.
+-- a trailing backslash
+pub ruleset trail = (trail_none, trail_dropped, trail_kept)
+
+-- the form of a path
+pub ruleset form = (body_within, form_lead, form_bad, form_long, form_good)
+
+-- a path put into a room
+pub ruleset room = (body_length, body_within, body_fits, room_normalised)
+
+-- a room after a text was normalised into it
+pub ruleset put = (form_fits, form_room, form_stays_err)
+
+-- the components of a normalised path
+pub ruleset count = (normal_empty, normal_long, normal_unled, normal_count)

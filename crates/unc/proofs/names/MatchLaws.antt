@@ -116,3 +116,7 @@ pub matches_longest : (p q s : List ℕ) → matches p s ≡ true → matches q 
 matches_longest p q s h k e =
     same_name_trans p (take (length p) s) q (matches_same p s h)
     (same_name_sym q (take (length p) s) (rw e (matches_same q s k)))
+
+-- What the functions of this crate name.
+-- a prefix and the unit after it
+pub ruleset ends = (matches_longer, matches_all, matches_part, matches_beside)

@@ -1,19 +1,17 @@
 -- Laws of equal units and equal names. Every crate above uses these laws, and not the text of `folded`.
 use mathlib.Core.Path.{◌≡◌, refl, sym, ap, ◌∙◌}
-use mathlib.Core.Bool.{Bool, true, false, not, true≢false, and-true}
+use mathlib.Core.Bool.{Bool, true, false, true≢false, and-true}
 use mathlib.Core.List.{List, [], ◌∷◌}
 use mathlib.Core.Logic.{◌⊎◌, inl, inr}
 use Prim.Native.Nat.{ℕ, suc, ◌+◌, ◌≤◌, ◌<◌}
-use native.Mathlib.Numerals.{add-one}
 use native.Mathlib.Omega.{arith}
 use lib.Dec.{leb, eqb}
-use lib.ListN.{length, get_or, drop, drop_of_length-le}
-use lib.Seq.{drop-cons}
+use lib.ListN.{length, get_or}
 use borrow.Author.Tests.{eqb-true, eq-eqb, ne_eqb, le-leb, lt-leb}
 use Rattle.laws.specs.Lists.{every}
 use Rattle.laws.proofs.Choices.{choose_yes, choose_no, and_left, and_right, and_both, and_no_left, and_no_right, eqb_refl, eqb_sym, eqb_trans}
 use Rattle.laws.proofs.Orders.{lt_or_le}
-use Rattle.unc.specs.names.Names.{folded, same_unit, same_name, plain, nothing_or_dots}
+use Rattle.unc.specs.names.Names.{folded, same_unit, same_name, nothing_or_dots}
 
 -- the three ways of `folded`
 pub folded_below : (u : ℕ) → u < 65 → folded u ≡ u
@@ -101,34 +99,6 @@ same_name_unlike s t h = go (same_name s t) refl
     go true e = absurd (h (same_name_length s t e))
     go false e = e
 
--- A loop that compares unit by unit, from place i on, whatever holds the units: r and q are what its reader answers of them.
-module _ (s t : List ℕ) (i : ℕ) (u : i < length s) (v : i < length t) where
-  pub same_hit : {r q : ℕ} → r ≡ folded (get_or s i 0) → q ≡ folded (get_or t i 0) → r ≡ q
-      → same_name (drop i s) (drop i t) ≡ same_name (drop (i + 1) s) (drop (i + 1) t)
-  unfolding same_name same_unit
-  same_hit e f h = rw (add-one, drop-cons s i 0 u, drop-cons t i 0 v, eq-eqb _ _ (sym e ∙ (h ∙ f)))
-
-  pub same_miss : {r q : ℕ} → r ≡ folded (get_or s i 0) → q ≡ folded (get_or t i 0) → (r ≡ q → ⊥) → same_name (drop i s) (drop i t) ≡ false
-  unfolding same_name same_unit
-  same_miss e f h = rw (drop-cons s i 0 u, drop-cons t i 0 v, ne_eqb _ _ (λ k. h (e ∙ (k ∙ sym f))))
-
-pub same_end : (s t : List ℕ) (i : ℕ) → length s ≤ i → length t ≤ i → same_name (drop i s) (drop i t) ≡ true
-unfolding same_name
-same_end s t i u v = rw (drop_of_length-le s u, drop_of_length-le t v)
-
--- the ways of `plain`
-pub plain_backslash : (u : ℕ) → u ≡ 92 → false ≡ plain u
-unfolding plain
-plain_backslash u e = rw (eq-eqb u 92 e)
-
-pub plain_slash : (u : ℕ) → u ≡ 47 → false ≡ plain u
-unfolding plain
-plain_slash u e = rw (eq-eqb u 47 e) (sym (and_no_right (not (eqb u 92)) refl))
-
-pub plain_other : (u : ℕ) → (u ≡ 92 → ⊥) → (u ≡ 47 → ⊥) → not (eqb u 0) ≡ plain u
-unfolding plain
-plain_other u h k = rw (ne_eqb u 92 h, ne_eqb u 47 k)
-
 -- the ways of `nothing_or_dots`
 pub dots_long : (s : List ℕ) → 2 < length s → false ≡ nothing_or_dots s
 unfolding nothing_or_dots
@@ -144,11 +114,11 @@ unfolding nothing_or_dots every
 dots_other [] h k = absurd (h refl)
 dots_other (u ∷ s) h k = rw (ne_eqb u 46 k) (sym (and_no_right (leb (suc (length s)) 2) refl))
 
-pub dots_one : (s : List ℕ) → length s ≡ 1 → get_or s 0 0 ≡ 46 → true ≡ nothing_or_dots s
+pub dots_one : (s : List ℕ) → length s ≡ 1 → eqb (get_or s 0 0) 46 ≡ nothing_or_dots s
 unfolding nothing_or_dots every
-dots_one [] h k = absurd (omega arith)
-dots_one (u ∷ []) h k = rw (eq-eqb u 46 k)
-dots_one (u ∷ (v ∷ s)) h k = absurd (omega arith)
+dots_one [] h = absurd (omega arith)
+dots_one (u ∷ []) h = sym (and-true (eqb u 46))
+dots_one (u ∷ (v ∷ s)) h = absurd (omega arith)
 
 pub dots_two : (s : List ℕ) → length s ≡ 2 → get_or s 0 0 ≡ 46 → eqb (get_or s 1 0) 46 ≡ nothing_or_dots s
 unfolding nothing_or_dots every
@@ -156,3 +126,10 @@ dots_two [] h k = absurd (omega arith)
 dots_two (u ∷ []) h k = absurd (omega arith)
 dots_two (u ∷ (v ∷ [])) h k = rw (eq-eqb u 46 k) (sym (and-true (eqb v 46)))
 dots_two (u ∷ (v ∷ (w ∷ s))) h k = absurd (omega arith)
+
+-- What the functions of this crate name.
+-- the ways of `folded`
+pub ruleset folds = (folded_below, folded_above, folded_letter)
+
+-- the ways of `nothing_or_dots`
+pub ruleset dots = (dots_long, dots_none, dots_one, dots_two, dots_other)

@@ -18,6 +18,7 @@ use Rattle.laws.proofs.Orders.{lt_or_le, told}
 use Rattle.unc.specs.names.Names.{plain, nothing_or_dots, good_component, good_name, backslash}
 use Rattle.unc.specs.names.Paths.{before, pieces, joined, components, component_count, first_of}
 use Rattle.unc.specs.names.Code.{plain_length, good_count}
+use Rattle.unc.proofs.names.NameLaws.{dots_none}
 
 -- A text's pieces are never none: the first, and the others.
 pub first_piece : List ℕ → List ℕ
@@ -223,6 +224,16 @@ module _ (s : List ℕ) (from to n : ℕ) (k : from ≤ length s) (e : to ≡ fr
   pub scan_within : to ≤ length s
   scan_within = omega (arith, plain_length_le (drop from s), length-drop from s)
 
+  -- a piece that is not empty
+  pub scan_some : {r : Bool} → r ≡ nothing_or_dots (take (to - from) (drop from s)) → r ≡ false → from < to
+  scan_some f g = go (lt_or_le from to)
+    where
+      go : (from < to) ⊎ (to ≤ from) → from < to
+      go (inl h) = h
+      go (inr h) =
+          let z : to - from ≡ 0 = omega arith in
+          absurd (true≢false (dots_none (take (to - from) (drop from s)) (ap (λ (n : ℕ). length (take n (drop from s))) z) ∙ (sym f ∙ g)))
+
   scan_over : length s ≤ to → length (drop from s) ≤ plain_length (drop from s)
   scan_over h = simp length-drop (omega arith)
 
@@ -405,3 +416,19 @@ spans_step k u s h (inr e) =
 pub spans : (k : ℕ) (s : List ℕ) → Spans k s
 spans k [] = spans_nil k
 spans k (u ∷ s) = spans_step k u s (λ j. spans j s) (parts u)
+
+-- What the functions of this crate name.
+-- a scan for the first unit that may not stand in a component
+pub ruleset scan = (plain_hit, plain_miss, plain_over)
+
+-- a component by its scan
+pub ruleset component = (component_dots, component_scan)
+
+-- a name by its length
+pub ruleset name_of_length = (name_long, name_fits_lem)
+
+-- counting good components
+pub ruleset count = (scan_within, scan_some, count_bad, count_next, count_last, count_dots)
+
+-- the first components
+pub ruleset first = (first_hit, first_miss, first_end, first_over)

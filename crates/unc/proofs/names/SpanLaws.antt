@@ -43,3 +43,7 @@ module _ (s : List ℕ) (from to : ℕ) (e : from ≡ length (first_of 1 s)) whe
         → t ≡ same_name (take (to - (from + 1)) (drop (from + 1) s)) netlogon → t ≡ is_sysvol s
     unfolding is_sysvol
     sysvol_no p q g = rw (span_some 1 s from e to f h, ← p, q) g
+
+-- What the functions of this crate name.
+-- the second component
+pub ruleset second = (span_start, span_end, sysvol_none, sysvol_yes, sysvol_no)

@@ -116,3 +116,7 @@ same_clear a b p q u v h =
     let x : folded a ≡ bit_or a 32 = set_folded a p q in
     let y : folded a ≡ folded b = eqb-true _ _ h in
     set_clear a b u v (sym x ∙ (y ∙ folded_set b (omega arith) (omega arith)))
+
+-- What the functions of this crate name.
+-- the bits of two units and whether they are equal
+pub ruleset bits = (xor_same, same_xor, clear_same, same_clear)

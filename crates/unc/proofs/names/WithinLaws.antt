@@ -104,3 +104,13 @@ same_unit_low x y h = sym (folded_low x) ∙ (ap (λ (n : ℕ). n % 32) (eqb-tru
 
 pub within_low : (s t : List ℕ) {from to : ℕ} (k : ℕ) → from ≤ k → k < to → SameWithin s t from to → get_or s k 0 % 32 ≡ get_or t k 0 % 32
 within_low s t k u v p = same_unit_low _ _ (p.at k u v)
+
+-- What the functions of this crate name.
+-- one block, compared
+pub ruleset block = (within_none, block_more, block_less, block_end, block_told)
+
+-- block after block
+pub ruleset blocks = (within_none, within_join, within_all, unlike_within)
+
+-- unit after unit
+pub ruleset one_by_one = (within_none, within_more, within_equal, within_all, unlike_at)

@@ -1,10 +1,11 @@
 -- Shapes of the code, proved equal to the rules; nothing here is to be believed.
-use Rattle.std.specs.Prelude.{ℕ, ◌+◌, ◌≤◌, ◌<◌, suc, true, List, [], ◌∷◌, length, get_or, ◌≡◌, leb, Option, Some, None}
+use Rattle.std.specs.Prelude.{ℕ, ◌+◌, ◌≤◌, ◌<◌, suc, true, List, [], ◌∷◌, length, get_or, ◌≡◌, leb, Option, Some, None, Result, Ok, Err}
 use Rattle.laws.specs.Choice.{choose}
 use Rattle.laws.specs.Lists.{every, roomed}
 use Rattle.unc.specs.names.Names.{plain, good_component, same_unit}
 use Rattle.unc.specs.declared.names.Form.{Form}
-use Rattle.unc.specs.declared.names.Form.TheVariants.{Bad, Long, Good}
+use Rattle.unc.specs.declared.names.PathError.{PathError}
+use Rattle.unc.specs.declared.names.PathError.TheVariants.{Bad, Long}
 use Rattle.unc.specs.names.Paths.{pieces, good_path, normalised, component_count}
 
 -- the units from a place up to another are equal, each to the one at its place
@@ -20,12 +21,16 @@ plain_length (u ∷ s) = choose (plain u) (suc (plain_length s)) 0
 unfoldable pub good_count : ℕ → List ℕ → ℕ
 good_count n s = choose (every good_component (pieces s)) (n + length (pieces s)) 0
 
+-- a good form of so many units and components
+abbrev pub form_of : ℕ → ℕ → Result Form PathError
+form_of units components = Ok (record { units = units; components = components })
+
 -- the form of a text as a path of at most n units normalised: bad, good but longer, or good with its length and its number of components
-unfoldable pub form_within : ℕ → List ℕ → Form
+unfoldable pub form_within : ℕ → List ℕ → Result Form PathError
 form_within n s =
     choose (good_path s)
-    (choose (leb (length (normalised s)) n) (Good (length (normalised s)) (component_count (normalised s))) Long)
-    Bad
+    (choose (leb (length (normalised s)) n) (form_of (length (normalised s)) (component_count (normalised s))) (Err Long))
+    (Err Bad)
 
 -- a room after a text was normalised into it: the path with zeros after it, or the room as it was where the path is not good or does not fit
 unfoldable pub room_after : List ℕ → List ℕ → List ℕ

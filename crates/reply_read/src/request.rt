@@ -11,6 +11,7 @@ pub const LEAST_SIZE: u32 = 1024;
 pub const MOST_SIZE: u32 = 57344;
 
 // The number of bytes of a request for a name.
+#[tactic(auto, using(crate::proofs::referral::RequestLaws::length_request))]
 pub fn request_length(name: &[u16]) -> usize
     ensures { result ≡ length (request name.now) }
 {
@@ -22,8 +23,9 @@ fn put_pair(out: &mut [u8], at: usize, u: u16)
     requires { at + 1 < length out.old }
     ensures { out.new ≡ pasted out.old at (bytes_of (u ∷ [])) }
 {
-    out[at] = (u % 256) as u8;
-    out[at + 1] = (u / 256) as u8;
+    let [low, high] = u.to_le_bytes();
+    out[at] = low;
+    out[at + 1] = high;
 }
 
 // Units as bytes, one after another.
@@ -31,14 +33,13 @@ fn put_units(out: &mut [u8], at: usize, name: &[u16])
     requires { at + 2 * length name.now ≤ length out.old }
     ensures { out.new ≡ pasted out.old at (bytes_of name.now) }
 {
-    let mut i = 0;
-    while i < name.len() {
-        put_pair(out, at + 2 * i, name[i]);
-        i += 1;
+    for (i, u) in name.iter().enumerate() {
+        put_pair(out, at + 2 * i, *u);
     }
 }
 
 // The request for a name, the empty one for domains, into a lent buffer. A buffer that is too short is told before anything is written.
+#[tactic(auto, using(crate::proofs::referral::RequestLaws::length_request))]
 pub fn request(name: &[u16], out: &mut [u8]) -> Option<usize>
     ensures answer { result ≡ asked (length out.old) name.now }
     ensures buffer { out.new ≡ buffer_with name.now out.old }

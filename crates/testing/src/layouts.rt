@@ -1,82 +1,91 @@
 // What the readers of replies find, as numbers for programs in other languages: the tests over captures link this.
-ghost use Rattle.std.specs.Prelude.{◌≡◌, ◌+◌, ◌<◌, ◌≤◌, length, get_or};
+ghost use Rattle.std.specs.Prelude.{◌≡◌, ◌+◌, ◌<◌, ◌≤◌, length, get_or, Ok};
 ghost use Rattle.reply_read.specs.name_lists.NameLists.{read_domains};
 ghost use Rattle.reply_read.specs.name_lists.Code.{answer_of};
-ghost use Rattle.testing.specs.layouts.Code.{answer_number, bit_of, bits_of, found_numbers, target_numbers, FoundNumber, TargetNumber, DcNumber, DcsNumber, GoodDomains, DomainNumber};
+ghost use Rattle.testing.specs.layouts.Code.{unread_number, unread_numbers, said_dcs, answer_number, bits_of, said_numbers, target_numbers, span_of, FoundNumber, TargetNumber, DcNumber, DcsNumber, GoodDomains, DomainNumber};
 ghost use Rattle.reply_read.specs.referral.Replies.{referral_count, entries};
-ghost use Rattle.reply_read.specs.declared.referral.Answer.TheVariants.{Says};
 
-use reply_read::referral::{Answer, Kept, ReferralFound};
+use reply_bytes::texts::Span;
+use reply_read::referral::{Kept, ReferralFound, Unread};
 
-fn bit(b: bool) -> u64
-    ensures { result ≡ bit_of b }
+// What a reply that says nothing is read as, as a number for C; one that says something is 2.
+#[tactic(auto, unfolding(crate::specs::layouts::Code::unread_number))]
+fn unread_number(e: Unread) -> u64
+    ensures { result ≡ unread_number e }
 {
-    if b {
-        return 1;
-    }
-    0
-}
-
-fn answer_number(a: Answer) -> u64
-    ensures { result ≡ answer_number a }
-{
-    match a {
-        Answer::Malformed => 0,
-        Answer::Nothing => 1,
-        Answer::Says => 2,
+    match e {
+        Unread::Malformed => 0,
+        Unread::Nothing => 1,
     }
 }
 
+// Number k of a reply that says nothing: what it is read as, then zeros.
+#[tactic(auto, unfolding(crate::specs::layouts::Code::unread_numbers))]
+fn unread_at(e: Unread, k: usize) -> u64
+    ensures { result ≡ get_or (unread_numbers e) k 0 }
+{
+    if k == 0 { unread_number(e) } else { 0 }
+}
+
+#[tactic(auto, unfolding(crate::specs::layouts::Code::bits_of, crate::specs::layouts::Code::bit_of))]
 fn bits(f: ReferralFound) -> u64
     ensures { result ≡ bits_of f }
 {
-    bit(f.root) + (2 * bit(f.servers) + (4 * bit(f.storage) + 8 * bit(f.failback)))
+    u64::from(f.root)
+        + 2 * u64::from(f.servers)
+        + 4 * u64::from(f.storage)
+        + 8 * u64::from(f.failback)
 }
 
-fn head_number(f: ReferralFound, k: usize) -> u64
-    ensures { result ≡ get_or (found_numbers f) k 0 }
+#[tactic(auto, unfolding(crate::specs::layouts::Code::said_numbers))]
+fn said_number(f: ReferralFound, k: usize) -> u64
+    ensures { result ≡ get_or (said_numbers f) k 0 }
 {
-    let a = f.answer;
-    if k == 0 {
-        return answer_number(a);
+    match k {
+        0 => 2,
+        1 => f.version as u64,
+        2 => bits(f),
+        3 => f.count as u64,
+        4 => f.ttl as u64,
+        5 => f.prefix.from as u64,
+        6 => f.prefix.units as u64,
+        7 => f.targets as u64,
+        _ => 0,
     }
-    if k == 1 {
-        return f.version as u64;
-    }
-    if k == 2 {
-        return bits(f);
-    }
-    if k == 3 {
-        return f.count as u64;
-    }
-    if k == 4 {
-        return f.ttl as u64;
-    }
-    if k == 5 {
-        return f.prefix.from as u64;
-    }
-    if k == 6 {
-        return f.prefix.units as u64;
-    }
-    if k == 7 {
-        return f.targets as u64;
-    }
-    0
 }
 
+#[tactic(auto, unfolding(crate::specs::layouts::Code::said_dcs))]
+fn dcs_number(count: usize, k: usize) -> u64
+    ensures { result ≡ get_or (said_dcs count) k 0 }
+{
+    match k {
+        0 => 2,
+        1 => count as u64,
+        _ => 0,
+    }
+}
+
+#[tactic(auto, unfolding(crate::specs::layouts::Code::target_numbers, crate::specs::layouts::Code::bit_of))]
 fn kept_number(t: Kept, k: usize) -> u64
     ensures { result ≡ get_or (target_numbers t) k 0 }
 {
-    if k == 0 {
-        return t.path.from as u64;
+    match k {
+        0 => t.path.from as u64,
+        1 => t.path.units as u64,
+        2 => u64::from(t.opens),
+        _ => 0,
     }
-    if k == 1 {
-        return t.path.units as u64;
+}
+
+#[tactic(auto, unfolding(crate::specs::layouts::Code::span_of))]
+fn span_number(s: Span, k: usize) -> u64
+    ensures { result ≡ get_or (span_of s) k 0 }
+{
+    match k {
+        0 => s.from as u64,
+        1 => s.units as u64,
+        _ => 0,
     }
-    if k == 2 {
-        return bit(t.opens);
-    }
-    0
 }
 
 // Number k of a reply to a root, link or SYSVOL request: answer, version, bits, count, TTL, prefix, number of targets.
@@ -84,8 +93,10 @@ fn kept_number(t: Kept, k: usize) -> u64
 pub extern "C" fn wire_referral(reply: &[u8], size: u32, asked: &[u16], k: usize) -> u64
     ensures { FoundNumber size asked.now reply.now k result }
 {
-    let f = reply_read::referral::read_referral(reply, size, asked);
-    head_number(f, k)
+    match reply_read::referral::read_referral(reply, size, asked) {
+        Ok(f) => said_number(f, k),
+        Err(e) => unread_at(e, k),
+    }
 }
 
 // Number k of its target i: where the path starts, its units, whether a set opens before it.
@@ -96,10 +107,10 @@ pub extern "C" fn wire_target(reply: &[u8], size: u32, asked: &[u16], i: usize, 
     if 8 <= i {
         return 0;
     }
-    let f = reply_read::referral::read_referral(reply, size, asked);
-    let kept = f.kept;
-    let t = kept[i];
-    kept_number(t, k)
+    match reply_read::referral::read_referral(reply, size, asked) {
+        Ok(f) => kept_number(f.kept[i], k),
+        Err(_) => 0,
+    }
 }
 
 // Number k of a DC reply: answer, number of DCs.
@@ -107,15 +118,10 @@ pub extern "C" fn wire_target(reply: &[u8], size: u32, asked: &[u16], i: usize, 
 pub extern "C" fn wire_dcs(reply: &[u8], size: u32, k: usize) -> u64
     ensures { DcsNumber size reply.now k result }
 {
-    let f = reply_read::name_lists::read_dcs(reply, size);
-    let a = f.answer;
-    if k == 0 {
-        return answer_number(a);
+    match reply_read::name_lists::read_dcs(reply, size) {
+        Ok(f) => dcs_number(f.count, k),
+        Err(e) => unread_at(e, k),
     }
-    if k == 1 {
-        return f.count as u64;
-    }
-    0
 }
 
 // Number k of its DC i: where the name starts, its units.
@@ -126,16 +132,10 @@ pub extern "C" fn wire_dc(reply: &[u8], size: u32, i: usize, k: usize) -> u64
     if 8 <= i {
         return 0;
     }
-    let f = reply_read::name_lists::read_dcs(reply, size);
-    let kept = f.kept;
-    let s = kept[i];
-    if k == 0 {
-        return s.from as u64;
+    match reply_read::name_lists::read_dcs(reply, size) {
+        Ok(f) => span_number(f.kept[i], k),
+        Err(_) => 0,
     }
-    if k == 1 {
-        return s.units as u64;
-    }
-    0
 }
 
 // What a domain reply is read as.
@@ -143,8 +143,10 @@ pub extern "C" fn wire_dc(reply: &[u8], size: u32, i: usize, k: usize) -> u64
 pub extern "C" fn wire_domains(reply: &[u8], size: u32) -> u64
     ensures { result ≡ answer_number (answer_of (read_domains size reply.now)) }
 {
-    let a = reply_read::name_lists::read_domains(reply, size);
-    answer_number(a)
+    match reply_read::name_lists::read_domains(reply, size) {
+        Ok(()) => 2,
+        Err(e) => unread_number(e),
+    }
 }
 
 // Where entry i of a good domain reply starts.
@@ -154,10 +156,8 @@ fn entry_at(r: &[u8], i: usize) -> usize
     ensures inside { result + 18 ≤ length r.now }
 {
     let mut e = 8;
-    let mut j = 0;
-    while j < i {
+    for _j in 0..i {
         e = reply_read::referral::next_entry(r, e);
-        j += 1;
     }
     e
 }
@@ -172,24 +172,15 @@ fn domain_number(r: &[u8], i: usize, k: usize) -> u64
     let Some(s) = reply_read::name_lists::domain_at(r, e) else {
         return 0;
     };
-    if k == 0 {
-        return s.from as u64;
-    }
-    if k == 1 {
-        return s.units as u64;
-    }
-    0
+    span_number(s, k)
 }
 
 // Number k of domain i of a domain reply that says something.
 #[unsafe(no_mangle)]
 pub extern "C" fn wire_domain(reply: &[u8], size: u32, i: usize, k: usize) -> u64
-    ensures { Says ≡ answer_of (read_domains size reply.now) → i < referral_count reply.now → DomainNumber reply.now i k result }
+    ensures { Ok tt ≡ answer_of (read_domains size reply.now) → i < referral_count reply.now → DomainNumber reply.now i k result }
 {
-    if wire_domains(reply, size) != 2 {
-        return 0;
-    }
-    if reply.len() < 8 {
+    if wire_domains(reply, size) != 2 || reply.len() < 8 {
         return 0;
     }
     let n = reply_bytes::texts::unit_at(reply, 2) as usize;

@@ -1,7 +1,6 @@
 -- Laws of DC and domain replies.
-use Rattle.std.specs.Prelude.{Option, None, Some}
-use mathlib.Core.Path.{◌≡◌, refl, sym, ap, ◌∙◌, subst}
-use mathlib.Core.Bool.{Bool, true, false, ◌&&◌, not, true≢false}
+use mathlib.Core.Path.{◌≡◌, refl, sym, ap, ◌∙◌}
+use mathlib.Core.Bool.{Bool, true, false, ◌&&◌, true≢false}
 use mathlib.Core.List.{List, [], ◌∷◌, ◌++◌, map}
 use mathlib.Core.Logic.{◌⊎◌, inl, inr}
 use Prim.Native.Nat.{ℕ, suc, ◌+◌, ◌-◌, ◌*◌, ◌≤◌, ◌<◌, min}
@@ -10,27 +9,28 @@ use lib.Dec.{eqb}
 use lib.ListN.{length, get_or, take, drop, set, length-drop}
 use lib.Seq.{take_all}
 use borrow.Author.Tests.{eq-eqb, ne_eqb, eqb-true, leb-true}
+use Rattle.std.specs.Bool.{then_some}
+use Rattle.laws.specs.Choice.{choose}
 use Rattle.laws.specs.Lists.{every}
-use Rattle.laws.proofs.Choices.{choose_yes, choose_no, and_left, and_right, and_both, and_no_left, and_no_right}
+use Rattle.laws.proofs.Choices.{choose_yes, choose_no, and_left, and_right, and_both, and_no_left}
 use Rattle.laws.proofs.Orders.{lt_or_le}
 use Rattle.laws.proofs.Filling.{filled_next, filled_whole, every_set}
 use Rattle.unc.specs.names.Names.{good_name}
-use Rattle.reply_bytes.specs.texts.Bytes.{Text, terminated, unterminated, text_from, u16_at, flag}
+use Rattle.reply_bytes.specs.texts.Bytes.{Text, terminated, unterminated, text_from}
 use Rattle.reply_bytes.specs.texts.Code.{spanned, Inside, part_of}
 use Rattle.reply_bytes.specs.declared.texts.Span.{Span}
 use Rattle.reply_bytes.proofs.texts.UnitLaws.{length_spanned, part_spanned}
 use Rattle.reply_read.specs.referral.Replies.{is_read, with_first, all_read, readable, version_at, fits, entry_flag, size_at}
-use Rattle.reply_read.specs.name_lists.NameLists.{bare, dc_of, domain_said, bytes_past, texts_at, dc_names, good_dcs, domain_at, good_domain_name}
-use Rattle.reply_read.specs.referral.Replies.{Reply, malformed, nothing, read_or}
-use Rattle.reply_read.specs.referral.Code.{is_inside, units_read, reply_of}
-use Rattle.reply_read.specs.name_lists.Code.{dc_shown, dc_placed, domain_name, answer_of, denoted_dcs, no_dcs, DcsInside}
-use Rattle.reply_read.specs.declared.name_lists.DcRead.{DcRead}
-use Rattle.reply_read.specs.declared.name_lists.DcRead.TheVariants.{Name, NoName}
-use Rattle.reply_read.specs.declared.name_lists.DcsFound.{DcsFound}
-use Rattle.reply_read.specs.declared.referral.Answer.{Answer}
-use Rattle.reply_read.specs.declared.referral.Answer.TheVariants.{Malformed, Nothing, Says}
+use Rattle.reply_read.specs.name_lists.NameLists.{bare, dc_of, domain_said, bytes_past, texts_at, good_dcs, domain_at, good_domain_name}
+use Rattle.reply_read.specs.referral.Replies.{read_or}
+use Rattle.reply_read.specs.referral.Code.{is_inside, text_shown, units_read, unread}
+use Rattle.reply_read.specs.name_lists.Code.{dc_shown, dc_placed, domain_name, answer_of}
+use Rattle.reply_read.specs.declared.name_lists.NextDc.{NextDc}
+use Rattle.reply_read.specs.declared.referral.Unread.{Unread}
+use Rattle.reply_read.specs.declared.referral.Unread.TheVariants.{Malformed, Nothing}
+use Rattle.std.specs.Prelude.{Ok, Err, Option, None, Some}
 use Rattle.reply_read.proofs.referral.EntryLaws.{read_some, fits_room}
-use Rattle.reply_read.proofs.referral.TargetLaws.{inside_test, none_inside}
+use Rattle.reply_read.proofs.referral.TargetLaws.{inside_test}
 
 -- a span without its first unit
 pub rest_spanned : (r : List ℕ) (s : Span) → 0 < s.units → spanned r (part_of s 1 s.units) ≡ drop 1 (spanned r s)
@@ -39,7 +39,13 @@ rest_spanned r s h =
     part_spanned r s 1 s.units (omega arith) (omega arith)
     ∙ take_all (s.units - 1) (drop 1 (spanned r s)) (simp length-drop (omega arith))
 
--- the ways of `bare`, `dc_of` and `domain_of`
+-- a span that is handed on where a test holds
+pub kept_shown : (r : List ℕ) (t : Bool) (s : Span) → text_shown r (then_some t s) ≡ choose t (Some (spanned r s)) None
+unfolding text_shown choose
+kept_shown r true s = refl
+kept_shown r false s = refl
+
+-- the ways of `bare`, `dc_of` and `domain_said`
 module _ (u : List ℕ) where
   pub bare_stays : (get_or u 0 0 ≡ 92 → ⊥) → u ≡ bare u
   unfolding bare
@@ -49,25 +55,17 @@ module _ (u : List ℕ) where
   unfolding bare
   bare_drops h = sym (choose_yes (drop 1 u) u (eq-eqb (get_or u 0 0) 92 h))
 
-  pub dc_yes : {b : List ℕ} {t : Bool} → b ≡ bare u → t ≡ good_name b → t ≡ true → Some b ≡ dc_of (terminated u)
+  pub dc_told : {b : List ℕ} {t : Bool} → b ≡ bare u → t ≡ good_name b → choose t (Some b) None ≡ dc_of (terminated u)
   unfolding dc_of
-  dc_yes e f h = (λ i. Some (e i)) ∙ sym (choose_yes (Some (bare u)) None (sym (f ∙ ap good_name e) ∙ h))
-
-  pub dc_no : {b : List ℕ} {t : Bool} → b ≡ bare u → t ≡ good_name b → t ≡ false → dc_of (terminated u) ≡ None
-  unfolding dc_of
-  dc_no e f h = choose_no (Some (bare u)) None (sym (f ∙ ap good_name e) ∙ h)
+  dc_told e f = λ i. choose ((f ∙ ap good_name e) i) (Some (e i)) None
 
   pub domain_unled : (get_or u 0 0 ≡ 92 → ⊥) → domain_said (terminated u) ≡ None
   unfolding domain_said
   domain_unled h = choose_no (Some (drop 1 u)) None (and_no_left _ (ne_eqb (get_or u 0 0) 92 h))
 
-  pub domain_no : {b : List ℕ} {t : Bool} → b ≡ drop 1 u → t ≡ good_name b → t ≡ false → domain_said (terminated u) ≡ None
+  pub domain_told : {b : List ℕ} {t : Bool} → get_or u 0 0 ≡ 92 → b ≡ drop 1 u → t ≡ good_name b → choose t (Some b) None ≡ domain_said (terminated u)
   unfolding domain_said
-  domain_no e f h = choose_no (Some (drop 1 u)) None (and_no_right (eqb (get_or u 0 0) 92) (sym (f ∙ ap good_name e) ∙ h))
-
-  pub domain_yes : {b : List ℕ} {t : Bool} → get_or u 0 0 ≡ 92 → b ≡ drop 1 u → t ≡ good_name b → t ≡ true → Some b ≡ domain_said (terminated u)
-  unfolding domain_said
-  domain_yes g e f h = (λ i. Some (e i)) ∙ sym (choose_yes (Some (drop 1 u)) None (and_both (eq-eqb (get_or u 0 0) 92 g) (sym (f ∙ ap good_name e) ∙ h)))
+  domain_told g e f = rw (eq-eqb (get_or u 0 0) 92 g) (λ i. choose ((f ∙ ap good_name e) i) (Some (e i)) None)
 
 pub domain_unended : {t : Text} → t ≡ unterminated → domain_said t ≡ None
 unfolding domain_said
@@ -79,35 +77,35 @@ dc_unended e = ap dc_of e
 
 -- What reading a DC name answers, and what is known of it where it is taken.
 module _ (r : List ℕ) (i : ℕ) where
-  pub no_dc_lem : {x : Option (List ℕ)} → x ≡ None → (dc_shown r NoName ≡ x) × (dc_placed r i NoName ≡ true)
+  pub no_dc_lem : {v : Option NextDc} → v ≡ None → {x : Option (List ℕ)} → x ≡ None → (dc_shown r v ≡ x) × (dc_placed r i v ≡ true)
   unfolding dc_shown dc_placed
-  no_dc_lem e = (sym e, refl)
+  no_dc_lem h e = rw h (sym e, refl)
 
-  pub some_dc : (s : Span) (next : ℕ) {x : Option (List ℕ)} → x ≡ Some (spanned r s) → Inside r s → next ≡ i → (dc_shown r (Name s next) ≡ x) × (dc_placed r i (Name s next) ≡ true)
+  pub some_dc : (d : NextDc) {x : Option (List ℕ)} → x ≡ Some (spanned r d.name) → Inside r d.name → d.next ≡ i → (dc_shown r (Some d) ≡ x) × (dc_placed r i (Some d) ≡ true)
   unfolding dc_shown dc_placed
-  some_dc s next e h k = (sym e, and_both (inside_test r s h) (eq-eqb next i k))
+  some_dc d e h k = (sym e, and_both (inside_test r d.name h) (eq-eqb d.next i k))
 
-module _ (r : List ℕ) {v : DcRead} where
-  pub dc_bad : v ≡ NoName → {x : Option (List ℕ)} → dc_shown r v ≡ x → x ≡ None
+module _ (r : List ℕ) {v : Option NextDc} where
+  pub dc_bad : v ≡ None → {x : Option (List ℕ)} → dc_shown r v ≡ x → x ≡ None
   unfolding dc_shown
   dc_bad e f = sym f ∙ ap (dc_shown r) e
 
-  module _ (s : Span) (next : ℕ) (e : v ≡ Name s next) where
-    pub dc_good : {x : Option (List ℕ)} → dc_shown r v ≡ x → x ≡ Some (spanned r s)
+  module _ (d : NextDc) (e : v ≡ Some d) where
+    pub dc_good : {x : Option (List ℕ)} → dc_shown r v ≡ x → x ≡ Some (spanned r d.name)
     unfolding dc_shown
     dc_good f = sym f ∙ ap (dc_shown r) e
 
     module _ (i : ℕ) (h : dc_placed r i v ≡ true) where
-      placed : (is_inside r s && eqb next i) ≡ true
+      placed : (is_inside r d.name && eqb d.next i) ≡ true
       unfolding dc_placed
       placed = sym (ap (dc_placed r i) e) ∙ h
 
-      pub dc_next : next ≡ i
-      dc_next = eqb-true next i (and_right (is_inside r s) _ placed)
+      pub dc_next : d.next ≡ i
+      dc_next = eqb-true d.next i (and_right (is_inside r d.name) _ placed)
 
-      pub dc_inside : Inside r s
+      pub dc_inside : Inside r d.name
       unfolding is_inside
-      dc_inside = leb-true (s.from + 2 * s.units) (length r) (and_left _ _ placed)
+      dc_inside = leb-true (d.name.from + 2 * d.name.units) (length r) (and_left _ _ placed)
 
 -- where the next text starts
 pub past_ended : {t : Text} (at : ℕ) (r : List ℕ) (s : Span) → t ≡ terminated (spanned r s) → at + 2 * (s.units + 1) ≡ at + bytes_past t
@@ -181,99 +179,21 @@ name_start r n from = ap (λ (x : List Text). map units_read (take 8 (map dc_of 
 pub span_next : (r : List ℕ) (l : List Span) (i : ℕ) (s : Span) → every (is_inside r) l ≡ true → Inside r s → every (is_inside r) (set l i s) ≡ true
 span_next r l i s h k = every_set (is_inside r) l i s h (inside_test r s k)
 
--- the ways of `good_dcs`, in the order of the tests
-module _ (r : List ℕ) where
-  pub dcs_unfit : {t : Bool} → t ≡ fits 18 r 8 → t ≡ false → false ≡ good_dcs r
-  unfolding good_dcs
-  dcs_unfit f h = sym (and_no_right (readable (version_at r 8)) (and_no_left _ (sym f ∙ h)))
+-- a good DC reply reaches past the fixed part of its first entry
+pub dcs_long : (r : List ℕ) {t : Bool} → t ≡ good_dcs r → t ≡ true → 26 ≤ length r
+unfolding good_dcs
+dcs_long r f h =
+    let w : (18 ≤ size_at r 8) × (8 + size_at r 8 ≤ length r) = fits_room 18 r 8 refl (and_left _ _ (and_right (readable (version_at r 8)) _ (sym f ∙ h))) in
+    omega (arith, w.0, w.1)
 
-  pub dcs_unread : {v : ℕ} {t : Bool} → v ≡ u16_at r 8 → t ≡ readable v → t ≡ false → false ≡ good_dcs r
-  unfolding good_dcs version_at
-  dcs_unread e f h = sym (and_no_left _ (sym (f ∙ ap readable e) ∙ h))
-
-  module _ {t : Bool} (a : t ≡ fits 18 r 8) (a' : t ≡ true) {v : ℕ} {q : Bool} (b : v ≡ u16_at r 8) (d : q ≡ readable v) (d' : q ≡ true) where
-    dcs_rest : good_dcs r ≡ (entry_flag 2 r 8 && (not (eqb (u16_at r 22) 0) && every is_read (dc_names r)))
-    unfolding good_dcs version_at
-    dcs_rest =
-        let x : readable (u16_at r 8) ≡ true = sym (d ∙ ap readable b) ∙ d' in
-        let y : fits 18 r 8 ≡ true = sym a ∙ a' in
-        rw (x, y)
-
-    pub dcs_flag : {f : ℕ} {g : Bool} → f ≡ u16_at r 14 → g ≡ flag 2 f → g ≡ false → false ≡ good_dcs r
-    unfolding entry_flag
-    dcs_flag i j h = sym (dcs_rest ∙ and_no_left _ (sym (j ∙ ap (flag 2) i) ∙ h))
-
-    module _ {f : ℕ} {g : Bool} (i : f ≡ u16_at r 14) (j : g ≡ flag 2 f) (j' : g ≡ true) {n : ℕ} (k : n ≡ u16_at r 22) where
-      dcs_names : good_dcs r ≡ (not (eqb n 0) && every is_read (dc_names r))
-      unfolding entry_flag
-      dcs_names = dcs_rest ∙ (let x : flag 2 (u16_at r 14) ≡ true = sym (j ∙ ap (flag 2) i) ∙ j' in rw (x, ← k))
-
-      pub dcs_none : n ≡ 0 → false ≡ good_dcs r
-      dcs_none h = sym (dcs_names ∙ and_no_left _ (ap not (eq-eqb n 0 h)))
-
-      pub dcs_good : (n ≡ 0 → ⊥) → {o : ℕ} {m : Bool} → o ≡ u16_at r 24 → m ≡ every is_read (map dc_of (texts_at n (8 + o) r)) → m ≡ good_dcs r
-      unfolding dc_names
-      dcs_good h p s = s ∙ sym (dcs_names ∙ (let x : eqb n 0 ≡ false = ne_eqb n 0 h in rw (x, k, p)))
-
-  pub dcs_long : {t : Bool} → t ≡ good_dcs r → t ≡ true → 26 ≤ length r
-  unfolding good_dcs
-  dcs_long f h =
-      let w : (18 ≤ size_at r 8) × (8 + size_at r 8 ≤ length r) = fits_room 18 r 8 refl (and_left _ _ (and_right (readable (version_at r 8)) _ (sym f ∙ h))) in
-      omega (arith, w.0, w.1)
-
--- a DC reply that says nothing
-module _ (r : List ℕ) {f : DcsFound} where
-  pub dcs_malformed : f ≡ no_dcs Malformed → denoted_dcs r f ≡ malformed
-  unfolding denoted_dcs reply_of no_dcs
-  dcs_malformed e = ap (denoted_dcs r) e
-
-  pub dcs_nothing : f ≡ no_dcs Nothing → denoted_dcs r f ≡ nothing
-  unfolding denoted_dcs reply_of no_dcs
-  dcs_nothing e = ap (denoted_dcs r) e
-
-  pub dcs_within : (a : Answer) → f ≡ no_dcs a → DcsInside r f
-  unfolding no_dcs
-  dcs_within a e = subst (DcsInside r) (sym e) (record { kept_within = none_inside r 8; few = omega arith })
-
--- the ways of `good_domain`, in the order of the tests
+-- one entry of a domain reply
 module _ (r : List ℕ) (e : ℕ) where
-  pub domain_unfit : {t : Bool} → t ≡ fits 18 r e → t ≡ false → false ≡ good_domain_name r e
+  domain_parts : good_domain_name r e ≡ (eqb (version_at r e) 3 && (fits 18 r e && (entry_flag 2 r e && is_read (domain_at r e))))
   unfolding good_domain_name
-  domain_unfit f h = sym (and_no_right (eqb (version_at r e) 3) (and_no_left _ (sym f ∙ h)))
-
-  pub domain_version : {v : ℕ} → v ≡ u16_at r e → (v ≡ 3 → ⊥) → false ≡ good_domain_name r e
-  unfolding good_domain_name version_at
-  domain_version f h = sym (and_no_left _ (ne_eqb (u16_at r e) 3 (λ q. h (f ∙ q))))
-
-  module _ {t : Bool} (a : t ≡ fits 18 r e) (a' : t ≡ true) {v : ℕ} (b : v ≡ u16_at r e) (b' : v ≡ 3) where
-    domain_rest : good_domain_name r e ≡ (entry_flag 2 r e && is_read (domain_at r e))
-    unfolding good_domain_name version_at
-    domain_rest =
-        let x : eqb (u16_at r e) 3 ≡ true = eq-eqb _ _ (sym b ∙ b') in
-        let y : fits 18 r e ≡ true = sym a ∙ a' in
-        rw (x, y)
-
-    pub domain_flag : {f : ℕ} {g : Bool} → f ≡ u16_at r (e + 6) → g ≡ flag 2 f → g ≡ false → false ≡ good_domain_name r e
-    unfolding entry_flag
-    domain_flag i j h = sym (domain_rest ∙ and_no_left _ (sym (j ∙ ap (flag 2) i) ∙ h))
-
-    pub domain_good : {f : ℕ} {g : Bool} → f ≡ u16_at r (e + 6) → g ≡ flag 2 f → g ≡ true → {s : List ℕ} → domain_at r e ≡ Some s → true ≡ good_domain_name r e
-    unfolding entry_flag is_read
-    domain_good i j h k = sym (domain_rest ∙ and_both (sym (j ∙ ap (flag 2) i) ∙ h) (ap is_read k))
-
-  domain_told : good_domain_name r e ≡ (eqb (version_at r e) 3 && (fits 18 r e && (entry_flag 2 r e && is_read (domain_at r e))))
-  unfolding good_domain_name
-  domain_told = refl
-
-  pub domain_bad : domain_at r e ≡ None → false ≡ good_domain_name r e
-  unfolding is_read
-  domain_bad h =
-      sym
-      (domain_told
-      ∙ and_no_right (eqb (version_at r e) 3) (and_no_right (fits 18 r e) (and_no_right (entry_flag 2 r e) (ap is_read h))))
+  domain_parts = refl
 
   pub domain_read : good_domain_name r e ≡ true → is_read (domain_at r e) ≡ true
-  domain_read h = and_right (entry_flag 2 r e) _ (and_right (fits 18 r e) _ (and_right (eqb (version_at r e) 3) _ (sym domain_told ∙ h)))
+  domain_read h = and_right (entry_flag 2 r e) _ (and_right (fits 18 r e) _ (and_right (eqb (version_at r e) 3) _ (sym domain_parts ∙ h)))
 
   pub domain_fit : {t : Bool} → t ≡ good_domain_name r e → t ≡ true → (18 ≤ size_at r e) × (e + size_at r e ≤ length r)
   unfolding good_domain_name
@@ -288,9 +208,11 @@ domains_read r (e ∷ es) h =
     ∙ ap (with_first (domain_name r e)) (domains_read r es (and_right (good_domain_name r e) _ h))
 
 -- which way a reply is read
-pub answer_says : {A : Type 0} {x : Option A} {a : A} → x ≡ Some a → Says ≡ answer_of (read_or x)
+pub answer_ok : {A : Type 0} {x : Option A} {a : A} → x ≡ Some a → Ok tt ≡ answer_of (read_or x)
 unfolding read_or answer_of
-answer_says e = sym (ap (λ (y : Option _). answer_of (read_or y)) e)
+answer_ok e = sym (ap (λ (y : Option _). answer_of (read_or y)) e)
 
-pub answer_is : {A : Type 0} {x y : Reply A} → x ≡ y → answer_of x ≡ answer_of y
-answer_is e = ap answer_of e
+pub answer_err : (A : Type 0) (e : Unread) → Err e ≡ answer_of {A = A} (unread e)
+unfolding answer_of unread
+answer_err A Malformed = refl
+answer_err A Nothing = refl

@@ -1,5 +1,4 @@
 -- What is known of DC and domain replies that say something: for the crates above.
-use Rattle.std.specs.Prelude.{None, Some, Option}
 use mathlib.Core.Path.{◌≡◌, refl, sym, ap, ◌∙◌, subst}
 use mathlib.Core.Bool.{Bool, true, false, ◌&&◌, not}
 use mathlib.Core.List.{List, [], ◌∷◌, map}
@@ -17,16 +16,14 @@ use Rattle.unc.specs.names.Names.{good_name}
 use Rattle.reply_bytes.specs.texts.Bytes.{u16_at, Text, terminated, unterminated}
 use Rattle.reply_bytes.specs.texts.Code.{spanned}
 use Rattle.reply_read.specs.referral.Replies.{referral_count, starts, entries, size_at, version_at, fits, entry_flag, readable, is_read, all_read, Reply, malformed, nothing, says}
-use Rattle.reply_read.specs.referral.Code.{units_read, text_shown, reply_of}
-use Rattle.reply_read.specs.declared.referral.Answer.{Answer}
-use Rattle.reply_read.specs.declared.referral.Answer.TheVariants.{Says}
+use Rattle.reply_read.specs.referral.Code.{units_read, text_shown}
+use Rattle.std.specs.Prelude.{Ok, None, Some, Option}
 use Rattle.reply_bytes.specs.declared.texts.Span.{Span}
 use Rattle.reply_read.proofs.referral.TextLaws.{text_good, text_bad}
 use Rattle.reply_read.proofs.referral.EntryLaws.{unread, all_read_lem, starts_cons}
 use Rattle.reply_read.proofs.referral.SaysLaws.{Read, read_says, some_is}
 use Rattle.reply_read.specs.name_lists.NameLists.{bare, dc_of, domain_said, texts_at, dc_names, good_dcs, read_dcs, domain_at, good_domain_name, read_domains}
-use Rattle.reply_read.specs.name_lists.Code.{domain_name, denoted_dcs, answer_of}
-use Rattle.reply_read.specs.declared.name_lists.DcsFound.{DcsFound}
+use Rattle.reply_read.specs.name_lists.Code.{domain_name, answer_of}
 use Rattle.reply_read.proofs.name_lists.ListLaws.{domain_fit, domain_read, domains_read}
 
 -- names that are read are good names
@@ -100,11 +97,6 @@ says_dcs size r xs h = subst SoundDcs (some_is _ xs (sym (dcs_kept r w.passed) �
               ∙ every_take good_name 8 (map units_read (dc_names r)) (dcs_all (texts_at (u16_at r 22) (8 + u16_at r 24) r) (dcs_read r w.passed).0);
         }
 
--- the reader's answer
-pub dcs_says : (r : List ℕ) (f : DcsFound) → f.answer ≡ Says → denoted_dcs r f ≡ says (map (spanned r) (take f.count f.kept))
-unfolding denoted_dcs reply_of
-dcs_says r f h = ap (λ (a : Answer). reply_of a (map (spanned r) (take f.count f.kept))) h
-
 -- A domain reply that says something: its names are those of its entries, all of them good.
 pub record SoundDomains (size : ℕ) (r : List ℕ) : Type 0 where
   pub is : read_domains size r ≡ says (map (domain_name r) (entries r))
@@ -113,13 +105,13 @@ pub record SoundDomains (size : ℕ) (r : List ℕ) : Type 0 where
   pub some : 0 < referral_count r
   pub good : every (good_domain_name r) (entries r) ≡ true
 
-says_of : {A : Type 0} (x : Reply A) → Says ≡ answer_of x → (B : Type 0) → ((a : A) → x ≡ says a → B) → B
+says_of : {A : Type 0} (x : Reply A) → Ok tt ≡ answer_of x → (B : Type 0) → ((a : A) → x ≡ says a → B) → B
 unfolding answer_of
-says_of malformed h B f = absurd (let z : ◌≡◌ {A = ℕ} 0 1 = cc in omega arith)
-says_of nothing h B f = absurd (let z : ◌≡◌ {A = ℕ} 0 1 = cc in omega arith)
+says_of malformed h B f = absurd cc
+says_of nothing h B f = absurd cc
 says_of (says a) h B f = f a refl
 
-pub says_domains : (size : ℕ) (r : List ℕ) → Says ≡ answer_of (read_domains size r) → SoundDomains size r
+pub says_domains : (size : ℕ) (r : List ℕ) → Ok tt ≡ answer_of (read_domains size r) → SoundDomains size r
 unfolding read_domains
 says_domains size r h = says_of (read_domains size r) h (SoundDomains size r) made
   where

@@ -1,33 +1,19 @@
 -- Laws of an entry's numbers.
 use Rattle.std.specs.Prelude.{Option, None, Some}
 use mathlib.Core.Path.{◌≡◌, refl, sym, ap, ◌∙◌}
-use mathlib.Core.Bool.{Bool, true, false, ◌&&◌, not, true≢false}
+use mathlib.Core.Bool.{Bool, true, false, ◌&&◌, true≢false}
 use mathlib.Core.List.{List, [], ◌∷◌, map}
 use mathlib.Core.Logic.{◌⊎◌, inl, inr}
-use Prim.Native.Nat.{ℕ, suc, ◌+◌, ◌-◌, ◌/◌, ◌%◌, ◌≤◌, ◌<◌}
+use Prim.Native.Nat.{ℕ, suc, ◌+◌, ◌-◌, ◌≤◌, ◌<◌}
 use native.Mathlib.Omega.{arith}
 use lib.Dec.{leb, eqb}
 use lib.ListN.{length}
-use borrow.Author.Tests.{eq-eqb, ne_eqb, le-leb, lt-leb, leb-true}
-use Rattle.laws.proofs.Choices.{and_left, and_right, and_both, and_no_left, and_no_right}
+use borrow.Author.Tests.{lt-leb, leb-true}
+use Rattle.laws.proofs.Choices.{and_left, and_right, and_no_left, and_no_right}
 use Rattle.laws.proofs.Orders.{lt_or_le}
 use Rattle.laws.specs.Lists.{every}
-use Rattle.unc.specs.names.Names.{same_name}
-use Rattle.reply_bytes.specs.texts.Bytes.{u16_at, flag}
-use Rattle.reply_read.specs.referral.Replies.{version_at, size_at, server_type_at, entry_flag, fits, readable, fixed_length, good_fields, good_entry, is_read, same_read, with_first, all_read, prefix_at, target_at, starts, entries, referral_count}
+use Rattle.reply_read.specs.referral.Replies.{version_at, size_at, fits, readable, fixed_length, good_fields, good_entry, is_read, same_read, with_first, all_read, prefix_at, target_at, starts, entries, referral_count}
 use Rattle.reply_read.specs.referral.Code.{units_read}
-
-pub flag_is : (m f : ℕ) → eqb (f / m % 2) 1 ≡ flag m f
-unfolding flag
-flag_is m f = refl
-
-pub readable_three : (v : ℕ) → v ≡ 3 → true ≡ readable v
-unfolding readable
-readable_three v h = rw (eq-eqb v 3 h)
-
-pub readable_other : (v : ℕ) → (v ≡ 3 → ⊥) → eqb v 4 ≡ readable v
-unfolding readable
-readable_other v h = rw (ne_eqb v 3 h)
 
 -- the ways of `fits`
 module _ (fixed : ℕ) (r : List ℕ) (e : ℕ) where
@@ -39,68 +25,17 @@ module _ (fixed : ℕ) (r : List ℕ) (e : ℕ) where
       go (inl z) = and_no_left _ (lt-leb fixed (size_at r e) z)
       go (inr z) = and_no_right (leb fixed (size_at r e)) (lt-leb (e + size_at r e) (length r) (omega arith))
 
-  pub fits_small : {z : ℕ} → z ≡ size_at r e → z < fixed → false ≡ fits fixed r e
-  unfolding fits
-  fits_small f h = sym (and_no_left _ (lt-leb fixed (size_at r e) (omega arith)))
-
-  pub fits_size : {z : ℕ} → z ≡ size_at r e → fixed ≤ z → e ≤ length r → leb z (length r - e) ≡ fits fixed r e
-  unfolding fits
-  fits_size {z} f h k = go (lt_or_le (length r - e) z)
-    where
-      go : (length r - e < z) ⊎ (z ≤ length r - e) → leb z (length r - e) ≡ (leb fixed (size_at r e) && leb (e + size_at r e) (length r))
-      go (inl y) = lt-leb z (length r - e) y ∙ sym (and_no_right (leb fixed (size_at r e)) (lt-leb (e + size_at r e) (length r) (omega arith)))
-      go (inr y) =
-          le-leb z (length r - e) y
-          ∙ sym (and_both (le-leb fixed (size_at r e) (omega arith)) (le-leb (e + size_at r e) (length r) (omega arith)))
-
   pub fits_room : {t : Bool} → t ≡ fits fixed r e → t ≡ true → (fixed ≤ size_at r e) × (e + size_at r e ≤ length r)
   unfolding fits
   fits_room f h =
       let q : (leb fixed (size_at r e) && leb (e + size_at r e) (length r)) ≡ true = sym f ∙ h in
       (leb-true fixed (size_at r e) (and_left _ _ q), leb-true (e + size_at r e) (length r) (and_right (leb fixed (size_at r e)) _ q))
 
--- the ways of `good_fields`, in the order of the tests
+-- the numbers of an entry
 module _ (r : List ℕ) (e : ℕ) where
   pub fields_unfit : {t : Bool} → t ≡ fits 34 r e → t ≡ false → false ≡ good_fields r e
   unfolding good_fields fixed_length
   fields_unfit f h = sym (and_no_right (readable (version_at r e)) (and_no_right (eqb (version_at r e) (version_at r 8)) (and_no_left _ (sym f ∙ h))))
-
-  pub fields_version : {v w : ℕ} → v ≡ u16_at r e → w ≡ version_at r 8 → (v ≡ w → ⊥) → false ≡ good_fields r e
-  unfolding good_fields version_at
-  fields_version f g h = sym (and_no_right (readable (u16_at r e)) (and_no_left _ (ne_eqb (u16_at r e) (u16_at r 8) (λ q. h (f ∙ (q ∙ sym g))))))
-
-  pub fields_unread : {v : ℕ} {t : Bool} → v ≡ u16_at r e → t ≡ readable v → t ≡ false → false ≡ good_fields r e
-  unfolding good_fields version_at
-  fields_unread f g h = sym (and_no_left _ (sym (g ∙ ap readable f) ∙ h))
-
-  module _ {t : Bool} (a : t ≡ fits 34 r e) (a' : t ≡ true) {v w : ℕ} (b : v ≡ u16_at r e) (b' : w ≡ version_at r 8) (b'' : v ≡ w)
-      {q : Bool} (d : q ≡ readable v) (d' : q ≡ true) where
-    fields_rest : good_fields r e ≡ (not (entry_flag 2 r e) && (leb (server_type_at r e) 1 && eqb (server_type_at r e) (server_type_at r 8)))
-    unfolding good_fields version_at fixed_length
-    fields_rest =
-        let x : readable (u16_at r e) ≡ true = sym (d ∙ ap readable b) ∙ d' in
-        let y : eqb (u16_at r e) (u16_at r 8) ≡ true = eq-eqb _ _ (sym b ∙ (b'' ∙ b')) in
-        let z : fits 34 r e ≡ true = sym a ∙ a' in
-        rw (x, y, z)
-
-    pub fields_list : {f : ℕ} {g : Bool} → f ≡ u16_at r (e + 6) → g ≡ flag 2 f → g ≡ true → false ≡ good_fields r e
-    unfolding entry_flag
-    fields_list i j h = sym (fields_rest ∙ and_no_left _ (ap not (sym (j ∙ ap (flag 2) i) ∙ h)))
-
-    module _ {f : ℕ} {g : Bool} (i : f ≡ u16_at r (e + 6)) (j : g ≡ flag 2 f) (j' : g ≡ false) where
-      fields_kind : good_fields r e ≡ (leb (server_type_at r e) 1 && eqb (server_type_at r e) (server_type_at r 8))
-      unfolding entry_flag
-      fields_kind = fields_rest ∙ (let x : flag 2 (u16_at r (e + 6)) ≡ false = sym (j ∙ ap (flag 2) i) ∙ j' in rw x)
-
-      pub fields_type : {k : ℕ} → k ≡ u16_at r (e + 4) → 1 < k → false ≡ good_fields r e
-      unfolding server_type_at
-      fields_type m h = sym (fields_kind ∙ and_no_left _ (lt-leb (u16_at r (e + 4)) 1 (omega arith)))
-
-      pub fields_good : {k l : ℕ} → k ≡ u16_at r (e + 4) → l ≡ server_type_at r 8 → k ≤ 1 → eqb k l ≡ good_fields r e
-      unfolding server_type_at
-      fields_good m n h =
-          let x : leb (u16_at r (e + 4)) 1 ≡ true = le-leb (u16_at r (e + 4)) 1 (omega arith) in
-          sym (fields_kind ∙ rw (x, ← m, ← n))
 
   pub fields_fit : good_fields r e ≡ true → fits 34 r e ≡ true
   unfolding good_fields fixed_length
@@ -128,7 +63,7 @@ all_read_lem [] h = refl
 all_read_lem (None ∷ xs) h = absurd (true≢false (sym h))
 all_read_lem (Some s ∷ xs) h = ap (with_first s) (all_read_lem xs h)
 
--- the ways of `good_entry`, in the order of the tests
+-- an entry
 module _ (r : List ℕ) (e : ℕ) where
   pub entry_fields : {t : Bool} → t ≡ good_fields r e → t ≡ false → false ≡ good_entry r e
   unfolding good_entry
@@ -144,23 +79,6 @@ module _ (r : List ℕ) (e : ℕ) where
   pub entry_prefix : prefix_at r e ≡ None → false ≡ good_entry r e
   unfolding good_entry same_read
   entry_prefix h = sym (and_no_right (good_fields r e) (and_no_left _ (ap (λ (x : Option (List ℕ)). same_read x (prefix_at r 8)) h)))
-
-  pub entry_target : target_at r e ≡ None → false ≡ good_entry r e
-  unfolding good_entry is_read
-  entry_target h = sym (and_no_right (good_fields r e) (and_no_right (same_read (prefix_at r e) (prefix_at r 8)) (ap is_read h)))
-
-  module _ {p q : List ℕ} (a : prefix_at r e ≡ Some p) (b : prefix_at r 8 ≡ Some q) where
-    same_is : same_read (prefix_at r e) (prefix_at r 8) ≡ same_name p q
-    unfolding same_read
-    same_is = λ i. same_read (a i) (b i)
-
-    pub entry_unlike : {t : Bool} → t ≡ same_name p q → t ≡ false → false ≡ good_entry r e
-    unfolding good_entry
-    entry_unlike f h = sym (and_no_right (good_fields r e) (and_no_left _ (same_is ∙ (sym f ∙ h))))
-
-    pub entry_good : {s t : Bool} → s ≡ good_fields r e → s ≡ true → t ≡ same_name p q → t ≡ true → {w : List ℕ} → target_at r e ≡ Some w → true ≡ good_entry r e
-    unfolding good_entry is_read
-    entry_good c d f h g = sym (and_both (sym c ∙ d) (and_both (same_is ∙ (sym f ∙ h)) (ap is_read g)))
 
   pub entry_read : good_entry r e ≡ true → is_read (target_at r e) ≡ true
   unfolding good_entry

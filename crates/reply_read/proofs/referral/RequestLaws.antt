@@ -8,7 +8,7 @@ use native.Mathlib.Numerals.{add-one}
 use native.Mathlib.Omega.{arith}
 use lib.Dec.{leb}
 use lib.ListN.{length, get_or, take, set, length-append, length-take}
-use lib.Seq.{take-suc, take_all}
+use lib.Seq.{take-suc}
 use borrow.Author.Tests.{le-leb, lt-leb}
 use Rattle.laws.specs.Lists.{pasted}
 use Rattle.laws.proofs.Choices.{choose_yes, choose_no}
@@ -63,9 +63,6 @@ units_next d at s i e f h u =
 pub units_start : (d : List ℕ) (at : ℕ) → d ≡ pasted d at (bytes_of [])
 unfolding bytes_of
 units_start d at = sym (pasted_nil d at)
-
-pub units_all : (d : List ℕ) (at : ℕ) (s : List ℕ) (i : ℕ) {o : List ℕ} → o ≡ pasted d at (bytes_of (take i s)) → length s ≤ i → o ≡ pasted d at (bytes_of s)
-units_all d at s i e h = e ∙ ap (λ (x : List ℕ). pasted d at (bytes_of x)) (take_all i s h)
 
 -- the request written in three pieces
 module _ (d name : List ℕ) {n : ℕ} (e : n ≡ length (request name)) where

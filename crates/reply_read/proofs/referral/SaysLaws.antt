@@ -1,5 +1,4 @@
 -- What is known of a reply that says something: for the crates above.
-use Rattle.std.specs.Prelude.{Option, None, Some}
 use mathlib.Core.Path.{◌≡◌, refl, sym, ap, ◌∙◌, subst}
 use mathlib.Core.Bool.{Bool, true, false, ◌&&◌, not, true≢false}
 use mathlib.Core.List.{List, [], ◌∷◌}
@@ -18,10 +17,10 @@ use Rattle.unc.specs.names.Names.{good_component}
 use Rattle.unc.specs.names.Paths.{leads, pieces, body, good_path, normalised, is_normalised, normalised_count, component_count, matches, Target}
 use Rattle.reply_bytes.specs.texts.Bytes.{Text, terminated, unterminated}
 use Rattle.reply_read.specs.referral.Replies.{referral_count, starts, entries, path_of, is_read, matches_read, prefix_at, target_at, good_fields, good_entry, ReferralReply, referral_said, referral_in, malformed, nothing, says, read_or, read_as, read_referral}
-use Rattle.reply_read.specs.referral.Code.{units_read, opens_at, kept_here, kept_from, reply_of, denoted, referral_shown}
-use Rattle.reply_read.specs.declared.referral.ReferralFound.{ReferralFound}
-use Rattle.reply_read.specs.declared.referral.Answer.{Answer}
-use Rattle.reply_read.specs.declared.referral.Answer.TheVariants.{Says}
+use Rattle.reply_read.specs.referral.Code.{units_read, opens_at, kept_here, kept_from, denoted}
+use Rattle.reply_read.specs.referral.Code as code
+use Rattle.reply_read.specs.declared.referral.Unread.{Unread}
+use Rattle.std.specs.Prelude.{Result, Err, Option, None, Some}
 use Rattle.reply_read.proofs.referral.EntryLaws.{read_some, same_read_lem, unread, entry_read}
 use Rattle.reply_read.proofs.referral.TargetLaws.{referral_read}
 
@@ -179,7 +178,9 @@ says_sound size asked r x h = subst (Sound asked) is sound
       first_shut = λ t ts e. first_kept r (take 8 (entries r)) t ts e;
     }
 
--- the reader's answer
-pub denoted_says : (r : List ℕ) (f : ReferralFound) → f.answer ≡ Says → denoted r f ≡ says (referral_shown r f)
-unfolding denoted reply_of
-denoted_says r f h = ap (λ (a : Answer). reply_of a (referral_shown r f)) h
+-- what a reader found of a reply that says something
+
+-- and the reason of one that says nothing
+pub denoted_err : {F A : Type 0} (shown : F → A) (u : Unread) {x : Result F Unread} → x ≡ Err u → denoted shown x ≡ code.unread u
+unfolding denoted
+denoted_err shown u e = ap (denoted shown) e

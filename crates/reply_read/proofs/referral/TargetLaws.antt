@@ -1,45 +1,25 @@
 -- Laws of the kept targets.
 use Rattle.std.specs.Prelude.{Option, None, Some}
 use mathlib.Core.Path.{◌≡◌, refl, sym, ap, ◌∙◌}
-use mathlib.Core.Bool.{Bool, true, false, ◌&&◌}
+use mathlib.Core.Bool.{Bool, true, false}
 use mathlib.Core.List.{List, [], ◌∷◌, ◌++◌, map}
 use mathlib.Core.Logic.{◌⊎◌, inl, inr}
 use Prim.Native.Nat.{ℕ, suc, ◌+◌, ◌-◌, ◌*◌, ◌≤◌, ◌<◌, min}
 use native.Mathlib.Omega.{arith}
-use lib.Dec.{eqb}
 use lib.ListN.{length, take, set, replicate}
-use borrow.Author.Tests.{eq-eqb, ne_eqb, le-leb}
+use borrow.Author.Tests.{le-leb}
 use Rattle.laws.specs.Lists.{every}
-use Rattle.laws.proofs.Choices.{and_left, and_right, and_no_left}
+use Rattle.laws.proofs.Choices.{and_left, and_right}
 use Rattle.laws.proofs.Orders.{lt_or_le}
 use Rattle.laws.proofs.Every.{every_take}
 use Rattle.laws.proofs.Filling.{filled_next, filled_whole, every_set, every_copies}
-use Rattle.reply_bytes.specs.texts.Bytes.{u16_at, flag}
 use Rattle.reply_bytes.specs.texts.Code.{spanned, Inside}
 use Rattle.reply_bytes.specs.declared.texts.Span.{Span}
 use Rattle.unc.specs.names.Paths.{Target}
-use Rattle.reply_read.specs.referral.Replies.{version_at, size_at, entry_flag, starts, entries, referral_count, good_entry, with_first, all_read, prefix_at, target_at, target_read, later_target, kept_targets, referral_said, referral_with, referral_in}
+use Rattle.reply_read.specs.referral.Replies.{size_at, starts, entries, referral_count, good_entry, with_first, all_read, prefix_at, target_at, target_read, later_target, kept_targets, referral_said, referral_with, referral_in}
 use Rattle.reply_read.specs.referral.Code.{is_inside, units_read, kept_inside, opens_at, kept_here, kept_from, target_shown}
 use Rattle.reply_read.specs.declared.referral.Kept.{Kept}
 use Rattle.reply_read.proofs.referral.EntryLaws.{read_some, unread, starts_cons, starts_none, entry_fit, entry_read}
-
--- the ways of `opens_at`
-module _ (r : List ℕ) (e i : ℕ) where
-  pub opens_first : i ≡ 0 → false ≡ opens_at i r e
-  unfolding opens_at
-  opens_first h = ap (λ (k : ℕ). opens_at k r e) (sym h)
-
-  later : (i ≡ 0 → ⊥) → opens_at i r e ≡ (eqb (version_at r e) 4 && entry_flag 4 r e)
-  unfolding opens_at
-  later h = let q : i ≡ suc (i - 1) = omega arith in ap (λ (k : ℕ). opens_at k r e) q
-
-  pub opens_other : (i ≡ 0 → ⊥) → {v : ℕ} → v ≡ u16_at r e → (v ≡ 4 → ⊥) → false ≡ opens_at i r e
-  unfolding version_at
-  opens_other h a k = sym (later h ∙ and_no_left _ (ne_eqb (u16_at r e) 4 (λ q. k (a ∙ q))))
-
-  pub opens_flag : (i ≡ 0 → ⊥) → {v : ℕ} → v ≡ u16_at r e → v ≡ 4 → {f : ℕ} {t : Bool} → f ≡ u16_at r (e + 6) → t ≡ flag 4 f → t ≡ opens_at i r e
-  unfolding version_at entry_flag
-  opens_flag h a k b g = let x : eqb (u16_at r e) 4 ≡ true = eq-eqb _ _ (sym a ∙ k) in sym (later h ∙ rw (x, ← b, ← g))
 
 -- the targets of good entries are read
 target_read_lem : (r : List ℕ) (e : ℕ) (o : Bool) → good_entry r e ≡ true → target_read (target_at r e) o ≡ Some (record { path = units_read (target_at r e); opens = o })

@@ -1,45 +1,37 @@
 -- Laws of the numbers handed out: the one at each place, and past the last.
-use Rattle.std.specs.Prelude.{Option, None}
 use mathlib.Core.Path.{◌≡◌, refl, sym, ap, ◌∙◌}
-use mathlib.Core.Bool.{Bool, true, false}
+use mathlib.Core.Bool.{true}
 use mathlib.Core.List.{List, ◌∷◌}
-use Prim.Native.Nat.{ℕ, suc, ◌+◌, ◌-◌, ◌≤◌, ◌<◌}
+use Prim.Native.Nat.{ℕ, zero, suc, ◌+◌, ◌-◌, ◌<◌}
 use native.Mathlib.Omega.{arith}
-use lib.ListN.{length, get_or, get_or-eq_default}
+use lib.ListN.{get_or}
 use Rattle.laws.proofs.Every.{every_at}
 use Rattle.reply_bytes.specs.declared.texts.Span.{Span}
 use Rattle.reply_read.specs.referral.Replies.{referral_count, size_at, starts, entries}
 use Rattle.reply_read.specs.referral.Code.{text_shown}
 use Rattle.reply_read.specs.name_lists.NameLists.{domain_at, good_domain_name}
-use Rattle.reply_read.specs.declared.referral.Answer.{Answer}
-use Rattle.reply_read.specs.declared.referral.Answer.TheVariants.{Malformed, Nothing, Says}
+use Rattle.std.specs.Prelude.{Result, Ok, Err, Option, None}
+use Rattle.reply_read.specs.declared.referral.Unread.{Unread}
+use Rattle.reply_read.specs.declared.referral.Unread.TheVariants.{Malformed, Nothing}
 use Rattle.reply_read.proofs.referral.TextLaws.{text_bad}
 use Rattle.reply_read.proofs.referral.EntryLaws.{unread, starts_cons}
 use Rattle.reply_read.proofs.referral.SaysLaws.{length_entries}
 use Rattle.reply_read.proofs.name_lists.ListLaws.{domain_read}
-use Rattle.testing.specs.layouts.Code.{answer_number, bit_of, GoodDomains}
+use Rattle.testing.specs.layouts.Code.{unread_number, answer_number, bit_of, target_numbers, no_kept, span_of, GoodDomains}
 
-pub bit_yes : {b : Bool} → b ≡ true → 1 ≡ bit_of b
-unfolding bit_of
-bit_yes e = ap bit_of (sym e)
+-- a target and a DC that are not there
+pub no_target_number : (k : ℕ) → 0 ≡ get_or (target_numbers no_kept) k 0
+unfolding target_numbers no_kept bit_of
+no_target_number zero = refl
+no_target_number (suc zero) = refl
+no_target_number (suc (suc zero)) = refl
+no_target_number (suc (suc (suc k))) = refl
 
-pub bit_no : {b : Bool} → b ≡ false → 0 ≡ bit_of b
-unfolding bit_of
-bit_no e = ap bit_of (sym e)
-
-pub bit_small : (b : Bool) → bit_of b ≤ 1
-unfolding bit_of
-bit_small true = omega arith
-bit_small false = omega arith
-
-pub number_at : (l : List ℕ) (k j : ℕ) {v : ℕ} → k ≡ j → v ≡ get_or l j 0 → v ≡ get_or l k 0
-number_at l k j e f = f ∙ ap (λ (i : ℕ). get_or l i 0) (sym e)
-
-pub number_past : (l : List ℕ) (k : ℕ) → length l ≤ k → 0 ≡ get_or l k 0
-number_past l k h = sym (get_or-eq_default l 0 h)
-
-pub four_past : (b k : ℕ) → b ≤ k → (k ≡ b → ⊥) → (k ≡ b + 1 → ⊥) → (k ≡ b + 2 → ⊥) → (k ≡ b + 3 → ⊥) → b + 4 ≤ k
-four_past b k h p q r s = omega arith
+pub no_span_number : (k : ℕ) → 0 ≡ get_or (span_of (record { from = 0; units = 0 })) k 0
+unfolding span_of
+no_span_number zero = refl
+no_span_number (suc zero) = refl
+no_span_number (suc (suc k)) = refl
 
 -- a good domain reply has a name in each of its entries
 pub domain_there_lem : (r : List ℕ) (i : ℕ) → GoodDomains r i → (e : ℕ) → e ≡ get_or (entries r) i 0 → {v : Option Span} → text_shown r v ≡ domain_at r e → v ≡ None → ⊥
@@ -48,13 +40,13 @@ domain_there_lem r i g e p f h =
     (domain_read r e (ap (good_domain_name r) p ∙ every_at (good_domain_name r) (entries r) g.good i 0 (omega (arith, g.there, length_entries r))))
 
 -- A reply that says something, by its number.
-pub says_two : (a : Answer) → answer_number a ≡ 2 → Says ≡ a
-unfolding answer_number
-says_two Malformed h = absurd (omega arith)
-says_two Nothing h = absurd (omega arith)
-says_two Says h = refl
+pub says_two : (a : Result (Unit {0}) Unread) → answer_number a ≡ 2 → Ok tt ≡ a
+unfolding answer_number unread_number
+says_two (Ok u) h = refl
+says_two (Err Malformed) h = absurd (omega arith)
+says_two (Err Nothing) h = absurd (omega arith)
 
-pub two_says : {a : Answer} → Says ≡ a → answer_number a ≡ 2
+pub two_says : {a : Result (Unit {0}) Unread} → Ok tt ≡ a → answer_number a ≡ 2
 unfolding answer_number
 two_says e = ap answer_number (sym e)
 

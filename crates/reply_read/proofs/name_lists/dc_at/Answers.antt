@@ -1,5 +1,5 @@
 -- The DC name at a byte, and where the next text starts.
-use mathlib.Core.Path.{sym, ap, ◌∙◌}
+use mathlib.Core.Path.{refl, sym, ap, ◌∙◌}
 use native.Mathlib.Omega.{arith}
 use Rattle.reply_bytes.proofs.texts.UnitLaws.{ended_at_lem, unended_at}
 use Rattle.reply_read.specs.name_lists.NameLists.{dc_of}
@@ -9,7 +9,9 @@ use Rattle.reply_read.proofs.name_lists.dc_at.Goals as goal
 
 pub returns-in_default : goal.returns-in_default
 returns-in_default c =
-    let a = c.args in record { name = (no_dc_lem a.r.now 0 (dc_unended (unended_at a.r.now a.at (sym c.in_default.is ∙ c.read_text.ensures)))).0; placed = (no_dc_lem a.r.now _ (dc_unended (unended_at a.r.now a.at (sym c.in_default.is ∙ c.read_text.ensures)))).1 }
+    let a = c.args in
+    let w = no_dc_lem a.r.now _ refl (dc_unended (unended_at a.r.now a.at (sym c.in_default.is ∙ c.read_text.ensures))) in
+    record { name = w.0; placed = w.1 }
 
 pub dc_span-requires : goal.dc_span-requires
 dc_span-requires c =
@@ -20,7 +22,9 @@ dc_span-requires c =
 pub returns-in_default-dc_span : goal.returns-in_default-dc_span
 returns-in_default-dc_span c =
     let a = c.args in
-    let w = ended_at_lem a.r.now a.at _ (sym c.in-Some.is ∙ c.read_text.ensures) in record { name = (no_dc_lem a.r.now 0 (ap dc_of w.is ∙ text_bad a.r.now c.in_default-dc_span.is c.dc_span.ensures.name)).0; placed = (no_dc_lem a.r.now _ (ap dc_of w.is ∙ text_bad a.r.now c.in_default-dc_span.is c.dc_span.ensures.name)).1 }
+    let t = ended_at_lem a.r.now a.at _ (sym c.in-Some.is ∙ c.read_text.ensures) in
+    let w = no_dc_lem a.r.now _ refl (ap dc_of t.is ∙ text_bad a.r.now c.in_default-dc_span.is c.dc_span.ensures.name) in
+    record { name = w.0; placed = w.1 }
 
 pub overflow_add-result : goal.overflow_add-result
 overflow_add-result c =
@@ -44,8 +48,8 @@ pub returns : goal.returns
 returns c =
     let a = c.args in
     let w = ended_at_lem a.r.now a.at _ (sym c.in-Some.is ∙ c.read_text.ensures) in record {
-      name = (some_dc a.r.now _ _ _ (ap dc_of w.is ∙ text_good a.r.now _ c.in-Some-dc_span.is c.dc_span.ensures.name)
+      name = (some_dc a.r.now _ _ (ap dc_of w.is ∙ text_good a.r.now _ c.in-Some-dc_span.is c.dc_span.ensures.name)
           (text_inside_lem a.r.now _ c.in-Some-dc_span.is c.dc_span.ensures.inside) (past_ended a.at a.r.now _ w.is)).0;
-      placed = (some_dc a.r.now _ _ _ (ap dc_of w.is ∙ text_good a.r.now _ c.in-Some-dc_span.is c.dc_span.ensures.name)
+      placed = (some_dc a.r.now _ _ (ap dc_of w.is ∙ text_good a.r.now _ c.in-Some-dc_span.is c.dc_span.ensures.name)
           (text_inside_lem a.r.now _ c.in-Some-dc_span.is c.dc_span.ensures.inside) (past_ended a.at a.r.now _ w.is)).1;
     }

@@ -1,5 +1,5 @@
 -- The domain name of an entry.
-use mathlib.Core.Path.{sym, ap, ◌∙◌}
+use mathlib.Core.Path.{refl, sym, ap, ◌∙◌}
 use Prim.Native.Nat.{ℕ, ◌+◌}
 use native.Mathlib.Omega.{arith}
 use Rattle.reply_bytes.specs.texts.Bytes.{text_from}
@@ -15,7 +15,10 @@ pub returns-in_default : goal.returns-in_default
 unfolding domain_at text_of
 returns-in_default c =
     let a = c.args in
-    let t = sym (ap (λ (o : ℕ). text_from a.r.now (a.e + o)) c.read_unit-o.ensures) in record { name = (bad_text a.r.now (domain_unended (t ∙ unended_at a.r.now (a.e + c.read_unit-o.result) (sym c.in_default.is ∙ c.read_text.ensures)))).0; inside = (bad_text a.r.now (domain_unended (t ∙ unended_at a.r.now (a.e + c.read_unit-o.result) (sym c.in_default.is ∙ c.read_text.ensures)))).1 }
+    let t = sym (ap (λ (o : ℕ). text_from a.r.now (a.e + o)) c.read_unit-o.ensures) in
+    let w =
+    bad_text a.r.now refl (domain_unended (t ∙ unended_at a.r.now (a.e + c.read_unit-o.result) (sym c.in_default.is ∙ c.read_text.ensures))) in
+    record { name = w.0; inside = w.1 }
 
 pub domain_span-requires : goal.domain_span-requires
 domain_span-requires c =

@@ -8,7 +8,4 @@ use Rattle.reply_read.specs.name_lists.NameLists.{good_domain_name}
 use Rattle.reply_read.proofs.name_lists.good_domains.Given as goal
 
 abbrev pub invariant-loop-i : goal.invariant-loop-i
-invariant-loop-i l = (l.i ≤ l.n) × ((l.e ≤ length l.r) × (every (good_domain_name l.r) (entries l.r) ≡ every (good_domain_name l.r) (starts (l.n - l.i) l.e l.r)))
-
-abbrev pub decreases-loop-i : goal.decreases-loop-i
-decreases-loop-i l = l.n - l.i
+invariant-loop-i l = (l.e ≤ length l.r) × (every (good_domain_name l.r) (entries l.r) ≡ every (good_domain_name l.r) (starts (l.n - l._i) l.e l.r))

@@ -12,16 +12,13 @@ use Rattle.reply_read.proofs.name_lists.names.Goals as goal
 pub loop-i-init : goal.loop-i-init
 loop-i-init c =
     let r = c.args.r.now in
-    (search rules, (search rules, (sym (names_start r c.args.n c.args.from) ∙ c.requires, (name_start r c.args.n c.args.from, none_inside r 8))))
+    (search rules, (sym (names_start r c.args.n c.args.from) ∙ c.requires, (name_start r c.args.n c.args.from, none_inside r 8)))
 
-pub returns-in_default : goal.returns-in_default
-returns-in_default c =
+pub returns-in_default-clause-names : goal.returns-in_default-clause-names
+returns-in_default-clause-names c =
     let a = c.args in
     let l = c.loop-i in
-    absurd (names_left a.r.now a.n l.i l.at (omega (arith, c.kept_of-m.ensures)) l.invariant.1.1.0 (dc_bad a.r.now c.in_default.is c.dc_at.ensures.name))
-
-pub bounds-kept-i : goal.bounds-kept-i
-bounds-kept-i c = omega (arith, c.kept_of-m.ensures)
+    absurd (names_left a.r.now a.n l.i l.at (omega (arith, c.kept_of-m.ensures)) l.invariant.1.0 (dc_bad a.r.now c.in_default.is c.dc_at.ensures.name))
 
 pub loop-i-preserved : goal.loop-i-preserved
 loop-i-preserved c =
@@ -29,14 +26,15 @@ loop-i-preserved c =
     let a = c.args in
     let r = a.r.now in
     let l = c.loop-i in
-    let e = c.in-Name.is in
+    let e = c.in-Some.is in
     let d = c.dc_at.ensures in
-    let g = dc_good r _ _ e d.name in
+    let g = dc_good r _ e d.name in
     let i = l.at + bytes_past (text_from r l.at) in
-    let z = dc_next r _ _ e i d.placed in
-    (omega arith, (length-set l.kept l.i _ ∙ l.invariant.1.0, (sym (names_hit r a.n l.i l.at _ g z (omega arith)) ∙ l.invariant.1.1.0, (name_next r a.n l.i l.at _ g z l.kept l.invariant.1.1.1.0 (omega (arith, l.invariant.1.0)) (omega arith) (omega arith), span_next r l.kept l.i _ l.invariant.1.1.1.1 (dc_inside r _ _ e i d.placed)))))
+    let z = dc_next r _ e i d.placed in
+    (length-set l.kept l.i _ ∙ l.invariant.0, (sym (names_hit r a.n l.i l.at _ g z (omega arith)) ∙ l.invariant.1.0, (name_next r a.n l.i l.at _ g z l.kept l.invariant.1.1.0 (omega (arith, l.invariant.0)) (omega arith) (omega arith), span_next r l.kept l.i _ l.invariant.1.1.1 (dc_inside r _ e i d.placed))))
 
-pub returns : goal.returns
-returns c =
+pub returns-clause-names : goal.returns-clause-names
+returns-clause-names c =
     let a = c.args in
-    let l = c.loop-i in record { names = name_all a.r.now a.n l.i l.at c.kept_of-m.result l.kept l.invariant.1.1.1.0 c.kept_of-m.ensures (omega arith) (omega arith); inside = l.invariant.1.1.1.1 }
+    let l = c.loop-i in
+    name_all a.r.now a.n l.i l.at c.kept_of-m.result l.kept l.invariant.1.1.0 c.kept_of-m.ensures (omega arith) (omega arith)

@@ -7,7 +7,4 @@ use Rattle.laws.specs.Lists.{every}
 use Rattle.reply_read.proofs.referral.good_entries.Given as goal
 
 abbrev pub invariant-loop-i : goal.invariant-loop-i
-invariant-loop-i l = (l.i ≤ l.n) × ((l.e ≤ length l.r) × (every (good_entry l.r) (entries l.r) ≡ every (good_entry l.r) (starts (l.n - l.i) l.e l.r)))
-
-abbrev pub decreases-loop-i : goal.decreases-loop-i
-decreases-loop-i l = l.n - l.i
+invariant-loop-i l = (l.e ≤ length l.r) × (every (good_entry l.r) (entries l.r) ≡ every (good_entry l.r) (starts (l.n - l._i) l.e l.r))

@@ -1,40 +1,37 @@
 -- What a reply says, field by field.
+use Rattle.std.specs.Prelude.{Some}
 use mathlib.Core.Path.{ap, sym, ◌∙◌}
 use Prim.Native.Nat.{ℕ}
 use lib.ListN.{take}
-use native.Mathlib.Omega.{arith}
 use Rattle.reply_bytes.specs.declared.reader.Marks.{Marks}
-use Rattle.reply_bytes.specs.declared.reader.Start.{Start}
 use Rattle.reply_bytes.specs.declared.reader.Header.{Header}
 use Rattle.reply_bytes.specs.texts.Bytes.{flag}
-use Rattle.reply_read.specs.referral.Replies.{version_at, server_type_at}
-use Rattle.reply_read.specs.referral.Replies.{version_at, server_type_at, referral_count}
 use mathlib.Core.List.{map}
-use Prim.Native.Nat.{min}
-use Rattle.reply_read.specs.referral.Code.{target_shown, denoted, reply_of, referral_shown}
 use mathlib.Core.Bool.{◌&&◌}
-use Rattle.reply_read.specs.referral.Replies.{says, read_or, referral_said, header_flag, ttl_at}
+use Prim.Native.Nat.{min}
+use lib.Dec.{eqb}
+use Rattle.reply_read.specs.referral.Code.{target_shown, referral_shown}
+use Rattle.reply_read.specs.referral.Replies.{version_at, server_type_at, referral_said, header_flag, ttl_at}
 use Rattle.reply_bytes.specs.texts.Code.{spanned}
 use Rattle.reply_read.proofs.referral.TargetLaws.{referral_read}
-use lib.Dec.{eqb}
 use Rattle.reply_read.proofs.referral.referral_in.Goals as goal
 
-pub targets-kept-requires : goal.targets-kept-requires
-targets-kept-requires c = (omega (arith, c.requires.long), (c.requires.short, c.requires.good))
+pub targets-requires : goal.targets-requires
+targets-requires c = (c.requires.0.short, (c.requires.1, c.requires.0.good))
 
-pub returns : goal.returns
-unfolding denoted reply_of referral_shown referral_said read_or version_at server_type_at header_flag ttl_at referral_count
-returns c = record {
-  found = (λ x. says (record {
-    version = ap (λ (z : Start). z.version) c.read_start-s.ensures x;
-    root = eqb (ap (λ (z : Marks). z.kind) c.read_marks-m.ensures x) 1;
-    referral_servers = (c.has_flag.ensures ∙ ap (flag 1) (ap (λ (z : Header). z.flags) c.read_header-h.ensures)) x;
-    storage_servers = (c.has_flag-2.ensures ∙ ap (flag 2) (ap (λ (z : Header). z.flags) c.read_header-h.ensures)) x;
-    failback = (c.failback_in.ensures ∙ (λ y. eqb (ap (λ (z : Start). z.version) c.read_start-s.ensures y) 4 && flag 4 (ap (λ (z : Header). z.flags) c.read_header-h.ensures y))) x;
-    count = ap (λ (z : Header). z.count) c.read_header-h.ensures x;
-    ttl = ap (λ (z : Marks). z.ttl) c.read_marks-m.ensures x;
-    prefix = spanned c.args.r.now c.args.prefix;
-    targets = (ap (λ (k : ℕ). map (target_shown c.args.r.now) (take k c.targets-kept.result)) (c.kept_of.ensures ∙ ap (λ (k : ℕ). min k 8) (ap (λ (z : Header). z.count) c.read_header-h.ensures)) ∙ c.targets-kept.ensures.targets) x;
-  })) ∙ sym (ap read_or (referral_read c.args.r.now _ c.requires.prefix_is c.requires.good));
-  within = record { prefix_within = c.requires.prefix_inside; kept_within = c.targets-kept.ensures.inside; few = omega (arith, c.kept_of.ensures) };
-}
+pub returns-clause-found : goal.returns-clause-found
+unfolding referral_shown referral_said version_at server_type_at header_flag ttl_at
+returns-clause-found c =
+    let r = c.args.r.now in
+    let f = c.requires.0.firstly in
+    referral_read r _ f.first_is c.requires.0.good ∙ sym (λ x. Some (record {
+      version = f.version_is x;
+      root = eqb (f.kind_is x) 1;
+      referral_servers = (c.has_flag.ensures ∙ ap (flag 1) (ap (λ (z : Header). z.flags) c.read_header-flags.ensures)) x;
+      storage_servers = (c.has_flag-2.ensures ∙ ap (flag 2) (ap (λ (z : Header). z.flags) c.read_header-flags.ensures)) x;
+      failback = (c.failback_in.ensures ∙ (λ y. eqb (f.version_is y) 4 && flag 4 (ap (λ (z : Header). z.flags) c.read_header-flags.ensures y))) x;
+      count = c.requires.1 x;
+      ttl = ap (λ (z : Marks). z.ttl) c.read_marks.ensures x;
+      prefix = spanned r c.args.first.prefix;
+      targets = (ap (λ (k : ℕ). map (target_shown r) (take k c.targets.result)) (c.kept_of.ensures ∙ ap (λ (k : ℕ). min k 8) c.requires.1) ∙ c.targets.ensures.targets) x;
+    }))

@@ -1,6 +1,6 @@
 -- The first 8 targets: the loop stores one of them each turn.
 use mathlib.Core.Path.{◌≡◌}
-use Prim.Native.Nat.{◌-◌, ◌≤◌}
+use Prim.Native.Nat.{◌-◌}
 use lib.ListN.{length, take}
 use Rattle.reply_read.specs.referral.Replies.{good_entry, starts, entries}
 use Rattle.laws.specs.Lists.{every}
@@ -11,7 +11,4 @@ use Rattle.reply_read.proofs.referral.TargetLaws.{to_come}
 use Rattle.reply_read.proofs.referral.targets.Given as goal
 
 abbrev pub invariant-loop-i : goal.invariant-loop-i
-invariant-loop-i l = (l.i ≤ l.m) × ((length l.kept ≡ 8) × ((every (good_entry l.r) (starts (l.n - l.i) l.e l.r) ≡ true) × ((kept_from 0 l.r (take 8 (entries l.r)) ≡ map (target_shown l.r) (take l.i l.kept) ++ to_come l.n l.i l.r l.e) × (every (kept_inside l.r) l.kept ≡ true))))
-
-abbrev pub decreases-loop-i : goal.decreases-loop-i
-decreases-loop-i l = l.m - l.i
+invariant-loop-i l = (length l.kept ≡ 8) × ((every (good_entry l.r) (starts (l.n - l.i) l.e l.r) ≡ true) × ((kept_from 0 l.r (take 8 (entries l.r)) ≡ map (target_shown l.r) (take l.i l.kept) ++ to_come l.n l.i l.r l.e) × (every (kept_inside l.r) l.kept ≡ true)))

@@ -1,16 +1,12 @@
 -- Number k of a DC reply.
-use mathlib.Core.Path.{refl}
-use mathlib.Core.List.{[], ◌∷◌}
-use native.Mathlib.Omega.{arith}
-use Rattle.testing.specs.layouts.Code.{answer_number}
-use Rattle.testing.proofs.layouts.WireLaws.{number_at, number_past}
+use Rattle.std.specs.Prelude.{Ok, Err}
+use Rattle.testing.specs.layouts.Code.{dcs_numbers}
 use Rattle.testing.proofs.layouts.wire_dcs.Goals as goal
 
-pub returns-then-k-eq0 : goal.returns-then-k-eq0
-returns-then-k-eq0 c = record { found = c.read_dcs-f.result; is = c.read_dcs-f.ensures.found; number = number_at (answer_number c.read_dcs-f.result.answer ∷ c.read_dcs-f.result.count ∷ []) c.args.k 0 c.if-k-eq0.true c.answer_number.ensures }
+pub returns-in-Ok : goal.returns-in-Ok
+unfolding dcs_numbers
+returns-in-Ok c = record { found = Ok c.in-Ok.f; is = c.in-Ok.ensures.found; number = c.dcs_number.ensures }
 
-pub returns-then-k-eq1 : goal.returns-then-k-eq1
-returns-then-k-eq1 c = record { found = c.read_dcs-f.result; is = c.read_dcs-f.ensures.found; number = number_at (answer_number c.read_dcs-f.result.answer ∷ c.read_dcs-f.result.count ∷ []) c.args.k 1 c.if-k-eq1.true refl }
-
-pub returns : goal.returns
-returns c = record { found = c.read_dcs-f.result; is = c.read_dcs-f.ensures.found; number = number_past (answer_number c.read_dcs-f.result.answer ∷ c.read_dcs-f.result.count ∷ []) c.args.k (omega arith) }
+pub returns-in-Err : goal.returns-in-Err
+unfolding dcs_numbers
+returns-in-Err c = record { found = Err c.in-Err.e; is = c.in-Err.ensures.found; number = c.unread_at.ensures }

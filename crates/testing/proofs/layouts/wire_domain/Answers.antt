@@ -7,12 +7,14 @@ use Rattle.reply_read.specs.name_lists.Code.{answer_of}
 use Rattle.reply_read.proofs.name_lists.SaysLaws.{says_domains}
 use Rattle.testing.proofs.layouts.WireLaws.{says_two, two_says}
 use Rattle.testing.proofs.layouts.wire_domain.Goals as goal
+use Rattle.testing.proofs.layouts.wire_domain.Goals.{then-wire_domains-ne2-via-then-wire_domains-ne2, then-wire_domains-ne2-via-else-wire_domains-ne2+then-reply-lt8}
 
 pub returns-then-wire_domains-ne2 : goal.returns-then-wire_domains-ne2
-returns-then-wire_domains-ne2 c = λ h l. absurd (c.if-wire_domains-ne2.true (c.wire_domains.ensures ∙ two_says h))
-
-pub returns-then-reply-lt8 : goal.returns-then-reply-lt8
-returns-then-reply-lt8 c = λ h l. absurd (let w = says_domains c.args.size c.args.reply.now h in omega (arith, w.header))
+returns-then-wire_domains-ne2 c =
+    elim c.then-wire_domains-ne2.branch [
+      | then-wire_domains-ne2-via-then-wire_domains-ne2 w ↦ λ h l. absurd (w.if-wire_domains-ne2.true (c.wire_domains.ensures ∙ two_says h))
+      | then-wire_domains-ne2-via-else-wire_domains-ne2+then-reply-lt8 w ↦ λ h l. absurd (let s = says_domains c.args.size c.args.reply.now h in omega (arith, s.header))
+    ]
 
 pub returns-then-n-i : goal.returns-then-n-i
 unfolding referral_count

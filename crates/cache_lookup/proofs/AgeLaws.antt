@@ -1,5 +1,5 @@
 -- Laws of ages and of the place that a new entry takes.
-use Rattle.std.specs.Prelude.{Option, Some, None}
+use Rattle.std.specs.Prelude.{Some, None}
 use Rattle.std.proofs.Common.{◌≡◌, ℕ, suc, ◌+◌, ◌%◌, ◌^◌, ◌<◌, ◌≤◌, ltb, leb, List, ◌∷◌, drop, sym, refl, ap, ◌∙◌, add-one, arith, le-ltb, lt-ltb, ne_eqb}
 use Rattle.laws.specs.Choice.{choose}
 use Rattle.laws.proofs.Choices.{choose_yes, choose_no}
@@ -7,7 +7,7 @@ use Rattle.cache.specs.places.Layout.{place_count, place_at, unit_at, wide_at, t
 use Rattle.cache.specs.order.Entries.{Referral, Place}
 use Rattle.cache.specs.order.Memory.{referrals, referral_of, place_of, decode, settings_at}
 use Rattle.cache_lookup.specs.Code.{entry_at}
-use Rattle.cache_lookup.specs.Lookup.{age, expired, first_free_from, place_age, oldest_from, oldest, found_or, new_place}
+use Rattle.cache_lookup.specs.Lookup.{age, expired, first_free_from, place_age, oldest_from, oldest}
 use Rattle.cache.proofs.order.MemoryLaws.{place_free, place_used, drop_decode, drop_decode_end}
 
 -- a difference that wraps is an age
@@ -87,13 +87,3 @@ module _ (clock : ℕ) (raw : List ℕ) (i best n : ℕ) where
   pub oldest_end : place_count raw ≤ i → oldest_from clock i best n (drop i (decode referrals raw)) ≡ best
   unfolding oldest_from
   oldest_end h = rw (drop_decode_end referrals raw i h)
-
--- a free place, else the oldest
-module _ (clock : ℕ) (ps : List (Place Referral)) where
-  pub new_free : {f : Option ℕ} {i : ℕ} → f ≡ first_free_from 0 ps → f ≡ Some i → i ≡ new_place clock ps
-  unfolding new_place found_or
-  new_free e h = ap (found_or (oldest clock ps)) (sym h ∙ e)
-
-  pub new_oldest : {f : Option ℕ} {r : ℕ} → f ≡ first_free_from 0 ps → f ≡ None → r ≡ oldest clock ps → r ≡ new_place clock ps
-  unfolding new_place found_or
-  new_oldest e h o = o ∙ ap (found_or (oldest clock ps)) (sym h ∙ e)

@@ -1,15 +1,14 @@
 -- Laws of the search for the longest match: what the last units of prefixes tell, and where it may end.
-use Rattle.std.specs.Prelude.{Option, Some, None}
-use Rattle.std.proofs.Common.{◌≡◌, ℕ, zero, suc, ◌+◌, ◌-◌, ◌*◌, ◌/◌, ◌%◌, ◌<◌, ◌≤◌, min, Bool, true, false, eqb, List, length, get_or, drop, sym, refl, ap, ◌∙◌, ap₂, arith, eq-eqb, ne_eqb}
+use Rattle.std.specs.Prelude.{Option}
+use Rattle.std.proofs.Common.{◌≡◌, ℕ, zero, suc, ◌+◌, ◌-◌, ◌*◌, ◌/◌, ◌%◌, ◌<◌, ◌≤◌, min, false, eqb, List, length, get_or, drop, sym, refl, ap, ◌∙◌, ap₂, arith, eq-eqb}
 use lib.Bits.{bit_and, bit_xor, and_mask, and_block, xor_mod, xor_shr, xor_self}
-use Rattle.laws.proofs.Choices.{choose_yes, choose_no}
 use Rattle.laws.proofs.Tests.{not_both}
 use Rattle.unc.proofs.names.WithinLaws.{within_low}
-use Rattle.cache.specs.places.Layout.{place_count, place_at, unit_at, room_at, text_at}
+use Rattle.cache.specs.places.Layout.{place_count, place_at, unit_at, room_at}
 use Rattle.cache.specs.order.Memory.{referrals, place_of, decode}
-use Rattle.cache_lookup.specs.Lookup.{longer_match, longest_from, longest_match}
-use Rattle.cache_lookup.specs.Code.{LowBits, Passed, best_found}
-use Rattle.cache_lookup.proofs.FindLaws.{longer_units, no_longer, place_unlike, units_unlike, find_start, find_hit, find_miss, find_end}
+use Rattle.cache_lookup.specs.Lookup.{longer_match, longest_from}
+use Rattle.cache_lookup.specs.Code.{LowBits, Passed}
+use Rattle.cache_lookup.proofs.FindLaws.{no_longer, place_unlike, units_unlike, find_miss, find_end}
 
 -- where the low bits are the same, nothing differs in them
 low_same : (a b : ℕ) → a % 32 ≡ b % 32 → bit_and (bit_xor a b) 31 ≡ 0
@@ -43,15 +42,6 @@ four_same {s} {t} {k} {l} {a} {b} p q same =
     first_same : get_or s k 0 % 32 ≡ get_or t l 0 % 32
     first_same = let e : k + 0 ≡ k = omega arith in let f : l + 0 ≡ l = omega arith in rw (← e, ← f) (same 0 (omega arith))
 
--- the best so far
-pub best_none : (i : ℕ) {n : ℕ} → n ≡ 0 → None ≡ best_found i n
-unfolding best_found
-best_none i e = sym (choose_yes None (Some i) (eq-eqb _ _ e))
-
-pub best_at : (i : ℕ) {n : ℕ} → (n ≡ 0 → ⊥) → Some i ≡ best_found i n
-unfolding best_found
-best_at i h = sym (choose_no None (Some i) (ne_eqb _ _ h))
-
 module _ (raw path : List ℕ) where
   -- a place whose last units are not those of the path
   pub ends_apart : (i : ℕ) → i < place_count raw → {u start a b : ℕ} {room : List ℕ} → u ≡ unit_at 0 (place_at i raw) → room ≡ room_at 0 (place_at i raw)
@@ -74,20 +64,6 @@ module _ (raw path : List ℕ) where
       passed_on p (rw e (record { same = λ best n. find_miss raw path i best n (place_unlike (place_at i raw) path n unmatched (omega arith)) refl refl refl fits }))
 
   -- the loop, with the best so far: at first none
-  pub find_begin : longest_match path (decode referrals raw) ≡ longest_from path 0 (best_found 0 0) 0 (drop 0 (decode referrals raw))
-  find_begin = find_start raw path ∙ ap (λ (b : Option ℕ). longest_from path 0 b 0 (drop 0 (decode referrals raw))) (best_none 0 refl)
-
-  module _ (i best n : ℕ) {best' n' : ℕ} {r : Bool} (e : r ≡ longer_match path n (place_of referrals (place_at i raw))) where
-    pub find_better : {key : List ℕ} → r ≡ true → best' ≡ i → key ≡ text_at 0 (place_at i raw) → n' ≡ length key → i < place_count raw
-        → longest_from path i (best_found best n) n (drop i (decode referrals raw)) ≡ longest_from path (i + 1) (best_found best' n') n' (drop (i + 1) (decode referrals raw))
-    find_better {key} h p k q u =
-        let more : n < length key = rw k (longer_units (place_at i raw) path n (sym e ∙ h)) in
-        find_hit raw path i (best_found best n) n e h (sym (best_at best' (λ z. absurd (omega arith))) ∙ ap Some p) k q u
-
-    pub find_worse : r ≡ false → best' ≡ best → n' ≡ n → i < place_count raw
-        → longest_from path i (best_found best n) n (drop i (decode referrals raw)) ≡ longest_from path (i + 1) (best_found best' n') n' (drop (i + 1) (decode referrals raw))
-    find_worse h p q u = find_miss raw path i (best_found best n) n e h (ap₂ best_found p q) q u
-
   -- none is longer than the path
   find_over : (d i : ℕ) (best : Option ℕ) (n : ℕ) → length path ≤ n → i + d ≡ place_count raw → longest_from path i best n (drop i (decode referrals raw)) ≡ best
   find_over zero i best n l e = find_end raw path i best n (omega arith)

@@ -1,12 +1,12 @@
 -- Laws of the loops that find an entry: what is left to look at, and what is found.
 use Rattle.std.specs.Prelude.{Option, Some, None}
-use Rattle.std.proofs.Common.{◌≡◌, ℕ, ◌+◌, ◌<◌, ◌≤◌, min, Bool, true, false, ◌&&◌, eqb, ltb, ◌⊎◌, List, [], ◌∷◌, map, length, get_or, take, drop, sym, refl, ap, ◌∙◌, inl, inr, add-one, arith, length-take, get_or-take, ltb-false, ltb-true, le-ltb, lt-ltb, eq-eqb, ne_eqb, eqb-true}
+use Rattle.std.proofs.Common.{◌≡◌, ℕ, ◌+◌, ◌<◌, ◌≤◌, min, Bool, true, false, ◌&&◌, eqb, ltb, ◌⊎◌, List, [], ◌∷◌, map, length, get_or, take, drop, sym, refl, ap, ◌∙◌, inl, inr, add-one, arith, length-take, get_or-take, ltb-false, ltb-true, le-ltb, lt-ltb, eqb-true}
 use Rattle.laws.specs.Choice.{choose}
 use Rattle.laws.specs.Listed.{listed}
 use Rattle.laws.proofs.Choices.{choose_yes, choose_no, and_left, and_no_right}
 use Rattle.laws.proofs.Orders.{told, lt_or_le}
 use Rattle.laws.proofs.Listed.{drop_listed, drop_listed_end, map_listed}
-use Rattle.unc.specs.names.Names.{same_unit, same_name}
+use Rattle.unc.specs.names.Names.{same_unit}
 use Rattle.unc.specs.names.Code.{SameWithin}
 use Rattle.unc.specs.names.Paths.{matches}
 use Rattle.unc.proofs.names.WithinLaws.{same_name_at}
@@ -53,9 +53,6 @@ module _ (p : List ℕ) where
 
     pub place_longer : {key : List ℕ} {r : Bool} → key ≡ text_at 0 p → n < length key → r ≡ matches key path → r ≡ longer_match path n (place_of referrals p)
     place_longer e h f = longer (text_at 0 p) path n (rw (← e) h) (f ∙ ap (λ (t : List ℕ). matches t path) e) ∙ sym (longer_place path n)
-
-    pub place_unmatched : {key : List ℕ} → key ≡ text_at 0 p → matches key path ≡ false → false ≡ longer_match path n (place_of referrals p)
-    place_unmatched e h = sym (longer_place path n ∙ and_no_right (ltb n (length (text_at 0 p))) (ap (λ (t : List ℕ). matches t path) (sym e) ∙ h))
 
     pub longer_units : longer_match path n (place_of referrals p) ≡ true → n < length (text_at 0 p)
     longer_units h = ltb-true n (length (text_at 0 p)) (and_left _ _ (sym (longer_place path n) ∙ h))
@@ -150,15 +147,6 @@ unfolding longest_match
 find_start raw path = refl
 
 -- the loop that finds an equal key
-module _ (name piece : List ℕ) where
-  pub key_free : {u : ℕ} → u ≡ unit_at 0 piece → u ≡ 0 → false ≡ key_is name piece
-  unfolding key_is
-  key_free e h = rw (eq-eqb (unit_at 0 piece) 0 (sym e ∙ h))
-
-  pub key_used : {u : ℕ} {t : List ℕ} {r : Bool} → u ≡ unit_at 0 piece → (u ≡ 0 → ⊥) → t ≡ text_at 0 piece → r ≡ same_name t name → r ≡ key_is name piece
-  unfolding key_is
-  key_used e n et er = rw (ne_eqb (unit_at 0 piece) 0 (λ z. n (e ∙ z))) (er ∙ ap (λ (x : List ℕ). same_name x name) et)
-
 pub key_from : List ℕ → List ℕ → ℕ → Option ℕ
 key_from name raw i = key_place_from name i (drop i (listed (place_count raw) (λ k. place_at k raw)))
 

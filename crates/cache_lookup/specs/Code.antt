@@ -44,10 +44,6 @@ pub record LowBits (s : List ℕ) (k four : ℕ) : Type 0 where
   pub third : four / 4294967296 % 32 ≡ slice_index s (k + 2) % 32
   pub fourth : four / 281474976710656 % 32 ≡ slice_index s (k + 3) % 32
 
--- the best place so far, whose prefix has n units: none while it has no unit
-unfoldable pub best_found : ℕ → ℕ → Option ℕ
-best_found i n = choose (n == 0) None (Some i)
-
 -- whatever was found before, a search from place i on finds what one from place j on does
 pub record Passed (raw path : List ℕ) (i j : ℕ) : Type 0 where
   pub same : (best : Option ℕ) (n : ℕ) → longest_from path i best n (drop i (decode referrals raw)) ≡ longest_from path j best n (drop j (decode referrals raw))

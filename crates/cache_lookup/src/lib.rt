@@ -1,13 +1,14 @@
 // Looking up in the two lent caches: the longest match, an equal key, ages, the place of a new entry, its fields and hints.
 #![tactic(auto)]
 
-ghost use Rattle.std.specs.Prelude.{◌≡◌, ◌+◌, ◌/◌, ◌<◌, ◌≤◌, true, false, length};
+ghost use Rattle.std.specs.Prelude.{◌≡◌, ◌+◌, ◌<◌, ◌≤◌, true, false, length, MatchOption};
 ghost use Rattle.cache.specs.places.Layout.{place_count, place_at, room_units};
 ghost use Rattle.cache.specs.order.Memory.{referrals, domains, place_of, decode, encode, in_order};
 ghost use Rattle.cache_lookup.specs.Lookup.{longer_match, longest_match, with_key, age, expired, first_free_from, place_age, oldest, new_place, target_path, dc_name, target_hinted, dc_hinted};
-ghost use Rattle.cache_lookup.specs.Code.{entry_at, target_opens, key_is, key_place, LowBits, Passed, best_found};
+ghost use Rattle.cache_lookup.specs.Code.{entry_at, target_opens, key_is, LowBits, Passed};
 
 use cache::places::{PLACE, ROOM};
+use unc::text::Name;
 
 // The five low bits of each of four units, which equal units have in common.
 const LOW_BITS: u64 = 8725857424048159;
@@ -39,7 +40,7 @@ fn may_match(cache: &[u16], i: usize, path: &[u16]) -> bool
     if units < END {
         return 0 < units;
     }
-    let start = memory::least(units, path.len()) - END;
+    let start = units.min(path.len()) - END;
     let room = cache::places::room(cache, i, 0);
     (four_units(room, start) ^ four_units(path, start)) & LOW_BITS == 0
 }
@@ -49,43 +50,38 @@ fn passed(cache: &[u16], i: usize, path: &[u16]) -> usize
     requires { (i + 4 ≤ place_count cache.now) × ((4 ≤ length path.now) × (length path.now ≤ room_units)) }
     ensures { (result ≤ 4) × Passed cache.now path.now i (i + result) }
 {
-    let mut k = 0;
-    while k < TURN {
+    // over i..i + TURN the turn would not be written out
+    for k in 0..TURN {
         if may_match(cache, i + k, path) {
             return k;
         }
-        k += 1;
     }
-    k
+    TURN
 }
 
-// The first place from `from` on whose prefix may match, or the number of places. A path of less than four units, or longer than any prefix, is not tested.
-fn next_candidate(cache: &[u16], from: usize, path: &[u16]) -> usize
+// The first place from `from` on whose prefix may match. A path of less than four units, or longer than any prefix, is not tested.
+fn next_candidate(cache: &[u16], from: usize, path: &[u16]) -> Option<usize>
     requires { from ≤ place_count cache.now }
-    ensures { (from ≤ result) × ((result ≤ place_count cache.now) × Passed cache.now path.now from result) }
+    ensures { MatchOption result (Passed cache.now path.now from (place_count cache.now)) (λ i. (from ≤ i) × ((i < place_count cache.now) × Passed cache.now path.now from i)) }
 {
-    if path.len() < END {
-        return from;
-    }
-    if ROOM < path.len() {
-        return from;
-    }
     let count = cache.len() / PLACE;
-    let mut i = from;
-    while i + TURN <= count {
+    if path.len() < END || ROOM < path.len() {
+        return if from < count { Some(from) } else { None };
+    }
+    let turns = (count - from) / TURN;
+    for t in 0..turns {
+        let i = from + t * TURN;
         let k = passed(cache, i, path);
         if k < TURN {
-            return i + k;
+            return Some(i + k);
         }
-        i += TURN;
     }
-    while i < count {
+    for i in from + turns * TURN..count {
         if may_match(cache, i, path) {
-            return i;
+            return Some(i);
         }
-        i += 1;
     }
-    count
+    None
 }
 
 // Whether the prefix of place i has more units than `units` and matches the path.
@@ -94,72 +90,48 @@ fn longer_match(cache: &[u16], i: usize, path: &[u16], units: usize) -> bool
     ensures { result ≡ longer_match path.now units (place_of referrals (place_at i cache.now)) }
 {
     let prefix = cache::places::text(cache, i, 0);
-    if !unc::prefix::ends_component(prefix, path) {
-        return false;
-    }
-    if prefix.len() <= units {
-        return false;
-    }
-    unc::names::same_likely(prefix, &path[..prefix.len()])
-}
-
-// The place of the best, whose prefix has so many units: none while it has no unit.
-fn best_found(best: usize, units: usize) -> Option<usize>
-    ensures { result ≡ best_found best units }
-{
-    if units == 0 {
-        return None;
-    }
-    Some(best)
+    units < prefix.len() && unc::prefix::matches(prefix, path)
 }
 
 // The place of the entry whose prefix is the longest that matches the path.
 pub fn find(cache: &[u16], path: &[u16]) -> Option<usize>
     ensures { result ≡ longest_match path.now (decode referrals cache.now) }
 {
-    let count = cache.len() / PLACE;
-    let mut best = 0;
+    let mut best = None;
     let mut units = 0;
-    let mut i = 0;
-    while i < count {
-        i = next_candidate(cache, i, path);
-        if i == count {
-            return best_found(best, units);
-        }
+    let mut from = 0;
+    while let Some(i) = next_candidate(cache, from, path) {
         if longer_match(cache, i, path, units) {
-            best = i;
+            best = Some(i);
             units = cache::places::text(cache, i, 0).len();
             // none is longer than the path
             if units == path.len() {
-                return Some(best);
+                return best;
             }
         }
-        i += 1;
+        from = i + 1;
     }
-    best_found(best, units)
+    best
 }
 
 // Whether place i is used and its key is an equal name.
-fn key_is(cache: &[u16], i: usize, name: &[u16]) -> bool
+#[tactic(auto, unfolding(crate::specs::Code::key_is))]
+fn key_is<N: Name>(cache: &[u16], i: usize, name: N) -> bool
     requires { i < place_count cache.now }
-    ensures { result ≡ key_is name.now (place_at i cache.now) }
+    ensures { result ≡ key_is (N.units name) (place_at i cache.now) }
 {
-    if cache::places::unit(cache, i, 0) == 0 {
-        return false;
-    }
-    unc::names::same_name(cache::places::text(cache, i, 0), name)
+    cache::places::unit(cache, i, 0) != 0 && name.equals(cache::places::text(cache, i, 0))
 }
 
-fn key_place(cache: &[u16], name: &[u16]) -> Option<usize>
-    ensures { result ≡ key_place name.now cache.now }
+// The place of the entry whose key, a prefix or the name of a domain, is an equal name.
+pub fn find_key<N: Name>(cache: &[u16], name: N) -> Option<usize>
+    ensures referral { result ≡ with_key referrals (N.units name) (decode referrals cache.now) }
+    ensures domain { result ≡ with_key domains (N.units name) (decode domains cache.now) }
 {
-    let count = cache.len() / PLACE;
-    let mut i = 0;
-    while i < count {
+    for i in 0..cache.len() / PLACE {
         if key_is(cache, i, name) {
             return Some(i);
         }
-        i += 1;
     }
     None
 }
@@ -168,14 +140,14 @@ fn key_place(cache: &[u16], name: &[u16]) -> Option<usize>
 pub fn find_prefix(cache: &[u16], prefix: &[u16]) -> Option<usize>
     ensures { result ≡ with_key referrals prefix.now (decode referrals cache.now) }
 {
-    key_place(cache, prefix)
+    find_key(cache, prefix)
 }
 
 // The place of the domain entry with an equal name.
 pub fn find_domain(cache: &[u16], name: &[u16]) -> Option<usize>
     ensures { result ≡ with_key domains name.now (decode domains cache.now) }
 {
-    key_place(cache, name)
+    find_key(cache, name)
 }
 
 // Seconds since an entry was taken, on a clock that rolls over.
@@ -212,21 +184,19 @@ fn place_age(cache: &[u16], i: usize, clock: u32) -> u32
     ensures { result ≡ place_age clock (place_of referrals (place_at i cache.now)) }
 {
     if cache::places::unit(cache, i, 0) == 0 {
-        return 0;
+        0
+    } else {
+        age(clock, taken(cache, i))
     }
-    age(clock, taken(cache, i))
 }
 
 fn first_free(cache: &[u16]) -> Option<usize>
     ensures { result ≡ first_free_from 0 (decode referrals cache.now) }
 {
-    let count = cache.len() / PLACE;
-    let mut i = 0;
-    while i < count {
+    for i in 0..cache.len() / PLACE {
         if cache::places::unit(cache, i, 0) == 0 {
             return Some(i);
         }
-        i += 1;
     }
     None
 }
@@ -235,29 +205,24 @@ fn first_free(cache: &[u16]) -> Option<usize>
 fn oldest_place(cache: &[u16], clock: u32) -> usize
     ensures { result ≡ oldest clock (decode referrals cache.now) }
 {
-    let count = cache.len() / PLACE;
     let mut oldest = 0;
     let mut most = 0;
-    let mut i = 0;
-    while i < count {
+    for i in 0..cache.len() / PLACE {
         let seconds = place_age(cache, i, clock);
         if most < seconds {
             oldest = i;
             most = seconds;
         }
-        i += 1;
     }
     oldest
 }
 
 // The place that a new entry takes.
+#[tactic(auto, unfolding(crate::specs::Lookup::new_place, crate::specs::Lookup::found_or))]
 pub fn new_place(cache: &[u16], clock: u32) -> usize
     ensures { result ≡ new_place clock (decode referrals cache.now) }
 {
-    let Some(i) = first_free(cache) else {
-        return oldest_place(cache, clock);
-    };
-    i
+    first_free(cache).unwrap_or_else(|| oldest_place(cache, clock))
 }
 
 pub fn prefix(cache: &[u16], i: usize) -> &[u16]
@@ -311,6 +276,8 @@ pub fn target_opens(cache: &[u16], i: usize, j: usize) -> bool
     cache::places::unit(cache, i, cache::places::MARKS + j) == 1
 }
 
+// The fields of a DC entry lie where those of a referral entry do and are read by the same calls. They have functions of their own, since a contract names one
+// kind of entry.
 pub fn dc_count(cache: &[u16], i: usize) -> usize
     requires { i < place_count cache.now }
     ensures { result ≡ length (entry_at domains i cache.now).dcs }

@@ -1,5 +1,5 @@
 // DC and domain replies into the domain cache: document 01, "Layouts" and "Numbers given back".
-ghost use Rattle.std.specs.Prelude.{◌≡◌, true, [], map, ◌/◌, ◌≤◌, ◌<◌, length, take};
+ghost use Rattle.std.specs.Prelude.{◌≡◌, true, [], map, ◌≤◌, ◌<◌, length, take, Err};
 ghost use Rattle.laws.specs.Lists.{every};
 ghost use Rattle.reply_bytes.specs.texts.Code.{spanned, Inside};
 ghost use Rattle.cache.specs.places.Layout.{place_count};
@@ -18,23 +18,34 @@ ghost use Rattle.cache_store.specs.domain_cache.Code.{is_new, Fit, Added, WellFo
 use cache::places::PLACE;
 use reply_bytes::texts::Span;
 use reply_read::name_lists::DcsFound;
-use reply_read::referral::Answer;
 use reply_read::request::{LEAST_SIZE, MOST_SIZE};
 
 // One name more than a cache has places.
 const NAMES: usize = cache::order::PLACES + 1;
 
-// What reading a domain reply answers.
-#[derive(Clone, Copy)]
-pub enum DomainsRead {
-    Done,
+// Why a domain reply is not read.
+#[derive(Clone, Copy, Debug, PartialEq, Eq)]
+pub enum DomainsError {
     BadSize,
     NotInOrder,
     TooMany,
     Unreadable,
 }
 
-// Different names of a domain reply, as spans of it: the first `count` of `kept`.
+impl From<DomainsError> for u32 {
+    ghost from_gives = { λ error n. n ≡ domains_refusal (Err error) };
+
+    fn from(error: DomainsError) -> u32 {
+        match error {
+            DomainsError::BadSize => 3,
+            DomainsError::NotInOrder => 4,
+            DomainsError::TooMany => 6,
+            DomainsError::Unreadable => 7,
+        }
+    }
+}
+
+// Different names of a domain reply, as spans of it: the first `count` of `kept`. An array and a count: memory is fixed, no heap.
 #[derive(Clone, Copy)]
 struct Names {
     kept: [Span; 33],
@@ -42,15 +53,12 @@ struct Names {
 }
 
 // The DCs of the reply into place i, which has none.
-fn add_dcs(cache: &mut [u16], i: usize, reply: &[u8], kept: [Span; 8], count: usize)
-    requires { (i < place_count cache.old) × ((count ≤ 8) × (every (good_name_span reply.now) (take count kept) ≡ true)) }
-    ensures { cache.new ≡ changed i (add_all add_dc 0 (map (spanned reply.now) (take count kept))) cache.old }
+fn add_dcs(cache: &mut [u16], i: usize, reply: &[u8], dcs: &[Span])
+    requires { (i < place_count cache.old) × ((length dcs.now ≤ 8) × (every (good_name_span reply.now) dcs.now ≡ true)) }
+    ensures { cache.new ≡ changed i (add_all add_dc 0 (map (spanned reply.now) dcs.now)) cache.old }
 {
-    let mut n = 0;
-    while n < count {
-        let s = kept[n];
-        cache_entry::write_entry::add_text(cache, i, 1 + n, reply, s);
-        n += 1;
+    for (n, dc) in dcs.iter().enumerate() {
+        cache_entry::write_entry::add_text(cache, i, 1 + n, reply, *dc);
     }
 }
 
@@ -59,24 +67,19 @@ pub fn store_dcs(cache: &mut [u16], i: usize, reply: &[u8], found: DcsFound)
     requires { DomainAt i cache.old × StorableDcs reply.now found }
     ensures { cache.new ≡ encode domains (dcs_stored i (map (spanned reply.now) (take found.count found.kept)) (decode domains cache.old)) }
 {
-    let kept = found.kept;
-    let count = found.count;
     cache::places::keep_key(cache, i);
-    add_dcs(cache, i, reply, kept, count);
+    add_dcs(cache, i, reply, &found.kept[..found.count]);
 }
 
 // Whether no name of those kept is equal to this one.
-fn is_new(reply: &[u8], kept: [Span; 33], count: usize, s: Span) -> bool
-    requires { (count ≤ 33) × ((every (good_name_span reply.now) (take count kept) ≡ true) × Inside reply.now s) }
-    ensures { result ≡ is_new (map (spanned reply.now) (take count kept)) (spanned reply.now s) }
+fn is_new(reply: &[u8], names: &[Span], s: Span) -> bool
+    requires { (every (good_name_span reply.now) names.now ≡ true) × Inside reply.now s }
+    ensures { result ≡ is_new (map (spanned reply.now) names.now) (spanned reply.now s) }
 {
-    let mut j = 0;
-    while j < count {
-        let k = kept[j];
-        if reply_bytes::texts::same_spans(reply, k, s) {
+    for n in names {
+        if reply_bytes::texts::same_spans(reply, *n, s) {
             return false;
         }
-        j += 1;
     }
     true
 }
@@ -86,11 +89,11 @@ fn add_once(reply: &[u8], names: Names, s: Span) -> Names
     requires { (names.count < 33) × (Fit reply.now names × (good_name_span reply.now s ≡ true)) }
     ensures { Added reply.now names s result }
 {
-    let mut kept = names.kept;
     let count = names.count;
-    if !is_new(reply, kept, count, s) {
+    if !is_new(reply, &names.kept[..count], s) {
         return names;
     }
+    let mut kept = names.kept;
     kept[count] = s;
     Names {
         kept,
@@ -109,8 +112,7 @@ fn gather(reply: &[u8]) -> Names
         count: 0,
     };
     let mut e = 8;
-    let mut i = 0;
-    while i < n {
+    for i in 0..n {
         if names.count == NAMES {
             return names;
         }
@@ -120,59 +122,53 @@ fn gather(reply: &[u8]) -> Names
         };
         names = add_once(reply, names, s);
         e = reply_read::referral::next_entry(reply, e);
-        i += 1;
     }
     names
 }
 
 // The names into the first places of a cache; every other place becomes free.
-fn put_domains(cache: &mut [u16], reply: &[u8], kept: [Span; 33], count: usize)
-    requires { (right_size cache.old ≡ true) × ((count ≤ place_count cache.old) × (every (good_name_span reply.now) (take count kept) ≡ true)) }
-    ensures { cache.new ≡ encode domains (domain_places (place_count cache.old) (map (spanned reply.now) (take count kept))) }
+fn put_domains(cache: &mut [u16], reply: &[u8], names: &[Span])
+    requires { (right_size cache.old ≡ true) × ((length names.now ≤ place_count cache.old) × (every (good_name_span reply.now) names.now ≡ true)) }
+    ensures { cache.new ≡ encode domains (domain_places (place_count cache.old) (map (spanned reply.now) names.now)) }
 {
     let units = cache.len();
     memory::clear_units(cache, 0, units);
-    let mut i = 0;
-    while i < count {
-        let s = kept[i];
-        cache_entry::write_entry::add_text(cache, i, 0, reply, s);
-        i += 1;
+    for (i, name) in names.iter().enumerate() {
+        cache_entry::write_entry::add_text(cache, i, 0, reply, *name);
     }
 }
 
 // A well-formed domain reply into a cache, if it has places enough. Nothing is written before its different names are counted.
-fn replace(reply: &[u8], cache: &mut [u16]) -> DomainsRead
+fn replace(reply: &[u8], cache: &mut [u16]) -> Result<(), DomainsError>
     requires { WellFormed reply.now × (right_size cache.old ≡ true) }
     ensures answer { domains_refusal result ≡ names_number (place_count cache.old) (says (map (domain_name reply.now) (entries reply.now))) }
     ensures cache { cache.new ≡ cache_after (domains_refusal result) (map (domain_name reply.now) (entries reply.now)) cache.old }
 {
     let names = gather(reply);
-    let kept = names.kept;
-    let count = names.count;
-    if cache.len() / PLACE < count {
-        return DomainsRead::TooMany;
+    if cache.len() / PLACE < names.count {
+        return Err(DomainsError::TooMany);
     }
-    put_domains(cache, reply, kept, count);
-    DomainsRead::Done
+    put_domains(cache, reply, &names.kept[..names.count]);
+    Ok(())
 }
 
 // A domain reply replaces the domain cache. A refusal changes nothing.
-pub fn read_domains(reply: &[u8], size: u32, cache: &mut [u16]) -> DomainsRead
+pub fn read_domains(reply: &[u8], size: u32, cache: &mut [u16]) -> Result<(), DomainsError>
     ensures answer { domains_refusal result ≡ domains_number size reply.now cache.old }
     ensures cache { cache.new ≡ domains_after size reply.now cache.old }
 {
     if !cache::order::right_size(cache) {
-        return DomainsRead::NotInOrder;
+        return Err(DomainsError::NotInOrder);
     }
     if size < LEAST_SIZE {
-        return DomainsRead::BadSize;
+        return Err(DomainsError::BadSize);
     }
     if MOST_SIZE < size {
-        return DomainsRead::BadSize;
+        return Err(DomainsError::BadSize);
     }
-    let Answer::Says = reply_read::name_lists::read_domains(reply, size) else {
-        return DomainsRead::Unreadable;
-    };
+    if reply_read::name_lists::read_domains(reply, size).is_err() {
+        return Err(DomainsError::Unreadable);
+    }
     replace(reply, cache)
 }
 

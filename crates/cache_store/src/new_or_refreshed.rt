@@ -22,11 +22,8 @@ fn insert(
     requires { (i < place_count cache.old) × Storable reply.now found }
     ensures { cache.new ≡ inserted_at i reply.now found interlink clock cache.old }
 {
-    let prefix = found.prefix;
-    let kept = found.kept;
-    let count = found.targets;
-    cache_entry::write_entry::begin_entry(cache, i, reply, prefix);
-    cache_entry::write_entry::add_targets(cache, i, reply, kept, count);
+    cache_entry::write_entry::begin_entry(cache, i, reply, found.prefix);
+    cache_entry::write_entry::add_targets(cache, i, reply, &found.kept[..found.targets]);
     crate::entry_after_reply::settle(cache, i, found, interlink, clock);
 }
 
@@ -59,11 +56,10 @@ fn refresh_given(
     requires { HeldEntry i cache.old × (Storable reply.now found × (equivalent_at i cache.old reply.now found ≡ false)) }
     ensures { cache.new ≡ refreshed_at i reply.now found interlink clock cache.old }
 {
-    let kept = found.kept;
-    let count = found.targets;
-    let hint = crate::entry_after_reply::given_place(cache, i, reply, kept, count);
+    let given = &found.kept[..found.targets];
+    let hint = crate::entry_after_reply::given_place(cache, i, reply, given);
     cache::places::keep_key(cache, i);
-    cache_entry::write_entry::add_targets(cache, i, reply, kept, count);
+    cache_entry::write_entry::add_targets(cache, i, reply, given);
     crate::entry_after_reply::settle(cache, i, found, interlink, clock);
     crate::entry_after_reply::put_hint(cache, i, hint, found.failback);
 }
@@ -80,25 +76,23 @@ fn refresh(
     requires { HeldEntry i cache.old × Storable reply.now found }
     ensures entry { cache.new ≡ refreshed_at i reply.now found interlink clock cache.old }
 {
-    let kept = found.kept;
-    let count = found.targets;
-    let version = found.version;
-    if cache_entry::equivalent_targets::equivalent(cache, i, reply, kept, count, version) {
+    let given = &found.kept[..found.targets];
+    if cache_entry::equivalent_targets::equivalent(cache, i, reply, given, found.version) {
         refresh_held(cache, i, reply, found, interlink, clock);
-        return;
+    } else {
+        refresh_given(cache, i, reply, found, interlink, clock);
     }
-    refresh_given(cache, i, reply, found, interlink, clock);
 }
 
 // The place that a store will write: that of the entry with an equal prefix, else the one that a new entry takes.
+#[tactic(auto, unfolding(crate::specs::entry_after_reply::Stored::store_place, cache_lookup::specs::Lookup::found_or))]
 pub fn store_place(cache: &[u16], reply: &[u8], prefix: Span, clock: u32) -> usize
     requires { Inside reply.now prefix }
     ensures { result ≡ store_place clock (spanned reply.now prefix) (decode referrals cache.now) }
 {
-    let Some(i) = crate::entry_after_reply::find_prefix(cache, reply, prefix) else {
-        return cache_lookup::new_place(cache, clock);
-    };
-    i
+    crate::entry_after_reply::find_prefix(cache, reply, prefix).unwrap_or_else(
+        || cache_lookup::new_place(cache, clock),
+    )
 }
 
 // A reply into a referral cache in order: the entry with an equal prefix is refreshed, else there is a new one.
@@ -106,11 +100,11 @@ pub fn store(cache: &mut [u16], reply: &[u8], found: ReferralFound, interlink: b
     requires { (in_order referrals cache.old ≡ true) × Storable reply.now found }
     ensures { cache.new ≡ encode referrals (stored (referral_shown reply.now found) interlink clock (decode referrals cache.old)) }
 {
-    let prefix = found.prefix;
-    let Some(i) = crate::entry_after_reply::find_prefix(cache, reply, prefix) else {
-        let place = cache_lookup::new_place(cache, clock);
-        insert(cache, place, reply, found, interlink, clock);
-        return;
-    };
-    refresh(cache, i, reply, found, interlink, clock);
+    match crate::entry_after_reply::find_prefix(cache, reply, found.prefix) {
+        Some(i) => refresh(cache, i, reply, found, interlink, clock),
+        None => {
+            let place = cache_lookup::new_place(cache, clock);
+            insert(cache, place, reply, found, interlink, clock);
+        }
+    }
 }

@@ -1,5 +1,4 @@
 -- What the calls keep (specs/Keeps.antt).
-use Rattle.std.specs.Prelude.{Option, Some, None}
 use mathlib.Core.Path.{◌≡◌, refl, sym, ap, ◌∙◌}
 use mathlib.Core.Bool.{true, false}
 use mathlib.Core.List.{List, [], ◌∷◌, map}
@@ -9,6 +8,7 @@ use native.Mathlib.Omega.{arith}
 use lib.ListN.{length, get_or}
 use lib.Dec.{leb}
 use borrow.Author.Tests.{le-leb}
+use Rattle.std.specs.Prelude.{Result, Ok, Err, ⊤, Option, Some, None}
 use Rattle.laws.specs.Choice.{choose}
 use Rattle.laws.proofs.Choices.{choose_yes, choose_no}
 use Rattle.laws.proofs.Orders.{told}
@@ -20,8 +20,8 @@ use Rattle.cache.proofs.order.KindLaws.{referrals_lawful, domains_lawful}
 use Rattle.cache_lookup.specs.Lookup.{with_key, on_entry, age, expired}
 use Rattle.cache_upkeep.specs.Calls.{expire_entry, next_dc, has_dc, entry_changed, upkept, Upkept, expire_all_call, found_expired, expire_call, found_moved, next_dc_call}
 use Rattle.cache_upkeep.specs.Keeps.{Keeps, KeepsOthers, UpkeepKeeps}
-use Rattle.cache_upkeep.specs.declared.Upkeep.{Upkeep}
-use Rattle.cache_upkeep.specs.declared.Upkeep.TheVariants.{Done, NotInOrder, NoEntry}
+use Rattle.cache_upkeep.specs.declared.UpkeepError.{UpkeepError}
+use Rattle.cache_upkeep.specs.declared.UpkeepError.TheVariants.{NotInOrder, NoEntry}
 use Rattle.cache_upkeep.proofs.EntryLaws.{Tends, expire_tends, next_tends, changed_order, changed_back, changed_other, all_order, all_back}
 
 -- an entry with TTL 0 is expired at every clock
@@ -53,7 +53,7 @@ others_as k key raw e = record { keeps = kept_as k raw e; others = λ j n. ap (�
 
 -- a call that changed the entry that was found
 others_changed : {E : Type 0} (k : Kind E) (law : Lawful k) (f : E → E) (t : Tends k f) (key raw : List ℕ) (order : in_order k raw ≡ true) (i : ℕ)
-    → with_key k key (decode k raw) ≡ Some i → {u : Upkept} → u ≡ upkept Done (encode k (entry_changed f i (decode k raw))) → KeepsOthers k key raw u
+    → with_key k key (decode k raw) ≡ Some i → {u : Upkept} → u ≡ upkept (Ok tt) (encode k (entry_changed f i (decode k raw))) → KeepsOthers k key raw u
 others_changed k law f t key raw order i found e = record {
   keeps = record {
     refused = λ n. absurd (n (ap (λ (x : Upkept). x.answer) e));
@@ -72,14 +72,14 @@ module _ (raw : List ℕ) where
     where
       go : (in_order referrals raw ≡ true) ⊎ (in_order referrals raw ≡ false) → Keeps referrals raw (expire_all_call raw)
       go (inl t) =
-          let e : expire_all_call raw ≡ upkept Done (encode referrals (map (on_entry expire_entry) (decode referrals raw))) = choose_yes _ _ t in
+          let e : expire_all_call raw ≡ upkept (Ok tt) (encode referrals (map (on_entry expire_entry) (decode referrals raw))) = choose_yes _ _ t in
           record {
             refused = λ n. absurd (n (ap (λ (x : Upkept). x.answer) e));
             order = λ h. ap (λ (x : Upkept). in_order referrals x.cache) e ∙ all_order referrals expire_entry expire_tends referrals_lawful raw t;
           }
       go (inr t) = kept_as referrals raw (ap (λ (x : Upkept). x.cache) (choose_no _ _ t))
 
-  all_expired_lem : (expire_all_call raw).answer ≡ Done → (j clock : ℕ) (e : Referral) → get_or (decode referrals (expire_all_call raw).cache) j free ≡ used e → expired clock e ≡ true
+  all_expired_lem : (expire_all_call raw).answer ≡ Ok tt → (j clock : ℕ) (e : Referral) → get_or (decode referrals (expire_all_call raw).cache) j free ≡ used e → expired clock e ≡ true
   unfolding expire_all_call
   all_expired_lem d j clock e h = go (told (in_order referrals raw))
     where
@@ -88,15 +88,15 @@ module _ (raw : List ℕ) where
           let q : (expire_all_call raw).cache ≡ encode referrals (map (on_entry expire_entry) (decode referrals raw)) = ap (λ (x : Upkept). x.cache) (choose_yes _ _ t) in
           map_expired (decode referrals raw) j clock e
           (ap (λ (ps : List (Place Referral)). get_or ps j free) (sym (ap (decode referrals) q ∙ all_back referrals expire_entry expire_tends referrals_lawful raw t)) ∙ h)
-      go (inr t) = absurd (let a : NotInOrder ≡ Done = ap (λ (x : Upkept). x.answer) (sym (choose_no _ _ t)) ∙ d in let z : ◌≡◌ {A = ℕ} 0 1 = cc in omega arith)
+      go (inr t) = absurd (let a : Err NotInOrder ≡ Ok tt = ap (λ (x : Upkept). x.answer) (sym (choose_no _ _ t)) ∙ d in let z : ◌≡◌ {A = ℕ} 0 1 = cc in omega arith)
 
 -- `expire`, by its tests
 data Way (raw path : List ℕ) : Type 0 where
-  same : ((expire_call raw path).answer ≡ Done → ⊥) → (expire_call raw path).cache ≡ raw → Way raw path
+  same : ((expire_call raw path).answer ≡ Ok tt → ⊥) → (expire_call raw path).cache ≡ raw → Way raw path
   at : (i : ℕ) → in_order referrals raw ≡ true → with_key referrals (normalised path) (decode referrals raw) ≡ Some i
-      → expire_call raw path ≡ upkept Done (encode referrals (entry_changed expire_entry i (decode referrals raw))) → Way raw path
+      → expire_call raw path ≡ upkept (Ok tt) (encode referrals (entry_changed expire_entry i (decode referrals raw))) → Way raw path
 
-never : {a : Upkeep} {raw path : List ℕ} → expire_call raw path ≡ upkept a raw → (a ≡ Done → ⊥) → Way raw path
+never : {a : Result ⊤ UpkeepError} {raw path : List ℕ} → expire_call raw path ≡ upkept a raw → (a ≡ Ok tt → ⊥) → Way raw path
 never e n = same (λ d. n (sym (ap (λ (x : Upkept). x.answer) e) ∙ d)) (ap (λ (x : Upkept). x.cache) e)
 
 module _ (raw path : List ℕ) where
@@ -125,7 +125,7 @@ module _ (raw path : List ℕ) where
       go (same n e) = others_as referrals (normalised path) raw e
       go (at i t q e) = others_changed referrals referrals_lawful expire_entry expire_tends (normalised path) raw t i q e
 
-  one_expired_lem : (expire_call raw path).answer ≡ Done → (j clock : ℕ) (e : Referral) → with_key referrals (normalised path) (decode referrals raw) ≡ Some j
+  one_expired_lem : (expire_call raw path).answer ≡ Ok tt → (j clock : ℕ) (e : Referral) → with_key referrals (normalised path) (decode referrals raw) ≡ Some j
       → get_or (decode referrals (expire_call raw path).cache) j free ≡ used e → expired clock e ≡ true
   one_expired_lem d j clock e f h = go way_of
     where
@@ -147,7 +147,7 @@ module _ (raw name : List ℕ) where
   moved_keeps = go (told (in_order domains raw)) (with_key domains name (decode domains raw)) refl
     where
       at : (i : ℕ) → in_order domains raw ≡ true → with_key domains name (decode domains raw) ≡ Some i
-          → next_dc_call raw name ≡ choose (has_dc (get_or (decode domains raw) i free)) (upkept Done (encode domains (entry_changed next_dc i (decode domains raw)))) (upkept NoEntry raw)
+          → next_dc_call raw name ≡ choose (has_dc (get_or (decode domains raw) i free)) (upkept (Ok tt) (encode domains (entry_changed next_dc i (decode domains raw)))) (upkept (Err NoEntry) raw)
           → (has_dc (get_or (decode domains raw) i free) ≡ true) ⊎ (has_dc (get_or (decode domains raw) i free) ≡ false) → KeepsOthers domains name raw (next_dc_call raw name)
       at i t q e (inl s) = others_changed domains domains_lawful next_dc next_tends name raw t i q (e ∙ choose_yes _ _ s)
       at i t q e (inr s) = others_as domains name raw (ap (λ (x : Upkept). x.cache) (e ∙ choose_no _ _ s))

@@ -9,14 +9,12 @@ use native.Mathlib.Omega.{arith}
 use lib.Dec.{eqb}
 use lib.ListN.{length, get_or, set}
 use lib.Pow.{pow_pos}
-use borrow.Author.Tests.{eq-eqb, ne_eqb, eqb-true, eqb-false}
+use borrow.Author.Tests.{eq-eqb, ne_eqb, eqb-false}
 use Rattle.laws.specs.Choice.{choose}
 use Rattle.laws.proofs.Choices.{choose_yes, choose_no}
 use Rattle.laws.proofs.Orders.{told}
 use Rattle.unc.specs.names.Names.{same_name}
 use Rattle.laws.specs.Lists.{every}
-use Rattle.laws.specs.Listed.{listed}
-use Rattle.laws.proofs.Listed.{every_listed}
 use Rattle.cache_entry.specs.equivalent_targets.Code.{is_in, without, unmarked, first_place, marks_in}
 
 -- the ways of `unmarked` and `first_place` over as many marks as names
@@ -181,11 +179,3 @@ none_marked (suc n) (suc k) m e h =
     let o : m % 2 ≡ 0 → ⊥ = λ z. absurd (omega arith) in
     let d : m / 2 + 1 ≡ 2 ^ k = omega arith in
     rw (ne_eqb (m % 2) 0 o) (none_marked n k (m / 2) d (omega arith))
-
--- the table of bits
-abbrev bit_table : List ℕ
-bit_table = 1 ∷ 2 ∷ 4 ∷ 8 ∷ 16 ∷ 32 ∷ 64 ∷ 128 ∷ []
-
-pub mark_is : (n : ℕ) → n < 8 → get_or bit_table n 0 ≡ 2 ^ n
-unfolding every listed
-mark_is n h = eqb-true _ _ (every_listed (λ k. eqb (get_or bit_table k 0) (2 ^ k)) 8 (λ k. k) refl n h)

@@ -4,20 +4,19 @@ use mathlib.Core.Bool.{Bool, true, false, ◌&&◌}
 use mathlib.Core.List.{List, [], ◌∷◌, map, map-map}
 use mathlib.Core.Logic.{◌⊎◌, inl, inr}
 use Prim.Native.Nat.{ℕ, suc, ◌+◌, ◌-◌, ◌≤◌, ◌<◌}
-use native.Mathlib.Nat.{zero-add}
 use native.Mathlib.Numerals.{add-one}
 use native.Mathlib.Omega.{arith}
 use lib.Dec.{leb}
-use lib.ListN.{length, get_or, take, drop, length-map, length-drop, drop_of_length-le}
-use lib.Seq.{drop-cons, drop-drop, get_or-take, length-take-le}
+use lib.ListN.{length, get_or, take, drop, length-map, drop_of_length-le}
+use lib.Seq.{drop-cons, drop-drop}
 use borrow.Author.Tests.{eq-eqb, ne_eqb, le-leb, lt-leb}
 use Rattle.laws.specs.Choice.{choose}
 use Rattle.laws.specs.Lists.{part}
 use Rattle.laws.specs.Listed.{listed}
 use Rattle.laws.proofs.Choices.{choose_yes, choose_no, and_no_left}
-use Rattle.laws.proofs.Maps.{map_drop, map_take, map_part}
+use Rattle.laws.proofs.Maps.{map_drop, map_part}
 use Rattle.laws.proofs.Orders.{told, lt_or_le}
-use Rattle.laws.proofs.Parts.{part_cons, part_part, part_whole}
+use Rattle.laws.proofs.Parts.{part_cons, part_whole}
 use Rattle.laws.proofs.Listed.{get_d_map, length_listed, get_d_listed, map_listed}
 use Rattle.reply_read.specs.referral.Code.{target_shown}
 use Rattle.reply_read.specs.declared.referral.Kept.{Kept}
@@ -27,10 +26,6 @@ use Rattle.cache.specs.order.Memory.{referral_of, target_of}
 use Rattle.cache_lookup.specs.Code.{entry_at}
 use Rattle.cache_entry.specs.equivalent_targets.Equivalence.{same_targets, paths, join_set, next_opens, sets, same_sets, equivalent}
 use Rattle.cache_entry.specs.equivalent_targets.Code.{held_targets, given_path, boundaries, given_boundaries, before_boundary, set_end}
-
-first_part : {A : Type 0} (n : ℕ) (xs : List A) → take n xs ≡ part 0 n xs
-unfolding part
-first_part n xs = refl
 
 length_paths : (ts : List Target) → length (paths ts) ≡ length ts
 unfolding paths
@@ -90,25 +85,25 @@ module _ (raw : List ℕ) (i : ℕ) where
     pub held_last : list_count (place_at i raw) ≤ e → end_from e (boundaries (held_targets i raw)) ≡ e
     held_last h = end_last (boundaries (held_targets i raw)) e (omega (arith, held_long))
 
--- the boundaries of the first n kept targets of a reply
-module _ (ks : List Kept) (n e : ℕ) where
-  given_long : n ≤ length ks → length (given_boundaries (take n ks)) ≡ n
+-- the boundaries of the kept targets of a reply
+module _ (ks : List Kept) where
+  given_long : length (given_boundaries ks) ≡ length ks
   unfolding given_boundaries
-  given_long l = length-map (take n ks) (λ k. k.opens) ∙ length-take-le n ks l
+  given_long = length-map ks (λ k. k.opens)
 
-  given_opens : (z : Kept) → e < n → n ≤ length ks → get_or (given_boundaries (take n ks)) e false ≡ (get_or ks e z).opens
-  unfolding given_boundaries
-  given_opens z h l = get_d_map (λ (k : Kept). k.opens) (take n ks) e z false (omega (arith, length-take-le n ks l)) ∙ ap (λ (k : Kept). k.opens) (get_or-take n ks e z h)
+  module _ (e : ℕ) where
+    given_opens : (z : Kept) → e < length ks → get_or (given_boundaries ks) e false ≡ (get_or ks e z).opens
+    unfolding given_boundaries
+    given_opens z h = get_d_map (λ (k : Kept). k.opens) ks e z false h
 
-  pub given_stop : (z : Kept) → (get_or ks e z).opens ≡ true → e < n → n ≤ length ks → end_from e (given_boundaries (take n ks)) ≡ e
-  given_stop z k h l = end_stop (given_boundaries (take n ks)) e (omega (arith, given_long l)) (given_opens z h l ∙ k)
+    pub given_stop : (z : Kept) → (get_or ks e z).opens ≡ true → e < length ks → end_from e (given_boundaries ks) ≡ e
+    given_stop z k h = end_stop (given_boundaries ks) e (omega (arith, given_long)) (given_opens z h ∙ k)
 
-  pub given_more : (z : Kept) → (get_or ks e z).opens ≡ false → e < n → n ≤ length ks
-      → end_from e (given_boundaries (take n ks)) ≡ end_from (e + 1) (given_boundaries (take n ks))
-  given_more z k h l = end_more (given_boundaries (take n ks)) e (omega (arith, given_long l)) (given_opens z h l ∙ k)
+    pub given_more : (z : Kept) → (get_or ks e z).opens ≡ false → e < length ks → end_from e (given_boundaries ks) ≡ end_from (e + 1) (given_boundaries ks)
+    given_more z k h = end_more (given_boundaries ks) e (omega (arith, given_long)) (given_opens z h ∙ k)
 
-  pub given_last : n ≤ e → n ≤ length ks → end_from e (given_boundaries (take n ks)) ≡ e
-  given_last h l = end_last (given_boundaries (take n ks)) e (omega (arith, given_long l))
+    pub given_last : length ks ≤ e → end_from e (given_boundaries ks) ≡ e
+    given_last h = end_last (given_boundaries ks) e (omega (arith, given_long))
 
 -- the first set of a list, and the sets of the rest
 sets_first : (t : Target) (ts : List Target)
@@ -123,20 +118,6 @@ sets_first t (u ∷ ts) = go (told u.opens) (sets_first u ts)
         ≡ (t.path ∷ paths (take (before_boundary (boundaries (u ∷ ts))) (u ∷ ts))) ∷ sets (drop (before_boundary (boundaries (u ∷ ts))) (u ∷ ts))
     go (inl y) r = rw y
     go (inr n) r = rw n (ap (join_set false t.path) r)
-
--- a set ends past its first target, and inside the list
-before_within : (bs : List Bool) → before_boundary bs ≤ length bs
-unfolding before_boundary choose
-before_within [] = omega arith
-before_within (true ∷ bs) = omega arith
-before_within (false ∷ bs) = let r = before_within bs in omega arith
-
-pub end_within : (a : ℕ) (bs : List Bool) → a < length bs → (a < set_end a bs) × (set_end a bs ≤ length bs)
-unfolding set_end
-end_within a bs h =
-    let w = before_within (drop (a + 1) bs) in
-    let l = length-drop (a + 1) bs in
-    (omega arith, omega arith)
 
 -- the set that starts at place a, and those after it
 module _ (ts : List Target) (a : ℕ) where
@@ -177,14 +158,12 @@ module _ (r : List ℕ) (ks : List Kept) where
   unfolding paths target_shown given_path
   given_paths = map-map (λ (t : Target). t.path) (target_shown r) ks
 
-module _ (r : List ℕ) (ks : List Kept) (n : ℕ) where
-  given_count : n ≤ length ks → length (map (target_shown r) (take n ks)) ≡ n
-  given_count few = length-map (take n ks) (target_shown r) ∙ length-take-le n ks few
+  given_count : length (map (target_shown r) ks) ≡ length ks
+  given_count = length-map ks (target_shown r)
 
-  pub given_part : (b k : ℕ) → b + k ≤ n → part b k (paths (map (target_shown r) (take n ks))) ≡ part b k (map (given_path r) ks)
-  given_part b k h =
-      ap (part b k) (given_paths r (take n ks) ∙ (map_take (given_path r) n ks ∙ first_part n (map (given_path r) ks)))
-      ∙ (part_part b k 0 n (map (given_path r) ks) h ∙ rw (zero-add b))
+  given_part : (b k : ℕ) → part b k (paths (map (target_shown r) ks)) ≡ map (given_path r) (take k (drop b ks))
+  unfolding part
+  given_part b k = ap (part b k) given_paths ∙ sym (map_part (given_path r) b k ks)
 
 -- The comparison set by set, from the entry's place a and the reply's place b on.
 abbrev pub sets_from : ℕ → List ℕ → List ℕ → List Kept → ℕ → ℕ → Bool
@@ -194,83 +173,64 @@ held_length : (i : ℕ) (raw : List ℕ) → length (held_targets i raw) ≡ lis
 unfolding held_targets entry_at referral_of
 held_length i raw = length_listed (list_count (place_at i raw)) (λ j. target_of j (place_at i raw))
 
--- the ends are inside the lists
-pub held_within : (i : ℕ) (raw : List ℕ) (a : ℕ) {x : ℕ} → x ≡ set_end a (boundaries (held_targets i raw)) → a < list_count (place_at i raw)
-    → (a < x) × (x ≤ list_count (place_at i raw))
-held_within i raw a e h =
-    let l = held_long raw i in
-    let w = end_within a (boundaries (held_targets i raw)) (omega arith) in
-    (omega arith, omega arith)
-
-pub given_within : (ks : List Kept) (n b : ℕ) {y : ℕ} → y ≡ set_end b (given_boundaries (take n ks)) → b < n → n ≤ length ks → (b < y) × (y ≤ n)
-given_within ks n b e h few =
-    let l = given_long ks n b few in
-    let w = end_within b (given_boundaries (take n ks)) (omega arith) in
-    (omega arith, omega arith)
-
-module _ (i : ℕ) (raw r : List ℕ) (ks : List Kept) (n a b : ℕ) where
+module _ (i : ℕ) (raw r : List ℕ) (ks : List Kept) (a b : ℕ) where
   -- the entry has a set more
-  pub sets_short : a < list_count (place_at i raw) → n ≤ b → n ≤ length ks → sets_from i raw r (take n ks) a b ≡ false
+  pub sets_short : a < list_count (place_at i raw) → length ks ≤ b → sets_from i raw r ks a b ≡ false
   unfolding same_sets
-  sets_short h k few =
-      rw (sets_at (held_targets i raw) a (omega (arith, held_length i raw)), sets_none (map (target_shown r) (take n ks)) b (omega (arith, given_count r ks n few)))
+  sets_short h k =
+      rw (sets_at (held_targets i raw) a (omega (arith, held_length i raw)), sets_none (map (target_shown r) ks) b (omega (arith, given_count r ks)))
 
   -- the entry has no more set
-  pub sets_end : list_count (place_at i raw) ≤ a → n ≤ length ks → leb n b ≡ sets_from i raw r (take n ks) a b
+  pub sets_end : list_count (place_at i raw) ≤ a → leb (length ks) b ≡ sets_from i raw r ks a b
   unfolding same_sets
-  sets_end h few =
-      rw (sets_none (held_targets i raw) a (omega (arith, held_length i raw))) (go (lt_or_le b n))
+  sets_end h =
+      rw (sets_none (held_targets i raw) a (omega (arith, held_length i raw))) (go (lt_or_le b (length ks)))
     where
-      go : (b < n) ⊎ (n ≤ b) → leb n b ≡ same_sets [] (sets (drop b (map (target_shown r) (take n ks))))
-      go (inl k) = lt-leb _ _ k ∙ rw (sets_at (map (target_shown r) (take n ks)) b (omega (arith, given_count r ks n few)))
-      go (inr k) = le-leb _ _ k ∙ rw (sets_none (map (target_shown r) (take n ks)) b (omega (arith, given_count r ks n few)))
+      go : (b < length ks) ⊎ (length ks ≤ b) → leb (length ks) b ≡ same_sets [] (sets (drop b (map (target_shown r) ks)))
+      go (inl k) = lt-leb _ _ k ∙ rw (sets_at (map (target_shown r) ks) b (omega (arith, given_count r ks)))
+      go (inr k) = le-leb _ _ k ∙ rw (sets_none (map (target_shown r) ks) b (omega (arith, given_count r ks)))
 
-  module _ {x y : ℕ} (held : x ≡ set_end a (boundaries (held_targets i raw))) (given : y ≡ set_end b (given_boundaries (take n ks))) {v : Bool}
-      (is : v ≡ same_targets (part a (x - a) (paths (held_targets i raw))) (part b (y - b) (map (given_path r) ks)))
-      (h : a < list_count (place_at i raw)) (k : b < n) (few : n ≤ length ks) where
+  module _ {x y : ℕ} (held : x ≡ set_end a (boundaries (held_targets i raw))) (given : y ≡ set_end b (given_boundaries ks)) {v : Bool}
+      (is : v ≡ same_targets (part a (x - a) (paths (held_targets i raw))) (map (given_path r) (take (y - b) (drop b ks))))
+      (h : a < list_count (place_at i raw)) (k : b < length ks) where
     held_at : sets (drop a (held_targets i raw)) ≡ part a (x - a) (paths (held_targets i raw)) ∷ sets (drop x (held_targets i raw))
     held_at =
         sets_at (held_targets i raw) a (omega (arith, held_length i raw))
         ∙ ap (λ (e : ℕ). part a (e - a) (paths (held_targets i raw)) ∷ sets (drop e (held_targets i raw))) (sym held)
 
-    given_at : sets (drop b (map (target_shown r) (take n ks))) ≡ part b (y - b) (map (given_path r) ks) ∷ sets (drop y (map (target_shown r) (take n ks)))
+    given_at : sets (drop b (map (target_shown r) ks)) ≡ map (given_path r) (take (y - b) (drop b ks)) ∷ sets (drop y (map (target_shown r) ks))
     given_at =
-        let w = given_within ks n b given k few in
-        sets_at (map (target_shown r) (take n ks)) b (omega (arith, given_count r ks n few))
-        ∙ (ap (λ (e : ℕ). part b (e - b) (paths (map (target_shown r) (take n ks))) ∷ sets (drop e (map (target_shown r) (take n ks))))
-        (ap (set_end b) (given_boundaries_lem r (take n ks)) ∙ sym given)
-        ∙ ap (λ (s : List (List ℕ)). s ∷ sets (drop y (map (target_shown r) (take n ks)))) (given_part r ks n b (y - b) (omega arith)))
+        sets_at (map (target_shown r) ks) b (omega (arith, given_count r ks))
+        ∙ (ap (λ (e : ℕ). part b (e - b) (paths (map (target_shown r) ks)) ∷ sets (drop e (map (target_shown r) ks)))
+        (ap (set_end b) (given_boundaries_lem r ks) ∙ sym given)
+        ∙ ap (λ (s : List (List ℕ)). s ∷ sets (drop y (map (target_shown r) ks))) (given_part r ks b (y - b)))
 
-    sets_next : sets_from i raw r (take n ks) a b ≡ (v && sets_from i raw r (take n ks) x y)
+    sets_next : sets_from i raw r ks a b ≡ (v && sets_from i raw r ks x y)
     unfolding same_sets
     sets_next =
-        ap (λ (l : List (List (List ℕ))). same_sets l (sets (drop b (map (target_shown r) (take n ks))))) held_at
+        ap (λ (l : List (List (List ℕ))). same_sets l (sets (drop b (map (target_shown r) ks)))) held_at
         ∙ (ap (λ (l : List (List (List ℕ))). same_sets (part a (x - a) (paths (held_targets i raw)) ∷ sets (drop x (held_targets i raw))) l) given_at
-        ∙ ap (λ (w : Bool). w && sets_from i raw r (take n ks) x y) (sym is))
+        ∙ ap (λ (w : Bool). w && sets_from i raw r ks x y) (sym is))
 
-    pub sets_differ : v ≡ false → sets_from i raw r (take n ks) a b ≡ false
+    pub sets_differ : v ≡ false → sets_from i raw r ks a b ≡ false
     sets_differ e = sets_next ∙ and_no_left _ e
 
-    pub sets_more : v ≡ true → sets_from i raw r (take n ks) a b ≡ sets_from i raw r (take n ks) x y
+    pub sets_more : v ≡ true → sets_from i raw r ks a b ≡ sets_from i raw r ks x y
     sets_more e = sets_next ∙ rw e
 
 -- the two ways of the equivalence check
-module _ (version i : ℕ) (raw r : List ℕ) (ks : List Kept) (n : ℕ) where
-  pub by_sets : version ≡ 4 → {v : Bool} → v ≡ same_sets (sets (held_targets i raw)) (sets (map (target_shown r) (take n ks)))
-      → v ≡ equivalent version (held_targets i raw) (map (target_shown r) (take n ks))
+module _ (version i : ℕ) (raw r : List ℕ) (ks : List Kept) where
+  pub by_sets : version ≡ 4 → {v : Bool} → v ≡ same_sets (sets (held_targets i raw)) (sets (map (target_shown r) ks))
+      → v ≡ equivalent version (held_targets i raw) (map (target_shown r) ks)
   unfolding equivalent
   by_sets h e = e ∙ sym (choose_yes _ _ (eq-eqb version 4 h))
 
-  pub by_targets : (version ≡ 4 → ⊥) → {m : ℕ} → m ≡ list_count (place_at i raw) → n ≤ length ks → {v : Bool}
-      → v ≡ same_targets (part 0 (m - 0) (paths (held_targets i raw))) (part 0 (n - 0) (map (given_path r) ks))
-      → v ≡ equivalent version (held_targets i raw) (map (target_shown r) (take n ks))
+  pub by_targets : (version ≡ 4 → ⊥) → {m : ℕ} → m ≡ list_count (place_at i raw) → {v : Bool}
+      → v ≡ same_targets (part 0 (m - 0) (paths (held_targets i raw))) (map (given_path r) ks)
+      → v ≡ equivalent version (held_targets i raw) (map (target_shown r) ks)
   unfolding equivalent
-  by_targets h {m} is few e =
-      let k : length (paths (map (target_shown r) (take n ks))) ≡ n - 0 =
-      omega (arith, length_paths (map (target_shown r) (take n ks)), given_count r ks n few) in
+  by_targets h {m} is e =
       let l : length (paths (held_targets i raw)) ≡ m - 0 = omega (arith, length_paths (held_targets i raw), held_length i raw) in
       e
-      ∙ (ap (λ (s : List (List ℕ)). same_targets s (part 0 (n - 0) (map (given_path r) ks))) (part_whole (paths (held_targets i raw)) (m - 0) l)
-      ∙ (ap (same_targets (paths (held_targets i raw)))
-      (sym (given_part r ks n 0 (n - 0) (omega arith)) ∙ part_whole (paths (map (target_shown r) (take n ks))) (n - 0) k)
-      ∙ sym (choose_no _ _ (ne_eqb version 4 h))))
+      ∙ ((λ j. same_targets (part_whole (paths (held_targets i raw)) (m - 0) l j) (sym (given_paths r ks) j))
+      ∙ sym (choose_no _ _ (ne_eqb version 4 h)))

@@ -4,16 +4,17 @@ use mathlib.Core.Bool.{Bool, true, false}
 use mathlib.Core.List.{List, [], ◌∷◌, ◌++◌, map}
 use Prim.Native.Nat.{ℕ, ◌+◌, ◌-◌, ◌*◌, ◌≤◌, ◌<◌}
 use native.Mathlib.Omega.{arith}
-use lib.ListN.{length, length-map, get_or, take, drop, length-drop, drop_of_length-le}
-use lib.Seq.{drop-cons, get_or-take, length-take-le}
+use lib.ListN.{length, get_or, drop, length-drop, drop_of_length-le}
+use lib.Seq.{drop-cons}
 use lib.Dec.{leb}
 use borrow.Author.Tests.{leb-true, le-leb}
 use native.Mathlib.Numerals.{add-one}
+use mir.Val.{bool_byte}
 use Rattle.cache.specs.order.Memory.{settings_units}
+use Rattle.laws.specs.Choice.{choose}
 use Rattle.laws.specs.Lists.{pasted, roomed, every}
-use Rattle.laws.proofs.Choices.{choose_yes, choose_no, and_left, and_right, and_both}
+use Rattle.laws.proofs.Choices.{and_left, and_right, and_both}
 use Rattle.laws.proofs.Every.{every_drop, every_at}
-use Rattle.laws.proofs.Listed.{get_d_map}
 use Rattle.laws.proofs.Pasting.{length_pasted, length_roomed}
 use Rattle.reply_bytes.specs.texts.Code.{spanned, Inside}
 use Rattle.reply_bytes.proofs.texts.UnitLaws.{length_spanned}
@@ -27,13 +28,11 @@ use Rattle.cache.proofs.places.WriterLaws.{length_put_unit, text_put}
 use Rattle.reply_read.specs.referral.Code.{target_shown}
 use Rattle.cache_entry.specs.write_entry.Code.{add_text, add_target, add_dc, add_all, begun, kept_fits, settings}
 
-pub flag_one : (b : Bool) → b ≡ true → 1 ≡ flag_unit b
-unfolding flag_unit
-flag_one b h = sym (choose_yes 1 0 h)
-
-pub flag_none : (b : Bool) → b ≡ false → 0 ≡ flag_unit b
-unfolding flag_unit
-flag_none b h = sym (choose_no 1 0 h)
+-- a flag as a number is its unit
+pub flag_is : (b : Bool) {v : ℕ} → v ≡ bool_byte b → v ≡ flag_unit b
+unfolding flag_unit choose
+flag_is true e = e
+flag_is false e = e
 
 -- a change that leaves a place as long as it was
 abbrev pub Keeps : (List ℕ → List ℕ) → Type 0
@@ -94,25 +93,6 @@ pub all_short : (r : List ℕ) (ks : List Kept) → every (kept_fits r) ks ≡ t
 unfolding every
 all_short r [] h = refl
 all_short r (k ∷ ks) h = and_both (held_short r k (and_left (kept_fits r k) _ h)) (all_short r ks (and_right (kept_fits r k) _ h))
-
--- the first `count` of what was kept, one at a time, and what it shows
-module _ {K : Type 0} (kept : List K) (count n : ℕ) (d : K) (long : count ≤ length kept) (more : n < count) where
-  count_taken : length (take count kept) ≡ count
-  count_taken = length-take-le count kept long
-
-  pub kept_at : (fit : K → Bool) → every fit (take count kept) ≡ true → fit (get_or kept n d) ≡ true
-  kept_at fit h = ap fit (sym (get_or-take count kept n d more)) ∙ every_at fit (take count kept) h n d (omega (arith, count_taken))
-
-  pub shown_at : {A : Type 0} (f : K → A) (z : A) → get_or (map f (take count kept)) n z ≡ f (get_or kept n d)
-  shown_at f z = get_d_map f (take count kept) n d z (omega (arith, count_taken)) ∙ ap f (get_or-take count kept n d more)
-
-pub length_shown : {K A : Type 0} (f : K → A) (kept : List K) (count : ℕ) → count ≤ length kept → length (map f (take count kept)) ≡ count
-length_shown f kept count h = length-map (take count kept) f ∙ length-take-le count kept h
-
-pub path_at_lem : (r : List ℕ) (kept : List Kept) (count n : ℕ) (d : Kept) (z : Target) → count ≤ length kept → n < count
-    → spanned r (get_or kept n d).path ≡ (get_or (map (target_shown r) (take count kept)) n z).path
-unfolding target_shown
-path_at_lem r kept count n d z h k = ap (λ (t : Target). t.path) (sym (shown_at kept count n d h k (target_shown r) z))
 
 module _ (raw : List ℕ) (i : ℕ) (fits : i < place_count raw) where
   pub whole : (f : List ℕ → List ℕ) → Keeps f → length (f (place_at i raw)) ≡ 2336

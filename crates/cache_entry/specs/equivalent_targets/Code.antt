@@ -1,13 +1,11 @@
 -- Shapes of the code, proved equal to the rules; nothing here is to be believed.
-use Rattle.std.specs.Prelude.{ℕ, ◌+◌, ◌/◌, ◌%◌, ◌≤◌, ◌<◌, zero, suc, Bool, true, false, ◌&&◌, ◌||◌, not, List, [], ◌∷◌, map, eqb, length, get_or, drop}
+use Rattle.std.specs.Prelude.{ℕ, ◌+◌, ◌/◌, ◌%◌, zero, suc, Bool, true, false, ◌&&◌, ◌||◌, not, List, [], ◌∷◌, map, eqb, drop}
 use Rattle.laws.specs.Choice.{choose}
-use Rattle.laws.specs.Listed.{listed}
 use Rattle.unc.specs.names.Names.{same_name}
 use Rattle.unc.specs.names.Paths.{Target}
 use Rattle.cache.specs.order.Memory.{referrals}
 use Rattle.cache_lookup.specs.Code.{entry_at}
-use Rattle.reply_bytes.specs.texts.Code.{spanned, Inside}
-use Rattle.reply_bytes.specs.declared.texts.Span.{Span}
+use Rattle.reply_bytes.specs.texts.Code.{spanned}
 use Rattle.reply_read.specs.declared.referral.Kept.{Kept}
 
 -- Matching one target at a time: each of the first list is equal to one of the second that was not taken before.
@@ -42,26 +40,6 @@ first_place n x (m ∷ ms) (y ∷ ys) = choose (not m && same_name x y) n (first
 unfoldable pub marks_in : ℕ → ℕ → List Bool
 marks_in zero m = []
 marks_in (suc n) m = eqb (m % 2) 0 ∷ marks_in n (m / 2)
-
--- where the text of a kept target starts in the reply, and its units
-unfoldable pub text_start : Kept → ℕ
-text_start k = k.path.from
-
-unfoldable pub size_of : Kept → ℕ
-size_of k = k.path.units
-
--- the text of target j by its numbers, and all of them
-unfoldable pub span_in : List ℕ → List ℕ → ℕ → Span
-span_in starts sizes j = record { from = get_or starts j 0; units = get_or sizes j 0 }
-
-unfoldable pub names_at : List ℕ → List ℕ → List ℕ → List (List ℕ)
-names_at r starts sizes = listed (length starts) (λ j. spanned r (span_in starts sizes j))
-
--- the first n texts are there, inside the reply
-pub record Spans (r starts sizes : List ℕ) (n : ℕ) : Type 0 where
-  pub begun : n ≤ length starts
-  pub sized : n ≤ length sizes
-  pub within : (j : ℕ) → j < n → Inside r (span_in starts sizes j)
 
 -- The two target lists that are compared: that of an entry, and that of a reply.
 

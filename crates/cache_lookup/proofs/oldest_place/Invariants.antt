@@ -1,14 +1,8 @@
 -- Finds the lowest place of greatest age. The invariant: the places from i on decide, with the oldest so far.
-use Rattle.std.proofs.Common.{◌≡◌, ◌-◌, ◌≤◌, drop}
-use Rattle.cache.specs.places.Layout.{place_count}
+use Rattle.std.proofs.Common.{◌≡◌, drop}
 use Rattle.cache.specs.order.Memory.{referrals, decode}
 use Rattle.cache_lookup.specs.Lookup.{oldest, oldest_from}
 use Rattle.cache_lookup.proofs.oldest_place.Given as goal
 
 abbrev pub invariant-loop-i : goal.invariant-loop-i
-invariant-loop-i l =
-    (l.i ≤ place_count l.cache)
-    × (oldest l.clock (decode referrals l.cache) ≡ oldest_from l.clock l.i l.oldest l.most (drop l.i (decode referrals l.cache)))
-
-abbrev pub decreases-loop-i : goal.decreases-loop-i
-decreases-loop-i l = place_count l.cache - l.i
+invariant-loop-i l = oldest l.clock (decode referrals l.cache) ≡ oldest_from l.clock l.i l.oldest l.most (drop l.i (decode referrals l.cache))

@@ -32,12 +32,12 @@ use Rattle.cache_lookup.specs.Code.{entry_at}
 use Rattle.cache_lookup.specs.Lookup.{with_key}
 use Rattle.cache_lookup.proofs.LookupLaws.{KeyAt, key_found, used_inside}
 use Rattle.cache_lookup.proofs.StoreLaws.{entry_good, entry_is, entry_start, kept_in_order}
+use Rattle.reply_read.specs.referral.Replies.{says}
 use Rattle.reply_read.specs.referral.Code.{is_inside}
-use Rattle.reply_read.specs.declared.referral.Answer.TheVariants.{Says}
 use Rattle.reply_read.specs.name_lists.NameLists.{read_dcs}
-use Rattle.reply_read.specs.name_lists.Code.{denoted_dcs, DcsInside}
+use Rattle.reply_read.specs.name_lists.Code.{dcs_shown, DcsInside}
 use Rattle.reply_read.specs.declared.name_lists.DcsFound.{DcsFound}
-use Rattle.reply_read.proofs.name_lists.SaysLaws.{SoundDcs, says_dcs, dcs_says}
+use Rattle.reply_read.proofs.name_lists.SaysLaws.{SoundDcs, says_dcs}
 use Rattle.cache_entry.specs.write_entry.Code.{add_all, add_dc, add_text}
 use Rattle.cache_entry.proofs.write_entry.WritingLaws.{short_name}
 use Rattle.cache_entry.proofs.write_entry.PieceLaws.{key_shape_lem, dcs_written}
@@ -128,9 +128,10 @@ both_fit r (s ∷ ss) h k =
     and_both (and_both (and_left (is_inside r s) _ h) (and_left (good_name (spanned r s)) _ k))
     (both_fit r ss (and_right (is_inside r s) _ h) (and_right (good_name (spanned r s)) _ k))
 
-pub storable_dcs : (size : ℕ) (r : List ℕ) (f : DcsFound) → denoted_dcs r f ≡ read_dcs size r → DcsInside r f → f.answer ≡ Says → StorableDcs r f
-storable_dcs size r f e w h =
-    let s : SoundDcs (map (spanned r) (take f.count f.kept)) = says_dcs size r _ (sym e ∙ dcs_says r f h) in
+pub storable_dcs : (size : ℕ) (r : List ℕ) (f : DcsFound) → read_dcs size r ≡ says (dcs_shown r f) → DcsInside r f → StorableDcs r f
+unfolding dcs_shown
+storable_dcs size r f e w =
+    let s : SoundDcs (map (spanned r) (take f.count f.kept)) = says_dcs size r _ e in
     record { few = w.few; good = both_fit r (take f.count f.kept) (every_take (is_inside r) f.count f.kept w.kept_within) s.good }
 
 -- the cache after the store

@@ -1,6 +1,6 @@
 -- Laws of reading a domain reply: the number of each way, and the cache after it.
 use mathlib.Core.Path.{◌≡◌, refl, sym, ap, ◌∙◌}
-use mathlib.Core.Bool.{Bool, true, false}
+use mathlib.Core.Bool.{Bool, true, false, true≢false}
 use mathlib.Core.List.{List, [], ◌∷◌, map}
 use mathlib.Core.Logic.{◌⊎◌, inl, inr}
 use Prim.Native.Nat.{ℕ, ◌≤◌, ◌<◌, min}
@@ -8,8 +8,8 @@ use native.Mathlib.Omega.{arith}
 use lib.ListN.{length, length-map, length-take}
 use lib.Seq.{take_all}
 use lib.Dec.{leb}
-use denote.Enum.Declared.{tag_of}
 use borrow.Author.Tests.{leb-true, le-leb, lt-leb, ne_eqb}
+use Rattle.std.specs.Prelude.{Result, Ok, Err, ⊤}
 use Rattle.laws.specs.Choice.{choose}
 use Rattle.laws.specs.Lists.{every}
 use Rattle.laws.proofs.Choices.{choose_yes, choose_no, and_left, and_right, and_both, and_no_left, and_no_right}
@@ -20,9 +20,8 @@ use Rattle.cache.specs.places.Layout.{place_count}
 use Rattle.cache.specs.order.Memory.{domains, right_size, encode, in_order}
 use Rattle.cache.proofs.order.MemoryLaws.{RightSize, size_told}
 use Rattle.reply_read.specs.referral.Replies.{Reply, malformed, nothing, says, entries}
-use Rattle.reply_read.specs.declared.referral.Answer.{Answer}
-use Rattle.reply_read.specs.declared.referral.Answer.TheVariants.{Says}
-use Rattle.reply_read.specs.contracts.referral.Answer.{the_type}
+use Rattle.std.specs.Prelude.{Result, Ok, Err, is_err}
+use Rattle.reply_read.specs.declared.referral.Unread.{Unread}
 use Rattle.reply_read.specs.name_lists.NameLists.{read_domains, domain_at, good_domain_name}
 use Rattle.reply_read.specs.name_lists.Code.{domain_name, answer_of}
 use Rattle.reply_read.proofs.name_lists.ListLaws.{domain_read}
@@ -33,8 +32,8 @@ use Rattle.cache_store.specs.domain_cache.Domains.{good_size, names_number, doma
 use Rattle.cache_store.specs.declared.domain_cache.Names.{Names}
 use Rattle.cache_store.proofs.domain_cache.OnceLaws.{once_every, once_distinct}
 use Rattle.cache_store.proofs.domain_cache.NamesLaws.{names_in_order}
-use Rattle.cache_store.specs.declared.domain_cache.DomainsRead.{DomainsRead}
-use Rattle.cache_store.specs.declared.domain_cache.DomainsRead.TheVariants.{Done, NotInOrder, BadSize, TooMany, Unreadable}
+use Rattle.cache_store.specs.declared.domain_cache.DomainsError.{DomainsError}
+use Rattle.cache_store.specs.declared.domain_cache.DomainsError.TheVariants.{NotInOrder, BadSize, TooMany, Unreadable}
 
 -- the cache after any number but 0, and after 0
 unchanged : (n : ℕ) (names : List (List ℕ)) (raw : List ℕ) → (n ≡ 0 → ⊥) → raw ≡ cache_after n names raw
@@ -72,14 +71,14 @@ module _ (r : List ℕ) (v : Names) (g : Gathered r v) (raw : List ℕ) (right :
       sym l ∙ (ap length g.are ∙ length-take 33 (once names))
 
   pub too_many : place_count raw < v.count
-      → (domains_refusal TooMany ≡ names_number (place_count raw) (says (map (domain_name r) (entries r)))) × (raw ≡ cache_after (domains_refusal TooMany) (map (domain_name r) (entries r)) raw)
+      → (domains_refusal (Err TooMany) ≡ names_number (place_count raw) (says (map (domain_name r) (entries r)))) × (raw ≡ cache_after (domains_refusal (Err TooMany)) (map (domain_name r) (entries r)) raw)
   unfolding names names_number domains_refusal
   too_many h =
       let u : place_count raw < length (once names) = omega (arith, counted) in
       (sym (choose_no 0 6 (lt-leb (length (once names)) (place_count raw) u)), unchanged 6 names raw (λ z. omega arith))
 
   pub all_placed : v.count ≤ place_count raw → {o : List ℕ} → o ≡ encode domains (domain_places (place_count raw) (shown r v))
-      → (domains_refusal Done ≡ names_number (place_count raw) (says (map (domain_name r) (entries r)))) × (o ≡ cache_after (domains_refusal Done) (map (domain_name r) (entries r)) raw)
+      → (domains_refusal (Ok tt) ≡ names_number (place_count raw) (says (map (domain_name r) (entries r)))) × (o ≡ cache_after (domains_refusal (Ok tt)) (map (domain_name r) (entries r)) raw)
   unfolding names names_number domains_refusal
   all_placed h e =
       let most : place_count raw ≤ 32 = (size_told raw right).most in
@@ -88,8 +87,13 @@ module _ (r : List ℕ) (v : Names) (g : Gathered r v) (raw : List ℕ) (right :
         e ∙ (ap (λ (x : List (List ℕ)). encode domains (domain_places (place_count raw) x)) (g.are ∙ take_all 33 (once names) (omega arith)) ∙ replaced names raw),
       )
 
+-- a result that is no error
+no_error : (a : Result (Unit {0}) Unread) → is_err a ≡ false → a ≡ Ok tt
+no_error (Ok u) h = refl
+no_error (Err e) h = absurd (true≢false h)
+
 -- the ways of the whole call
-unread : (places : ℕ) (x : Reply (List (List ℕ))) → (Says ≡ answer_of x → ⊥) → names_number places x ≡ 7
+unread : (places : ℕ) (x : Reply (List (List ℕ))) → (Ok tt ≡ answer_of x → ⊥) → names_number places x ≡ 7
 unfolding names_number answer_of
 unread places malformed h = refl
 unread places nothing h = refl
@@ -100,12 +104,12 @@ module _ (size : ℕ) (r raw : List ℕ) where
   unfolding domains_after
   refused n e h = (e, unchanged (domains_number size r raw) (names_in (read_domains size r)) raw (λ z. h (e ∙ z)))
 
-  pub not_in_order : {b : Bool} → b ≡ right_size raw → b ≡ false → (domains_refusal NotInOrder ≡ domains_number size r raw) × (raw ≡ domains_after size r raw)
+  pub not_in_order : {b : Bool} → b ≡ right_size raw → b ≡ false → (domains_refusal (Err NotInOrder) ≡ domains_number size r raw) × (raw ≡ domains_after size r raw)
   unfolding domains_refusal domains_number
   not_in_order e h = refused 4 (sym (choose_no _ 4 (sym e ∙ h))) (λ z. omega arith)
 
   module _ (right : right_size raw ≡ true) where
-    pub bad_size : good_size size ≡ false → (domains_refusal BadSize ≡ domains_number size r raw) × (raw ≡ domains_after size r raw)
+    pub bad_size : good_size size ≡ false → (domains_refusal (Err BadSize) ≡ domains_number size r raw) × (raw ≡ domains_after size r raw)
     unfolding domains_refusal domains_number
     bad_size h = refused 3 (sym (choose_yes _ 4 right ∙ choose_no _ 3 h)) (λ z. omega arith)
 
@@ -114,30 +118,25 @@ module _ (size : ℕ) (r raw : List ℕ) where
       unfolding domains_number
       number_is = choose_yes _ 4 right ∙ choose_yes _ 3 fine
 
-      pub unreadable : {a : Answer} → a ≡ answer_of (read_domains size r) → (a ≡ Says → ⊥) → (domains_refusal Unreadable ≡ domains_number size r raw) × (raw ≡ domains_after size r raw)
+      pub unreadable : {a : Result (Unit {0}) Unread} → a ≡ answer_of (read_domains size r) → is_err a ≡ true → (domains_refusal (Err Unreadable) ≡ domains_number size r raw) × (raw ≡ domains_after size r raw)
       unfolding domains_refusal
-      unreadable e h = refused 7 (sym (number_is ∙ unread (place_count raw) (read_domains size r) (λ z. h (e ∙ sym z)))) (λ z. omega arith)
+      unreadable e h = refused 7 (sym (number_is ∙ unread (place_count raw) (read_domains size r) (λ z. true≢false (sym h ∙ ap is_err (e ∙ sym z))))) (λ z. omega arith)
 
-      module _ {a : Answer} (e : a ≡ answer_of (read_domains size r)) (h : a ≡ Says) where
+      module _ {a : Result (Unit {0}) Unread} (e : a ≡ answer_of (read_domains size r)) (h : is_err a ≡ false) where
         sound : SoundDomains size r
-        sound = says_domains size r (sym h ∙ e)
+        sound = says_domains size r (sym (no_error a h) ∙ e)
 
         pub well_formed : size < 4294967296 → WellFormed r
         well_formed u =
             let l : length r ≤ size = sound.within in
             record { header = sound.header; short = omega arith; good = sound.good }
 
-        pub was_read : (v : DomainsRead) {o : List ℕ} → domains_refusal v ≡ names_number (place_count raw) (says (map (domain_name r) (entries r)))
+        pub was_read : (v : Result ⊤ DomainsError) {o : List ℕ} → domains_refusal v ≡ names_number (place_count raw) (says (map (domain_name r) (entries r)))
             → o ≡ cache_after (domains_refusal v) (map (domain_name r) (entries r)) raw → (domains_refusal v ≡ domains_number size r raw) × (o ≡ domains_after size r raw)
         unfolding domains_after names_in
         was_read v p q =
             let n : domains_refusal v ≡ domains_number size r raw = p ∙ (ap (names_number (place_count raw)) (sym sound.is) ∙ sym number_is) in
             (n, q ∙ (λ i. cache_after (n i) (names_in (sym sound.is i)) raw))
-
--- an answer that is the first or the second of the three
-pub not_says : (a : Answer) → (tag_of the_type a ≡ 0) ⊎ (tag_of the_type a ≡ 1) → a ≡ Says → ⊥
-not_says a (inl p) h = let t : tag_of the_type a ≡ 2 = ap (tag_of the_type) h in omega arith
-not_says a (inr p) h = let t : tag_of the_type a ≡ 2 = ap (tag_of the_type) h in omega arith
 
 -- a domain reply that was read: its names are good
 names_good : (r : List ℕ) (es : List ℕ) → every (good_domain_name r) es ≡ true → every good_name (map (domain_name r) es) ≡ true

@@ -1,26 +1,26 @@
 -- Laws of hints: the first equal target, and the first target set.
 use mathlib.Core.Path.{◌≡◌, refl, sym, ap, ◌∙◌}
 use mathlib.Core.Bool.{Bool, true, false, not}
-use mathlib.Core.List.{List, [], ◌∷◌}
+use mathlib.Core.List.{List, [], ◌∷◌, map}
 use Prim.Native.Nat.{ℕ, suc, ◌+◌, ◌≤◌, ◌<◌}
 use native.Mathlib.Numerals.{add-one}
 use native.Mathlib.Omega.{arith}
 use lib.ListN.{length, get_or, take, drop, drop_of_length-le, length-drop, length-take}
 use lib.Seq.{drop-cons, get_or-take, get_or-drop}
-use Rattle.cache.specs.places.Layout.{hint_unit}
 use Rattle.laws.specs.Lists.{every}
-use Rattle.laws.specs.Choice.{choose}
-use Rattle.laws.proofs.Choices.{choose_yes, choose_no, and_no_right}
+use Rattle.laws.proofs.Choices.{choose_yes, choose_no}
 use Rattle.laws.proofs.Tests.{both_ways}
 use Rattle.laws.proofs.Listed.{get_d_map}
 use Rattle.unc.specs.names.Names.{same_name}
 use Rattle.unc.proofs.names.NameLaws.{same_name_sym}
 use Rattle.unc.specs.names.Paths.{Target}
 use Rattle.cache.specs.order.Entries.{Referral}
+use Rattle.reply_bytes.specs.texts.Code.{spanned}
+use Rattle.reply_read.specs.referral.Code.{target_shown}
+use Rattle.reply_read.specs.declared.referral.Kept.{Kept}
 use Rattle.cache_lookup.specs.Lookup.{target_path}
 use Rattle.cache_lookup.specs.Code.{target_opens}
-use Rattle.cache.specs.places.Code.{changed, put_unit}
-use Rattle.cache_store.specs.entry_after_reply.Stored.{first_equal, hinted, in_first_set, failed_back}
+use Rattle.cache_store.specs.entry_after_reply.Stored.{first_equal, hinted, in_first_set}
 
 -- equal names either way round
 pub same_swap : (a b : List ℕ) → same_name a b ≡ same_name b a
@@ -42,6 +42,11 @@ target_path_lem e j h = h
 pub target_mark : (e : Referral) (j : ℕ) {r : Bool} → r ≡ target_opens j e → r ≡ (get_or e.targets j nowhere).opens
 unfolding target_opens
 target_mark e j h = h
+
+-- the path of target n of a reply
+pub given_path : (r : List ℕ) (ks : List Kept) (n : ℕ) (k : Kept) → n < length ks → spanned r (get_or ks n k).path ≡ (get_or (map (target_shown r) ks) n nowhere).path
+unfolding target_shown
+given_path r ks n k h = ap (λ (t : Target). t.path) (sym (get_d_map (target_shown r) ks n k nowhere h))
 
 -- a loop that looks for an equal target, from target j on: x is its path, q the one looked for
 module _ (p : List ℕ) (ts : List Target) (j : ℕ) (d : Target) where
@@ -89,19 +94,3 @@ unfolding every
 set_end_lem n ts k h =
     let l : length (take n (drop 1 ts)) ≤ k = simp length-take (omega arith) in
     rw (drop_of_length-le (take n (drop 1 ts)) l)
-
--- failback, in its three ways
-module _ (failback : Bool) (ts : List Target) (hint i : ℕ) (raw : List ℕ) where
-  pub back_off : {o : List ℕ} → o ≡ changed i (put_unit hint_unit hint) raw → failback ≡ false → o ≡ changed i (put_unit hint_unit (failed_back failback ts hint)) raw
-  unfolding failed_back choose
-  back_off e h = e ∙ rw h
-
-  pub back_in : {o : List ℕ} {r : Bool} → o ≡ changed i (put_unit hint_unit hint) raw → r ≡ in_first_set hint ts → r ≡ true
-      → o ≡ changed i (put_unit hint_unit (failed_back failback ts hint)) raw
-  unfolding failed_back
-  back_in {r = r} e h k = e ∙ ap (λ (x : ℕ). changed i (put_unit hint_unit x) raw) (sym (choose_no 0 hint (and_no_right failback (rw (← h, k)))))
-
-  pub back_first : {o : List ℕ} {r : Bool} → o ≡ changed i (put_unit hint_unit 0) raw → failback ≡ true → r ≡ in_first_set hint ts → r ≡ false
-      → o ≡ changed i (put_unit hint_unit (failed_back failback ts hint)) raw
-  unfolding failed_back choose
-  back_first e f h k = e ∙ rw (f, ← h, k)

@@ -4,8 +4,9 @@ use mathlib.Core.Path.{◌≡◌, refl, sym, ap, ◌∙◌}
 use mathlib.Core.Bool.{Bool, true, false}
 use mathlib.Core.List.{List, [], ◌∷◌, map}
 use mathlib.Core.Logic.{◌⊎◌, inl, inr}
-use Prim.Native.Nat.{ℕ, ◌+◌, ◌*◌, ◌<◌}
-use lib.ListN.{length, get_or, take, set}
+use Prim.Native.Nat.{ℕ, ◌+◌, ◌*◌, ◌≤◌, ◌<◌}
+use lib.ListN.{length, get_or, take, set, length-take}
+use native.Mathlib.Omega.{arith}
 use lib.Dec.{leb}
 use Rattle.laws.specs.Lists.{every}
 use Rattle.laws.proofs.Choices.{and_left, and_right, and_both}
@@ -44,6 +45,10 @@ pub all_inside : (r : List ℕ) (ks : List Kept) → every (kept_fits r) ks ≡ 
 unfolding every
 all_inside r [] h = refl
 all_inside r (k ∷ ks) h = and_both (kept_in r k (and_left (kept_fits r k) _ h)) (all_inside r ks (and_right (kept_fits r k) _ h))
+
+-- as many targets are given as a place has room for
+pub few_given : (r : List ℕ) (f : ReferralFound) → Storable r f → length (take f.targets f.kept) ≤ 8
+few_given r f s = let few : f.targets ≤ 8 = s.few in omega (arith, length-take f.targets f.kept)
 
 -- the check that the code made is that of the definition
 pub equivalent_told : (raw : List ℕ) (i : ℕ) (r : List ℕ) (f : ReferralFound) {t b : Bool}

@@ -1,5 +1,5 @@
 -- Shapes of the code, proved equal to the rules; nothing here is to be believed.
-use Rattle.std.specs.Prelude.{ℕ, ◌≤◌, ◌<◌, ◌≡◌, Bool, true, ◌&&◌, not, List, [], ◌∷◌, ◌++◌, map, length, get_or, take, Option, Some, None}
+use Rattle.std.specs.Prelude.{ℕ, ◌≤◌, ◌<◌, ◌≡◌, Bool, true, ◌&&◌, not, List, [], ◌∷◌, ◌++◌, map, length, get_or, take, Result, Ok, Err, ⊤, Option, Some, None}
 use Rattle.laws.specs.Choice.{choose}
 use Rattle.laws.specs.Lists.{every}
 use Rattle.unc.specs.names.Names.{good_name, same_name}
@@ -15,8 +15,8 @@ use Rattle.reply_read.specs.declared.name_lists.DcsFound.{DcsFound}
 use Rattle.reply_read.specs.name_lists.NameLists.{good_domain_name}
 use Rattle.reply_read.specs.name_lists.Code.{domain_name}
 use Rattle.cache_store.specs.entry_after_reply.Stored.{once}
-use Rattle.cache_store.specs.declared.domain_cache.DomainsRead.{DomainsRead}
-use Rattle.cache_store.specs.declared.domain_cache.DomainsRead.TheVariants.{Done, NotInOrder, BadSize, TooMany, Unreadable}
+use Rattle.cache_store.specs.declared.domain_cache.DomainsError.{DomainsError}
+use Rattle.cache_store.specs.declared.domain_cache.DomainsError.TheVariants.{NotInOrder, BadSize, TooMany, Unreadable}
 use Rattle.cache_store.specs.declared.domain_cache.Names.{Names}
 
 -- A DC reply: a span inside the reply that is a good name
@@ -35,12 +35,12 @@ pub record StorableDcs (r : List ℕ) (f : DcsFound) : Type 0 where
   pub good : every (good_name_span r) (take f.count f.kept) ≡ true
 
 -- A domain reply: the numbers of its answers, 0 where it is read
-unfoldable pub domains_refusal : DomainsRead → ℕ
-domains_refusal Done = 0
-domains_refusal BadSize = 3
-domains_refusal NotInOrder = 4
-domains_refusal TooMany = 6
-domains_refusal Unreadable = 7
+unfoldable pub domains_refusal : Result ⊤ DomainsError → ℕ
+domains_refusal (Ok u) = 0
+domains_refusal (Err BadSize) = 3
+domains_refusal (Err NotInOrder) = 4
+domains_refusal (Err TooMany) = 6
+domains_refusal (Err Unreadable) = 7
 
 -- the request for a domain reply: 0 where it is written, 10 where the buffer is shorter
 unfoldable pub asked_number : Option ℕ → ℕ

@@ -5,5 +5,5 @@ use Rattle.cache_upkeep.proofs.after.Goals as goal
 pub returns-then-n-j : goal.returns-then-n-j
 returns-then-n-j c = after_round _ _ c.if-n-j.true
 
-pub returns : goal.returns
-returns c = after_next _ _ c.if-n-j.false
+pub returns-else-n-j : goal.returns-else-n-j
+returns-else-n-j c = after_next _ _ c.if-n-j.false

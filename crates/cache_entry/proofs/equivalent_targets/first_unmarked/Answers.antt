@@ -1,23 +1,28 @@
-use mathlib.Core.Path.{sym, ◌∙◌}
-use native.Mathlib.Omega.{arith}
-use Rattle.cache_entry.specs.equivalent_targets.Code.{span_in}
-use Rattle.cache_entry.proofs.equivalent_targets.ComparisonLaws.{seek_hit, seek_miss, seek_end}
-use borrow.Author.Rules.{rules}
+use Rattle.std.proofs.Common.{sym, ◌∙◌, arith}
+use Rattle.cache_entry.proofs.equivalent_targets.ComparisonLaws.{kept_inside_lem, seek_start, seek_hit, seek_marked, seek_unlike, seek_end}
 use Rattle.cache_entry.proofs.equivalent_targets.first_unmarked.Goals as goal
+use Rattle.cache_entry.proofs.equivalent_targets.first_unmarked.Goals.{else-left-ne0-via-then-left-ne0+else-same_span, else-left-ne0-via-else-left-ne0}
 
-pub is_match-requires : goal.is_match-requires
-unfolding span_in
-is_match-requires c = c.requires.1.within c.loop-j.j (omega arith)
+pub same_span-requires : goal.same_span-requires
+same_span-requires c = kept_inside_lem c.args.reply.now c.args.given.now c.loop-j.j _ c.requires (omega arith)
 
-pub returns-then-is_match : goal.returns-then-is_match
-unfolding span_in
-returns-then-is_match c =
-    sym (c.loop-j.invariant.1.1 ∙ seek_hit c.args.x.now c.args.reply.now c.args.starts.now c.args.sizes.now c.loop-j.left c.args.to c.loop-j.j c.is_match.ensures c.requires.1.begun (omega arith) c.if-is_match.true)
+pub loop-j-init : goal.loop-j-init
+loop-j-init c = seek_start c.args.x.now c.args.marks c.args.reply.now c.args.given.now
+
+pub returns-then-same_span-clause-first : goal.returns-then-same_span-clause-first
+returns-then-same_span-clause-first c =
+    sym (c.loop-j.invariant
+    ∙ seek_hit c.args.x.now c.loop-j.left c.args.reply.now c.args.given.now c.loop-j.j (omega arith) _ c.if-left-ne0.true c.same_span.ensures c.if-same_span.true)
 
 pub loop-j-preserved : goal.loop-j-preserved
-unfolding span_in
 loop-j-preserved c =
-    (search rules, (search rules, c.loop-j.invariant.1.1 ∙ seek_miss c.args.x.now c.args.reply.now c.args.starts.now c.args.sizes.now c.loop-j.left c.args.to c.loop-j.j c.is_match.ensures c.requires.1.begun (omega arith) c.if-is_match.false))
+    c.loop-j.invariant
+    ∙ (elim c.else-left-ne0.branch [
+      | else-left-ne0-via-then-left-ne0+else-same_span w ↦ seek_unlike c.args.x.now c.loop-j.left c.args.reply.now c.args.given.now c.loop-j.j (omega arith) _ w.same_span.ensures w.if-same_span.false
+      | else-left-ne0-via-else-left-ne0 w ↦ seek_marked c.args.x.now c.loop-j.left c.args.reply.now c.args.given.now c.loop-j.j (omega arith) w.if-left-ne0.false
+    ])
 
-pub returns : goal.returns
-returns c = sym (c.loop-j.invariant.1.1 ∙ (seek_end _ _ _ _ _ (omega arith) ∙ omega arith))
+pub returns-clause-first : goal.returns-clause-first
+returns-clause-first c =
+    sym (c.loop-j.invariant
+    ∙ (seek_end c.args.x.now c.loop-j.left c.args.reply.now c.args.given.now c.loop-j.j (omega arith) ∙ omega arith))

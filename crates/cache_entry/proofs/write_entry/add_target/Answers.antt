@@ -1,5 +1,5 @@
 use native.Mathlib.Omega.{arith}
-use Rattle.cache_entry.proofs.write_entry.WritingLaws.{kept_inside_lem, kept_short, target_added}
+use Rattle.cache_entry.proofs.write_entry.WritingLaws.{flag_is, kept_inside_lem, kept_short, target_added}
 use Rattle.cache_entry.proofs.write_entry.add_target.Goals as goal
 
 pub add_text-requires : goal.add_text-requires
@@ -9,4 +9,4 @@ add_text-requires c =
 pub returns : goal.returns
 returns c =
     target_added c.args.cache.now c.args.i (omega (arith, c.requires)) c.args.n _ c.args.reply.now c.args.k c.requires.1.1 (omega (arith, c.requires))
-    c.flag_unit.ensures c.add_text.ensures c.put_unit.ensures
+    (flag_is _ c.from.ensures) c.add_text.ensures c.put_unit.ensures

@@ -1,8 +1,7 @@
 -- The DCs one after another, as texts 1 and on of the place.
 use mathlib.Core.List.{map}
 use mathlib.Core.Path.{◌≡◌}
-use Prim.Native.Nat.{◌≤◌, ◌-◌}
-use lib.ListN.{length, take, drop}
+use lib.ListN.{length, drop}
 use Rattle.reply_bytes.specs.texts.Code.{spanned}
 use Rattle.cache.specs.places.Code.{changed}
 use Rattle.cache_entry.specs.write_entry.Code.{add_all, add_dc}
@@ -10,9 +9,5 @@ use Rattle.cache_store.proofs.domain_cache.add_dcs.Given as goal
 
 abbrev pub invariant-loop-n : goal.invariant-loop-n
 invariant-loop-n l =
-    (l.n ≤ l.count)
-    × ((length l.cache ≡ length l.initial.cache)
-    × (changed l.i (add_all add_dc 0 (map (spanned l.reply) (take l.count l.kept))) l.initial.cache ≡ changed l.i (add_all add_dc l.n (drop l.n (map (spanned l.reply) (take l.count l.kept)))) l.cache))
-
-abbrev pub decreases-loop-n : goal.decreases-loop-n
-decreases-loop-n l = l.count - l.n
+    (length l.cache ≡ length l.initial.cache)
+    × (changed l.i (add_all add_dc 0 (map (spanned l.reply) l.dcs)) l.initial.cache ≡ changed l.i (add_all add_dc l.n (drop l.n (map (spanned l.reply) l.dcs))) l.cache)

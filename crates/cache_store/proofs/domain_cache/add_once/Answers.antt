@@ -6,7 +6,7 @@ use Rattle.cache_store.proofs.domain_cache.add_once.Goals as goal
 
 pub is_new-requires : goal.is_new-requires
 is_new-requires c =
-    (c.requires.1.0.few, (c.requires.1.0.good, fits_inside c.args.reply.now c.args.s c.requires.1.1))
+    (c.requires.1.0.good, fits_inside c.args.reply.now c.args.s c.requires.1.1)
 
 pub returns-then-not-is_new : goal.returns-then-not-is_new
 returns-then-not-is_new c =

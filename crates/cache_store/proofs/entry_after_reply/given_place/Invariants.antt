@@ -3,15 +3,10 @@ use Rattle.cache_store.specs.entry_after_reply.Stored.{first_equal, hinted}
 use mathlib.Core.List.{map}
 use Rattle.cache_lookup.specs.Code.{entry_at}
 use Rattle.cache.specs.order.Memory.{referrals}
-use lib.ListN.{drop, take}
-use Prim.Native.Nat.{◌≤◌, ◌-◌}
+use lib.ListN.{drop}
 use mathlib.Core.Path.{◌≡◌}
 use Rattle.cache_store.proofs.entry_after_reply.given_place.Given as goal
 
 abbrev pub invariant-loop-n : goal.invariant-loop-n
 invariant-loop-n l =
-    (l.n ≤ l.count)
-    × (first_equal 0 (hinted (entry_at referrals l.i l.cache)) (map (target_shown l.reply) (take l.count l.kept)) ≡ first_equal l.n (hinted (entry_at referrals l.i l.cache)) (drop l.n (map (target_shown l.reply) (take l.count l.kept))))
-
-abbrev pub decreases-loop-n : goal.decreases-loop-n
-decreases-loop-n l = l.count - l.n
+    first_equal 0 (hinted (entry_at referrals l.i l.cache)) (map (target_shown l.reply) l.given) ≡ first_equal l.n (hinted (entry_at referrals l.i l.cache)) (drop l.n (map (target_shown l.reply) l.given))

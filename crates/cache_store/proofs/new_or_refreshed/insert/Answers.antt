@@ -1,5 +1,6 @@
 use native.Mathlib.Omega.{arith}
 use Rattle.cache_store.proofs.entry_after_reply.StoreLaws.{prefix_fits, inserted}
+use Rattle.cache_store.proofs.entry_after_reply.StoredLaws.{few_given}
 use Rattle.cache_store.proofs.new_or_refreshed.insert.Goals as goal
 
 pub begin_entry-requires : goal.begin_entry-requires
@@ -8,7 +9,7 @@ begin_entry-requires c =
 
 pub add_targets-requires : goal.add_targets-requires
 add_targets-requires c =
-    (omega arith, (c.requires.1.few, c.requires.1.kept))
+    (omega arith, (few_given _ _ c.requires.1, c.requires.1.kept))
 
 pub returns : goal.returns
 returns c =

@@ -6,16 +6,16 @@ pub insert-requires : goal.insert-requires
 insert-requires c =
     (new_fits c.args.cache.now c.requires.0 c.args.clock c.new_place-place.ensures, c.requires.1)
 
-pub returns-in_default : goal.returns-in_default
-returns-in_default c =
+pub returns-in-None : goal.returns-in-None
+returns-in-None c =
     stored_inserted c.args.cache.now c.requires.0 c.args.reply.now c.args.found c.args.interlink c.args.clock _ c.requires.1
-    c.find_prefix.ensures c.in_default.is c.new_place-place.ensures c.insert.ensures
+    c.find_prefix.ensures c.in-None.is c.new_place-place.ensures c.insert.ensures
 
 pub refresh-requires : goal.refresh-requires
 refresh-requires c =
     (held_there c.args.cache.now c.requires.0 _ _ (sym c.find_prefix.ensures ∙ c.in-Some.is), c.requires.1)
 
-pub returns : goal.returns
-returns c =
+pub returns-in-Some : goal.returns-in-Some
+returns-in-Some c =
     stored_refreshed c.args.cache.now c.requires.0 _ _ (sym c.find_prefix.ensures ∙ c.in-Some.is)
     c.args.reply.now c.args.found c.args.interlink c.args.clock c.requires.1 refl c.refresh.ensures.entry

@@ -27,38 +27,36 @@ pub enum Failure {
 }
 
 // The place of the entry of this prefix, if it has both targets.
+#[tactic(auto, unfolding(crate::specs::io_answer::Code::place_in_use, crate::specs::io_answer::Code::with_parties, walk_steps::specs::rounds::Code::in_round, laws::specs::Choice::choose))]
 fn place(refs: &[u16], prefix: &[u16], party: u16, began: u16) -> Option<usize>
     ensures { result ≡ place_in_use prefix.now refs.now party began }
 {
-    let Some(i) = cache_lookup::find_prefix(refs, prefix) else {
-        return None;
-    };
+    let i = cache_lookup::find_prefix(refs, prefix)?;
     let n = cache_lookup::target_count(refs, i);
-    if n <= party as usize {
-        return None;
+    if (party as usize) < n && (began as usize) < n {
+        Some(i)
+    } else {
+        None
     }
-    if n <= began as usize {
-        return None;
-    }
-    Some(i)
 }
 
 // PATH_NOT_COVERED: a root's target is asked for the link, the one just tried first.
+#[tactic(auto, unfolding(crate::specs::io_answer::Code::not_covered, walk_steps::specs::steps::Steps::link_request, walk_steps::specs::steps::Held::core_of, walk_steps::specs::steps::Code::called_of, walk_steps::specs::steps::Held::question_of, laws::specs::Choice::choose))]
 fn not_covered(refs: &[u16], g: Progress, q: Asking, status: u32, i: usize) -> Next
     requires { i < place_count refs.now }
     ensures { (path tried : List ℕ) → called_of result ≡ not_covered (core_of path g.size g.hit) (question_of q tried) status (entry_at referrals i refs.now) }
 {
-    if !cache_lookup::is_root(refs, i) {
-        return Next::Ends(End::Failed, status);
+    if cache_lookup::is_root(refs, i) {
+        Next::Asks(Asking {
+            kind: Kind::Link,
+            began: q.party,
+            size: g.size,
+            uncovered: true,
+            ..q
+        })
+    } else {
+        Next::Ends(End::Failed, status)
     }
-    Next::Asks(Asking {
-        kind: Kind::Link,
-        entry: q.entry,
-        party: q.party,
-        began: q.party,
-        size: g.size,
-        uncovered: true,
-    })
 }
 
 // The try at the next target, or the round is exhausted.
@@ -69,9 +67,10 @@ fn next_target(refs: &[u16], q: Asking, status: u32, i: usize) -> Failure
 {
     let target = walk_steps::rounds::next_place(cache_lookup::target_count(refs, i), q.party);
     if target == q.began {
-        return Failure::Calls(Next::Ends(End::Failed, status));
+        Failure::Calls(Next::Ends(End::Failed, status))
+    } else {
+        Failure::Tries(target)
     }
-    Failure::Tries(target)
 }
 
 // By the status.
@@ -81,12 +80,12 @@ fn after_failure(refs: &[u16], g: Progress, q: Asking, status: u32, i: usize) ->
     ensures inside { (place : ℕ) → result ≡ Tries place → place < length (entry_at referrals i refs.now).targets }
 {
     if status == PATH_NOT_COVERED {
-        return Failure::Calls(not_covered(refs, g, q, status, i));
+        Failure::Calls(not_covered(refs, g, q, status, i))
+    } else if walk_steps::rounds::is_next(status) {
+        next_target(refs, q, status, i)
+    } else {
+        Failure::Calls(Next::Ends(End::Failed, status))
     }
-    if walk_steps::rounds::is_next(status) {
-        return next_target(refs, q, status, i);
-    }
-    Failure::Calls(Next::Ends(End::Failed, status))
 }
 
 // A try that failed at the entry at place i. The caches play no part.
@@ -101,8 +100,7 @@ fn io_fails(
     requires { Failing refs.now rooms.old g.len i }
     ensures { (c : Caches) (tried : List ℕ) → rested_with result rooms.new ≡ packed (goes g.left c g.clock (core_at g rooms.old) (io_fails (core_at g rooms.old) (question_of q tried) status (entry_at referrals i refs.now))) }
 {
-    let failure = after_failure(refs, g, q, status, i);
-    match failure {
+    match after_failure(refs, g, q, status, i) {
         Failure::Calls(next) => walk_steps::steps::rest(next, g),
         Failure::Tries(target) => {
             walk_steps::cycle::try_target(refs, rooms, g, i, target, q.began)
@@ -123,8 +121,7 @@ pub fn io_answer(
     requires { Trying refs.old doms.now rooms.old g q tried }
     ensures { left_by result rooms.new refs.new doms.now ≡ leaves g refs.old doms.now (io_answered (caches_of refs.old doms.now) (core_at g rooms.old) (question_of q (tried_room tried rooms.old)) status) }
 {
-    let entry = q.entry as usize;
-    let Some(i) = place(refs, &rooms[..entry], q.party, q.began) else {
+    let Some(i) = place(refs, &rooms[..q.entry as usize], q.party, q.began) else {
         memory::clear_units(rooms, ROOM, ROOM);
         return walk_steps::steps::rest(Next::Ends(End::Gone, 0), g);
     };

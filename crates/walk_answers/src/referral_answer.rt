@@ -26,12 +26,11 @@ fn reply_kept(
     requires { Succeeding refs.old doms.old rooms.old g q × (516 ≤ g.room) }
     ensures { left_by result rooms.new refs.new doms.new ≡ leaves g refs.old doms.old (referral_succeeds (caches_of refs.old doms.old) (core_at g rooms.old) (question_of q []) reply.now g.clock) }
 {
-    let len = g.len;
     let mut none = [0; 1];
     let taken = walk_store::reply_taken::take_reply(
         refs,
         doms,
-        &rooms[..len],
+        &rooms[..g.len],
         g,
         q,
         reply,
@@ -56,22 +55,20 @@ fn reply_saved(
     if LONGEST <= g.room {
         return reply_saved(refs, doms, rooms, g, q, reply);
     }
-    let len = g.len;
     let mut saved = [0; 2336];
     let taken = walk_store::reply_taken::take_reply(
         refs,
         doms,
-        &rooms[..len],
+        &rooms[..g.len],
         g,
         q,
         reply,
         &mut saved,
     );
     let r = walk_store::after_reply::rest_after(refs, doms, rooms, g, q, taken);
-    if walk_store::after_reply::rest_fits(r, rooms, g.room) {
-        return r;
+    if !walk_store::after_reply::rest_fits(r, rooms, g.room) {
+        walk_store::after_reply::put_back(refs, doms, taken, &saved);
     }
-    walk_store::after_reply::put_back(refs, doms, taken, &saved);
     r
 }
 
@@ -88,9 +85,10 @@ fn succeeded(
     ensures { left_by result rooms.new refs.new doms.new ≡ leaves g refs.old doms.old (referral_succeeds (caches_of refs.old doms.old) (core_at g rooms.old) (question_of q []) reply.now g.clock) }
 {
     if LONGEST <= g.room {
-        return reply_kept(refs, doms, rooms, g, q, reply);
+        reply_kept(refs, doms, rooms, g, q, reply)
+    } else {
+        reply_saved(refs, doms, rooms, g, q, reply)
     }
-    reply_saved(refs, doms, rooms, g, q, reply)
 }
 
 // The answer to the referral request q. `rooms` are those of the path and of the path tried.
@@ -107,12 +105,11 @@ pub fn referral_answer(
     requires { Awaiting refs.old doms.old rooms.old g q }
     ensures { left_by result rooms.new refs.new doms.new ≡ leaves g refs.old doms.old (referral_answered (caches_of refs.old doms.old) (core_at g rooms.old) (question_of q []) status reply.now g.clock) }
 {
-    let len = g.len;
-    if !walk_steps::rounds::in_use(refs, doms, &rooms[..len], q) {
+    if !walk_steps::rounds::in_use(refs, doms, &rooms[..g.len], q) {
         return walk_steps::steps::rest(Next::Ends(End::Gone, 0), g);
     }
     if WARNING <= status / SEVERITY {
-        let next = walk_steps::rounds::referral_fails(refs, doms, &rooms[..len], g, q, status);
+        let next = walk_steps::rounds::referral_fails(refs, doms, &rooms[..g.len], g, q, status);
         return walk_steps::steps::rest(next, g);
     }
     succeeded(refs, doms, rooms, g, q, reply)

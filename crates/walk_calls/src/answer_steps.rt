@@ -2,11 +2,9 @@
 ghost use Rattle.std.specs.Prelude.{◌≡◌, true, false, ◌≤◌, length, take};
 ghost use Rattle.walk_calls.specs.answer_steps.Code.{AnswerDue, progress_of, io_turn, referral_turn, closed, closing};
 
-use crate::call_end::Outcome;
+use crate::call_end::{ROOMS, Refusal};
 use walk_form::held::Walk;
 use walk_steps::steps::{Asking, Progress};
-
-const ROOMS: usize = 512;
 
 // The rooms of the path and of the path tried. The steps of an answer run on a copy, so that a refusal leaves the texts.
 fn copy_rooms(texts: &[u16], rooms: &mut [u16])
@@ -41,9 +39,9 @@ pub fn io_turn(
     status: u32,
     clock: u32,
     out: &mut [u8],
-) -> Outcome
+) -> Result<Walk, Refusal>
     requires { AnswerDue refs.old doms.now walk texts.old q true }
-    ensures { closed result texts.new out.new refs.new doms.now ≡ closing clock walk texts.old out.old refs.old doms.now (io_turn refs.old doms.now texts.old walk q status) }
+    ensures { closed result walk texts.new out.new refs.new doms.now ≡ closing clock walk texts.old out.old refs.old doms.now (io_turn refs.old doms.now texts.old walk q status) }
 {
     let g = progress(walk, clock, out.len());
     let mut rooms = [0; 512];
@@ -71,9 +69,9 @@ pub fn referral_turn(
     reply: &[u8],
     clock: u32,
     out: &mut [u8],
-) -> Outcome
+) -> Result<Walk, Refusal>
     requires { AnswerDue refs.old doms.old walk texts.old q false }
-    ensures { closed result texts.new out.new refs.new doms.new ≡ closing clock walk texts.old out.old refs.old doms.old (referral_turn refs.old doms.old texts.old walk q status reply.now clock) }
+    ensures { closed result walk texts.new out.new refs.new doms.new ≡ closing clock walk texts.old out.old refs.old doms.old (referral_turn refs.old doms.old texts.old walk q status reply.now clock) }
 {
     let g = progress(walk, clock, out.len());
     let mut rooms = [0; 512];

@@ -1,18 +1,19 @@
-// How a call ends: its verdict, the walk that its rest makes, the texts of that walk and its request.
-ghost use Rattle.std.specs.Prelude.{◌≡◌, true, ◌≤◌, length, take};
+// How a call ends: the walk that its rest makes, with its texts and its request, or a refusal.
+ghost use Rattle.std.specs.Prelude.{◌≡◌, true, ◌≤◌, length, take, Err};
 ghost use Rattle.laws.specs.Lists.{pasted};
 ghost use Rattle.walk_steps.specs.question_request.Questions.{with_request};
 ghost use Rattle.walk_steps.specs.question_request.Code.{next_units, named};
 ghost use Rattle.walk_form.specs.held.Walks.{in_form, boot_in};
-ghost use Rattle.walk_calls.specs.call_end.Code.{left, walk_with, closed_rest};
+ghost use Rattle.walk_calls.specs.calls.Calls.{refusal_number};
+ghost use Rattle.walk_calls.specs.call_end.Code.{path_refusal, left, walk_with, closed_rest};
 
-use walk_form::held::Walk;
+use unc::names::PathError;
+use walk_form::held::{ROOM, Walk};
 use walk_steps::steps::Rested;
 
-// Whether a call is taken, and if not why.
-#[derive(Clone, Copy)]
-pub enum Verdict {
-    Taken,
+// Why a call is refused.
+#[derive(Clone, Copy, Debug, PartialEq, Eq)]
+pub enum Refusal {
     BadPath,
     LongPath,
     BadSettings,
@@ -21,16 +22,38 @@ pub enum Verdict {
     ShortBuffer,
 }
 
-#[derive(Clone, Copy)]
-pub struct Outcome {
-    pub verdict: Verdict,
-    pub walk: Walk,
+#[tactic(auto, unfolding(crate::specs::calls::Calls::refusal_number))]
+impl From<Refusal> for u32 {
+    ghost from_gives = { λ refusal n. n ≡ refusal_number (Err refusal) };
+
+    fn from(refusal: Refusal) -> u32 {
+        match refusal {
+            Refusal::BadPath => 1,
+            Refusal::LongPath => 2,
+            Refusal::BadSettings => 3,
+            Refusal::NotInOrder => 4,
+            Refusal::OutOfForm => 5,
+            Refusal::ShortBuffer => 10,
+        }
+    }
 }
 
-const ROOMS: usize = 512;
+#[tactic(auto, unfolding(crate::specs::call_end::Code::path_refusal))]
+impl From<PathError> for Refusal {
+    ghost from_gives = { λ error refusal. refusal ≡ path_refusal error };
 
-const ROOM: usize = 256;
+    fn from(error: PathError) -> Refusal {
+        match error {
+            PathError::Bad => Refusal::BadPath,
+            PathError::Long => Refusal::LongPath,
+        }
+    }
+}
 
+// The units of the rooms of the path and of the path tried.
+pub const ROOMS: usize = 512;
+
+#[tactic(auto, unfolding(crate::specs::call_end::Code::walk_with))]
 fn walk_with(limit: u32, size: u32, boot: usize, r: Rested) -> Walk
     requires { (limit ≤ 64) × ((r.left ≤ limit) × (boot ≤ 255)) }
     ensures { result ≡ walk_with limit size boot r }
@@ -77,25 +100,18 @@ pub fn close_start(
     boot: &[u16],
     r: Rested,
     rooms: &[u16],
-    walk: Walk,
     texts: &mut [u16],
     out: &mut [u8],
-) -> Outcome
+) -> Result<Walk, Refusal>
     requires { (limit ≤ 64) × ((r.left ≤ limit) × ((length boot.now ≤ 255) × ((length rooms.now ≡ 512) × ((r.path ≤ 256) × (length texts.old ≡ 768))))) }
-    ensures { left result texts.new out.new ≡ closed_rest limit size boot.now r rooms.now walk texts.old out.old }
+    ensures { (walk : Walk) → left result walk texts.new out.new ≡ closed_rest limit size boot.now r rooms.now walk texts.old out.old }
 {
     if !walk_store::after_reply::rest_fits(r, rooms, out.len()) {
-        return Outcome {
-            verdict: Verdict::ShortBuffer,
-            walk,
-        };
+        return Err(Refusal::ShortBuffer);
     }
     let new = put_rest(limit, size, boot.len(), r, rooms, texts, out);
     memory::put_text(texts, ROOMS, ROOM, boot);
-    Outcome {
-        verdict: Verdict::Taken,
-        walk: new,
-    }
+    Ok(new)
 }
 
 // The end of an answer to a walk in form: its settings stay, and the bootstrap DC is left in its room.
@@ -105,16 +121,12 @@ pub fn close_answer(
     walk: Walk,
     texts: &mut [u16],
     out: &mut [u8],
-) -> Outcome
+) -> Result<Walk, Refusal>
     requires { (in_form walk texts.old ≡ true) × ((r.left ≤ walk.limit) × ((length rooms.now ≡ 512) × (r.path ≤ 256))) }
-    ensures { left result texts.new out.new ≡ closed_rest walk.limit walk.size (boot_in walk texts.old) r rooms.now walk texts.old out.old }
+    ensures { left result walk texts.new out.new ≡ closed_rest walk.limit walk.size (boot_in walk texts.old) r rooms.now walk texts.old out.old }
 {
-    let room = out.len();
-    if !walk_store::after_reply::rest_fits(r, rooms, room) {
-        return Outcome {
-            verdict: Verdict::ShortBuffer,
-            walk,
-        };
+    if !walk_store::after_reply::rest_fits(r, rooms, out.len()) {
+        return Err(Refusal::ShortBuffer);
     }
     let after = put_rest(
         walk.limit,
@@ -125,8 +137,5 @@ pub fn close_answer(
         texts,
         out,
     );
-    Outcome {
-        verdict: Verdict::Taken,
-        walk: after,
-    }
+    Ok(after)
 }

@@ -1,5 +1,5 @@
 // A start whose path has been tested for its form: the first rest of the walk.
-ghost use Rattle.std.specs.Prelude.{◌≡◌, length, take};
+ghost use Rattle.std.specs.Prelude.{◌≡◌, take, length};
 ghost use Rattle.unc.specs.names.Code.{form_within};
 ghost use Rattle.unc.specs.names.Paths.{path_units};
 ghost use Rattle.walk_steps.specs.steps.Steps.{started, turned};
@@ -9,17 +9,13 @@ ghost use Rattle.walk_steps.specs.cycle.Code.{rested_with, packed};
 ghost use Rattle.walk_calls.specs.call_end.Code.{left};
 ghost use Rattle.walk_calls.specs.start_steps.Code.{path_rooms, start_at, start_rooms, Begun};
 
-use crate::call_end::{Outcome, Verdict};
-use unc::names::Form;
-use walk_form::held::Walk;
+use crate::call_end::Refusal;
+use unc::names::{Form, PathError};
+use walk_form::held::{ROOM, TEXTS, Walk};
 use walk_steps::steps::{End, Next, Progress, Rested};
 
-const ROOM: usize = 256;
-
-const TEXTS: usize = 768;
-
 // The normalised path into the path's room, and no path tried.
-pub fn put_path(path: &[u16], rooms: &mut [u16]) -> Form
+pub fn put_path(path: &[u16], rooms: &mut [u16]) -> Result<Form, PathError>
     requires { length rooms.old ≡ 512 }
     ensures form { result ≡ form_within path_units path.now }
     ensures rooms { rooms.new ≡ path_rooms path.now rooms.old }
@@ -47,29 +43,22 @@ pub fn start_at(
     rooms: &mut [u16],
     n: usize,
     k: usize,
-    walk: Walk,
     texts: &mut [u16],
     boot: &[u16],
     limit: u32,
     size: u32,
     clock: u32,
     out: &mut [u8],
-) -> Outcome
+) -> Result<Walk, Refusal>
     requires { Begun refs.now rooms.old n k }
-    ensures walk { left result texts.new out.new ≡ start_at refs.now doms.now texts.old walk (take n rooms.old) boot.now limit size clock out.old }
+    ensures walk { (walk : Walk) → left result walk texts.new out.new ≡ start_at refs.now doms.now texts.old walk (take n rooms.old) boot.now limit size clock out.old }
     ensures rooms { rooms.new ≡ start_rooms refs.now doms.now texts.old (take n rooms.old) boot.now limit size clock rooms.old }
 {
     if !walk_form::held::good_settings(limit, size, boot) {
-        return Outcome {
-            verdict: Verdict::BadSettings,
-            walk,
-        };
+        return Err(Refusal::BadSettings);
     }
     if texts.len() != TEXTS {
-        return Outcome {
-            verdict: Verdict::OutOfForm,
-            walk,
-        };
+        return Err(Refusal::OutOfForm);
     }
     let g = Progress {
         len: n,
@@ -80,5 +69,5 @@ pub fn start_at(
         room: out.len(),
     };
     let r = first_rest(refs, doms, rooms, g, k);
-    crate::call_end::close_start(limit, size, boot, r, rooms, walk, texts, out)
+    crate::call_end::close_start(limit, size, boot, r, rooms, texts, out)
 }

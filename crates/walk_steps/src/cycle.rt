@@ -77,7 +77,7 @@ fn step3(refs: &[u16], texts: &mut [u16], len: usize, left: u16, hit: bool, i: u
 }
 
 // A point of the steps as one number: the case, the place of its entry or the place of its DC, whether there was a hit, the units of the
-// path, the moves left. One number in and out keeps the frame of a move small.
+// path, the moves left. One number and no struct, since the stack is bounded: a move has a frame of 128 bytes (docs/DECISIONS.md 74).
 const PLACE: u64 = 16;
 
 const HIT: u64 = 1048576;
@@ -116,11 +116,7 @@ fn point(what: u64, i: usize, hit: bool, len: usize, left: u64) -> u64
     requires { (what < 16) × ((i < 65536) × ((len ≤ 256) × (left < 65536))) }
     ensures { Parts what i hit len left result }
 {
-    let n = what + PLACE * (i as u64) + UNITS * (len as u64) + LEFT * left;
-    if hit {
-        return n + HIT;
-    }
-    n
+    what + PLACE * (i as u64) + HIT * u64::from(hit) + UNITS * (len as u64) + LEFT * left
 }
 
 // Another case at this path.
@@ -174,10 +170,7 @@ fn number(found: Option<usize>) -> u64
     requires { (i : ℕ) → found ≡ Some i → i < 65536 }
     ensures { FoundAt found result }
 {
-    match found {
-        Some(i) => i as u64,
-        None => NOWHERE,
-    }
+    found.map_or(NOWHERE, |i| i as u64)
 }
 
 // Step 5: the DC hinted at by the domain of the first component.
@@ -189,9 +182,10 @@ fn dc_sought(doms: &[u16], path: &[u16]) -> u64
         return NOWHERE;
     };
     if cache_lookup::dc_count(doms, i) == 0 {
-        return NO_DC;
+        NO_DC
+    } else {
+        cache_lookup::dc_hint(doms, i) as u64
     }
-    cache_lookup::dc_hint(doms, i) as u64
 }
 
 // What the step that is due looks up: step 2 the longest match, step 9 the root entry of the first two components, step 5 a DC.
@@ -200,15 +194,12 @@ fn sought(refs: &[u16], doms: &[u16], texts: &[u16], n: u64) -> u64
     requires { Ready refs.now texts.now (units_of n) }
     ensures { Sought refs.now doms.now (take (units_of n) texts.now) (what_of n) result }
 {
-    let what = n % PLACE;
-    let len = units(n);
-    if what == DUE2 {
-        return number(cache_lookup::find(refs, &texts[..len]));
+    let path = &texts[..units(n)];
+    match n % PLACE {
+        DUE2 => number(cache_lookup::find(refs, path)),
+        DUE9 => number(crate::steps::root_entry(refs, path)),
+        _ => dc_sought(doms, path),
     }
-    if what == DUE9 {
-        return number(crate::steps::root_entry(refs, &texts[..len]));
-    }
-    dc_sought(doms, &texts[..len])
 }
 
 // The step that is due after a match: step 7 at a fresh entry, step 5 at an expired root, step 9 at an expired link.
@@ -217,12 +208,12 @@ fn after_match(refs: &[u16], i: usize, clock: u32) -> u64
     ensures { result ≡ after_match clock (entry_at referrals i refs.now) }
 {
     if !cache_lookup::is_expired(refs, i, clock) {
-        return DUE7;
+        DUE7
+    } else if cache_lookup::is_root(refs, i) {
+        DUE5
+    } else {
+        DUE9
     }
-    if cache_lookup::is_root(refs, i) {
-        return DUE5;
-    }
-    DUE9
 }
 
 // Step 2 by what it found; without a match step 5.
@@ -242,14 +233,11 @@ fn step5(refs: &[u16], doms: &[u16], texts: &[u16], n: u64) -> u64
     requires { Point refs.now texts.now n × (what_of n ≡ due5) }
     ensures { ((clock : ℕ) → SameSteps refs.now doms.now clock texts.now n result) × (due11 < what_of result) }
 {
-    let found = sought(refs, doms, texts, n);
-    if found == NOWHERE {
-        return case_at(n, ASK_HOST, 0);
+    match sought(refs, doms, texts, n) {
+        NOWHERE => case_at(n, ASK_HOST, 0),
+        NO_DC => case_at(n, ASK_DC, 0),
+        dc => case_at(n, ASK_DOMAIN, dc as usize),
     }
-    if found == NO_DC {
-        return case_at(n, ASK_DC, 0);
-    }
-    case_at(n, ASK_DOMAIN, found as usize)
 }
 
 // Step 9's root entry: a request to its target, or step 5 is due.
@@ -257,11 +245,10 @@ fn root_asked(refs: &[u16], doms: &[u16], texts: &[u16], n: u64) -> u64
     requires { Point refs.now texts.now n × (what_of n ≡ due9) }
     ensures { ((clock : ℕ) → SameSteps refs.now doms.now clock texts.now n result) × ((what_of result ≡ ask_link → ⊥) → what_of result ≡ due5) }
 {
-    let found = sought(refs, doms, texts, n);
-    if found == NOWHERE {
-        return case_at(n, DUE5, 0);
+    match sought(refs, doms, texts, n) {
+        NOWHERE => case_at(n, DUE5, 0),
+        root => case_at(n, ASK_LINK, root as usize),
     }
-    case_at(n, ASK_LINK, found as usize)
 }
 
 // Step 9: a request to the root entry's target; without a root entry step 5. The two are called one after the other, and not the second
@@ -272,9 +259,10 @@ fn step9(refs: &[u16], doms: &[u16], texts: &[u16], n: u64) -> u64
 {
     let m = root_asked(refs, doms, texts, n);
     if m % PLACE == ASK_LINK {
-        return m;
+        m
+    } else {
+        step5(refs, doms, texts, m)
     }
-    step5(refs, doms, texts, m)
 }
 
 // Step 11: the prefix of the path replaced by the target hinted at.
@@ -314,10 +302,8 @@ fn domain(refs: &[u16], doms: &[u16], texts: &mut [u16], n: u64, clock: u32) -> 
     if n % PLACE == DUE5 {
         return step5(refs, doms, texts, n);
     }
-    if n % PLACE == DUE7 {
-        if cache_lookup::is_root(refs, place(n)) {
-            return case_at(n, TRY, place(n));
-        }
+    if n % PLACE == DUE7 && cache_lookup::is_root(refs, place(n)) {
+        return case_at(n, TRY, place(n));
     }
     link(refs, doms, texts, n, clock)
 }
@@ -331,10 +317,7 @@ fn link(refs: &[u16], doms: &[u16], texts: &mut [u16], n: u64, clock: u32) -> u6
     if n % PLACE == DUE9 {
         return step9(refs, doms, texts, n);
     }
-    if for_sysvol(texts, n) {
-        return case_at(n, TRY, place(n));
-    }
-    if !cache_lookup::is_interlink(refs, place(n)) {
+    if for_sysvol(texts, n) || !cache_lookup::is_interlink(refs, place(n)) {
         return case_at(n, TRY, place(n));
     }
     interlink(refs, doms, texts, case_at(n, DUE11, place(n)), clock)
@@ -366,12 +349,12 @@ fn kind(what: u64, path: &[u16]) -> Kind
     ensures { result ≡ kind_of_case what path.now }
 {
     if what == ASK_DC {
-        return Kind::Dc;
+        Kind::Dc
+    } else if unc::prefix::is_sysvol(path) {
+        Kind::Sysvol
+    } else {
+        Kind::Root
     }
-    if unc::prefix::is_sysvol(path) {
-        return Kind::Sysvol;
-    }
-    Kind::Root
 }
 
 // The question at which the steps rest, if it tries no path.
@@ -379,29 +362,29 @@ fn question(refs: &[u16], path: &[u16], what: u64, i: usize, size: u32) -> Askin
     requires { (length path.now ≤ 256) × ((i < 65536) × (what ≡ ask_link → i < place_count refs.now)) }
     ensures { (hit : Bool) → result ≡ asking_of (question_of_case refs.now (core_of path.now size hit) i what) }
 {
-    if what == ASK_LINK {
-        let n = cache_lookup::prefix(refs, i).len();
-        let hint = cache_lookup::target_hint(refs, i);
-        return Asking {
-            kind: Kind::Link,
-            entry: n as u16,
-            party: hint,
-            began: hint,
-            size,
-            uncovered: false,
-        };
-    }
-    if what == ASK_HOST {
-        return Asking {
+    match what {
+        ASK_LINK => {
+            let n = cache_lookup::prefix(refs, i).len();
+            let hint = cache_lookup::target_hint(refs, i);
+            Asking {
+                kind: Kind::Link,
+                entry: n as u16,
+                party: hint,
+                began: hint,
+                size,
+                uncovered: false,
+            }
+        }
+        ASK_HOST => Asking {
             kind: Kind::Root,
             entry: 0,
             party: 0,
             began: 0,
             size,
             uncovered: false,
-        };
+        },
+        _ => crate::steps::domain_asking(kind(what, path), path, i as u16, size),
     }
-    crate::steps::domain_asking(kind(what, path), path, i as u16, size)
 }
 
 // The rest at a point from which no move is made.
@@ -413,17 +396,15 @@ fn rest_at(refs: &[u16], texts: &mut [u16], n: u64, size: u32) -> Rested
     let left = (n / LEFT) as u16;
     let len = units(n);
     let hit = had_hit(n);
-    if what == TRY {
-        return step3(refs, texts, len, left, hit, place(n));
+    match what {
+        TRY => step3(refs, texts, len, left, hit, place(n)),
+        DUE11 => crate::steps::end_at(End::LimitReached, 0, len, left, hit),
+        TOO_LONG => crate::steps::end_at(End::TooLong, 0, len, left, hit),
+        _ => {
+            let q = question(refs, &texts[..len], what, place(n), size);
+            crate::steps::ask(q, len, left, hit)
+        }
     }
-    if what == DUE11 {
-        return crate::steps::end_at(End::LimitReached, 0, len, left, hit);
-    }
-    if what == TOO_LONG {
-        return crate::steps::end_at(End::TooLong, 0, len, left, hit);
-    }
-    let q = question(refs, &texts[..len], what, place(n), size);
-    crate::steps::ask(q, len, left, hit)
 }
 
 // From step 2.

@@ -1,5 +1,7 @@
 // The request of the question that waits, into a lent buffer.
-ghost use Rattle.std.specs.Prelude.{◌≡◌, true};
+#![tactic(auto, unfolding(crate::specs::question_request::Code::name_units, crate::specs::question_request::Code::next_units))]
+
+ghost use Rattle.std.specs.Prelude.{◌≡◌};
 ghost use Rattle.walk_steps.specs.question_request.Questions.{name_fits, with_request};
 ghost use Rattle.walk_steps.specs.question_request.Code.{name_units, next_units, named};
 
@@ -10,9 +12,8 @@ fn name_units(kind: Kind, path: &[u16]) -> Option<usize>
 {
     match kind {
         Kind::Dc => Some(unc::prefix::first_end(path, 1)),
-        Kind::Root => Some(unc::prefix::first_end(path, 2)),
+        Kind::Root | Kind::Sysvol => Some(unc::prefix::first_end(path, 2)),
         Kind::Link => Some(path.len()),
-        Kind::Sysvol => Some(unc::prefix::first_end(path, 2)),
         Kind::Io => None,
     }
 }
@@ -20,11 +21,10 @@ fn name_units(kind: Kind, path: &[u16]) -> Option<usize>
 pub fn next_units(next: Next, path: &[u16]) -> Option<usize>
     ensures { result ≡ next_units next path.now }
 {
-    let Next::Asks(q) = next else {
-        return None;
-    };
-    let kind = q.kind;
-    name_units(kind, path)
+    match next {
+        Next::Asks(q) => name_units(q.kind, path),
+        Next::Ends(..) => None,
+    }
 }
 
 // Whether the request of the next move fits a buffer of `room` bytes.

@@ -1,4 +1,6 @@
 // Rounds over DCs and targets: whether the entry in use still has its parties, and what comes after a failure.
+#![tactic(auto, unfolding(crate::specs::rounds::Code::in_round, crate::specs::rounds::Code::again, crate::specs::rounds::Code::failed_dc, crate::specs::rounds::Code::failed_link, crate::specs::steps::Steps::next_place, crate::specs::steps::Steps::doubled, crate::specs::steps::Steps::failed_host, crate::specs::steps::Steps::failed, crate::specs::steps::Steps::referral_fails, crate::specs::steps::Steps::onward, crate::specs::steps::Steps::step6, crate::specs::steps::Steps::link_request, crate::specs::steps::Code::called_of, crate::specs::steps::Held::question_of, laws::specs::Choice::choose))]
+
 ghost use Rattle.std.specs.Prelude.{◌≡◌, Bool, true, ◌||◌, List, [], ℕ, ◌≤◌, ◌<◌, ◌*◌, min, length, get_or, take, eqb};
 ghost use Rattle.unc.specs.names.Paths.{components};
 ghost use Rattle.cache.specs.order.Memory.{domains, decode};
@@ -34,10 +36,7 @@ fn domain_there(doms: &[u16], path: &[u16]) -> bool
     requires { good_prefix path.now ≡ true }
     ensures { result ≡ domain_there path.now doms.now }
 {
-    let Some(_) = domain_place(doms, path) else {
-        return false;
-    };
-    true
+    domain_place(doms, path).is_some()
 }
 
 // The parties of a round: 0 where their entry is gone.
@@ -63,10 +62,7 @@ fn targets(refs: &[u16], prefix: &[u16]) -> usize
 fn in_round(n: usize, party: u16, began: u16) -> bool
     ensures { result ≡ in_round n party began }
 {
-    if n <= party as usize {
-        return false;
-    }
-    (began as usize) < n
+    (party as usize) < n && (began as usize) < n
 }
 
 // A root request to a host has no round.
@@ -74,10 +70,7 @@ fn root_round(doms: &[u16], path: &[u16], entry: u16, party: u16, began: u16) ->
     requires { good_prefix path.now ≡ true }
     ensures { result ≡ (eqb entry 0 || in_round (dcs_named path.now doms.now) party began) }
 {
-    if entry == 0 {
-        return true;
-    }
-    in_round(dcs(doms, path), party, began)
+    entry == 0 || in_round(dcs(doms, path), party, began)
 }
 
 // Whether the entry in use is there, with the party asked and the one with which the round began.
@@ -85,14 +78,14 @@ pub fn in_use(refs: &[u16], doms: &[u16], path: &[u16], q: Asking) -> bool
     requires { (good_prefix path.now ≡ true) × (q.entry ≤ length path.now) }
     ensures { result ≡ is_in_use (caches_of refs.now doms.now) (core_of path.now 0 true) (question_of q []) }
 {
-    let kind = q.kind;
-    let entry = q.entry as usize;
-    match kind {
+    match q.kind {
         Kind::Dc => domain_there(doms, path),
         Kind::Root => root_round(doms, path, q.entry, q.party, q.began),
-        Kind::Link => in_round(targets(refs, &path[..entry]), q.party, q.began),
         Kind::Sysvol => in_round(dcs(doms, path), q.party, q.began),
-        Kind::Io => in_round(targets(refs, &path[..entry]), q.party, q.began),
+        Kind::Link | Kind::Io => {
+            let prefix = &path[..q.entry as usize];
+            in_round(targets(refs, prefix), q.party, q.began)
+        }
     }
 }
 
@@ -102,30 +95,20 @@ pub fn next_place(n: usize, place: u16) -> u16
     ensures { result ≡ next_place n place }
 {
     let next = place as usize + 1;
-    if n <= next {
-        return 0;
-    }
-    next as u16
+    if next < n { next as u16 } else { 0 }
 }
 
 fn asks_again(status: u32, size: u32) -> bool
     ensures { result ≡ again status size }
 {
-    if status != OVERFLOW {
-        return false;
-    }
-    size < MOST
+    status == OVERFLOW && size < MOST
 }
 
 fn doubled(size: u32) -> u32
     requires { size < 57344 }
     ensures { result ≡ min (2 * size) 57344 }
 {
-    let twice = 2 * size;
-    if MOST < twice {
-        return MOST;
-    }
-    twice
+    MOST.min(2 * size)
 }
 
 // The same party again, with the size doubled.
@@ -133,14 +116,9 @@ fn ask_again(q: Asking) -> Next
     requires { q.size < 57344 }
     ensures { called_of result ≡ asks (doubled (question_of q [])) }
 {
-    let kind = q.kind;
     Next::Asks(Asking {
-        kind,
-        entry: q.entry,
-        party: q.party,
-        began: q.began,
         size: doubled(q.size),
-        uncovered: q.uncovered,
+        ..q
     })
 }
 
@@ -149,9 +127,10 @@ fn failed_host(hit: bool, status: u32) -> Next
     ensures { (path : List ℕ) (size : ℕ) → called_of result ≡ failed_host (core_of path size hit) status }
 {
     if hit {
-        return Next::Ends(End::Failed, status);
+        Next::Ends(End::Failed, status)
+    } else {
+        Next::Ends(End::NotDfs, 0)
     }
-    Next::Ends(End::NotDfs, 0)
 }
 
 // The next DC, from the given size.
@@ -174,14 +153,16 @@ fn failed_dc(doms: &[u16], path: &[u16], size: u32, q: Asking) -> Next
     })
 }
 
+#[tactic(auto, unfolding(crate::specs::rounds::Code::failed_root, crate::specs::steps::Held::question_of, laws::specs::Choice::choose))]
 fn failed_root(doms: &[u16], path: &[u16], g: Progress, q: Asking, status: u32) -> Next
     requires { good_prefix path.now ≡ true }
     ensures { called_of result ≡ failed_root (dcs_named path.now doms.now) (core_of path.now g.size g.hit) (question_of q []) status }
 {
     if q.entry == 0 {
-        return failed_host(g.hit, status);
+        failed_host(g.hit, status)
+    } else {
+        failed_dc(doms, path, g.size, q)
     }
-    failed_dc(doms, path, g.size, q)
 }
 
 // The next target, from the given size.
@@ -189,18 +170,16 @@ fn failed_link(refs: &[u16], path: &[u16], size: u32, q: Asking, status: u32) ->
     requires { q.entry ≤ length path.now }
     ensures { (hit : Bool) → called_of result ≡ failed_link (targets_under (take q.entry path.now) refs.now) (core_of path.now size hit) (question_of q []) status }
 {
-    let entry = q.entry as usize;
-    let target = next_place(targets(refs, &path[..entry]), q.party);
+    let prefix = &path[..q.entry as usize];
+    let target = next_place(targets(refs, prefix), q.party);
     if target == q.began {
         return Next::Ends(End::Failed, status);
     }
     Next::Asks(Asking {
         kind: Kind::Link,
-        entry: q.entry,
         party: target,
-        began: q.began,
         size,
-        uncovered: q.uncovered,
+        ..q
     })
 }
 
@@ -209,12 +188,10 @@ fn failed(refs: &[u16], doms: &[u16], path: &[u16], g: Progress, q: Asking, stat
     requires { (good_prefix path.now ≡ true) × (q.entry ≤ length path.now) }
     ensures { called_of result ≡ failed (caches_of refs.now doms.now) (core_of path.now g.size g.hit) (question_of q []) status }
 {
-    let kind = q.kind;
-    match kind {
-        Kind::Dc => Next::Ends(End::NoDc, status),
+    match q.kind {
+        Kind::Dc | Kind::Sysvol => Next::Ends(End::NoDc, status),
         Kind::Root => failed_root(doms, path, g, q, status),
         Kind::Link => failed_link(refs, path, g.size, q, status),
-        Kind::Sysvol => Next::Ends(End::NoDc, status),
         Kind::Io => Next::Ends(End::Failed, status),
     }
 }
@@ -232,28 +209,15 @@ pub fn referral_fails(
     ensures { called_of result ≡ referral_fails (caches_of refs.now doms.now) (core_of path.now g.size g.hit) (question_of q []) status }
 {
     if asks_again(status, q.size) {
-        return ask_again(q);
+        ask_again(q)
+    } else {
+        failed(refs, doms, path, g, q, status)
     }
-    failed(refs, doms, path, g, q, status)
-}
-
-fn is_one_of(status: u32, table: &[u32]) -> bool
-    ensures { result ≡ is_one_of status table.now }
-{
-    let mut i = 0;
-    while i < table.len() {
-        if status == table[i] {
-            return true;
-        }
-        i += 1;
-    }
-    false
 }
 
 // Whether an I/O that fails with this status goes on to the next target.
 pub fn is_next(status: u32) -> bool
     ensures { result ≡ is_one_of status next_target_statuses }
 {
-    let next = NEXT;
-    is_one_of(status, &next)
+    NEXT.contains(&status)
 }

@@ -1,35 +1,37 @@
 // What the steps put and where they rest: source document 000, with document 01's choices.
+#![tactic(auto, unfolding(crate::specs::steps::Code::ended_at, crate::specs::steps::Code::asked_at, crate::specs::steps::Code::rested_at, crate::specs::steps::Code::domain_asking, laws::specs::Choice::choose))]
+
 ghost use Rattle.std.specs.Prelude.{◌≡◌, true, [], ◌≤◌, length, get_or};
 ghost use Rattle.unc.specs.names.Paths.{components};
 ghost use Rattle.cache.specs.order.Order.{good_prefix};
 ghost use Rattle.walk_steps.specs.steps.Code.{ended_at, asked_at, rested_at, domain_asking, root_in};
 
-// The kinds of question.
-#[derive(Clone, Copy)]
+// The kinds of question, by their numbers in a packed walk.
+#[derive(Clone, Copy, PartialEq, Eq, Debug)]
 pub enum Kind {
-    Dc,
-    Root,
-    Link,
-    Sysvol,
-    Io,
+    Dc = 1,
+    Root = 2,
+    Link = 3,
+    Sysvol = 4,
+    Io = 5,
 }
 
-// The ends of a walk, in the order of their numbers.
-#[derive(Clone, Copy)]
+// The ends of a walk, by their numbers.
+#[derive(Clone, Copy, PartialEq, Eq, Debug)]
 pub enum End {
-    Done,
-    NotDfs,
-    NoDc,
-    Failed,
-    LimitReached,
-    Malformed,
-    TooLong,
-    Gone,
+    Done = 20,
+    NotDfs = 21,
+    NoDc = 22,
+    Failed = 23,
+    LimitReached = 24,
+    Malformed = 25,
+    TooLong = 26,
+    Gone = 27,
 }
 
 // A question: its kind, how many units of the path name the entry in use, the places of its party and of that with which the round
 // began, the size asked, and whether a link request came of PATH_NOT_COVERED.
-#[derive(Clone, Copy)]
+#[derive(Clone, Copy, PartialEq, Eq, Debug)]
 pub struct Asking {
     pub kind: Kind,
     pub entry: u16,
@@ -40,14 +42,14 @@ pub struct Asking {
 }
 
 // The next move: a question that waits for its answer, or an end with its status.
-#[derive(Clone, Copy)]
+#[derive(Clone, Copy, PartialEq, Eq, Debug)]
 pub enum Next {
     Asks(Asking),
     Ends(End, u32),
 }
 
 // Where the steps came to rest: the units of the path and of the path tried, the moves left, and whether there was a hit.
-#[derive(Clone, Copy)]
+#[derive(Clone, Copy, PartialEq, Eq, Debug)]
 pub struct Rested {
     pub next: Next,
     pub path: u16,
@@ -58,7 +60,7 @@ pub struct Rested {
 
 // What a walk hands on in a call: the units of its path, the moves left, whether there was a hit, the size given, the time, and the bytes
 // of the buffer.
-#[derive(Clone, Copy)]
+#[derive(Clone, Copy, PartialEq, Eq, Debug)]
 pub struct Progress {
     pub len: usize,
     pub left: u16,
@@ -87,14 +89,15 @@ pub fn ask(q: Asking, path: usize, left: u16, hit: bool) -> Rested
     ensures { result ≡ asked_at q path left hit }
 {
     if left == 0 {
-        return end_at(End::LimitReached, 0, path, left, hit);
-    }
-    Rested {
-        next: Next::Asks(q),
-        path: path as u16,
-        tried: 0,
-        left: left - 1,
-        hit,
+        end_at(End::LimitReached, 0, path, left, hit)
+    } else {
+        Rested {
+            next: Next::Asks(q),
+            path: path as u16,
+            tried: 0,
+            left: left - 1,
+            hit,
+        }
     }
 }
 
@@ -114,13 +117,12 @@ pub fn root_entry(refs: &[u16], path: &[u16]) -> Option<usize>
     ensures { result ≡ root_in path.now refs.now }
 {
     let n = unc::prefix::first_end(path, 2);
-    let Some(i) = cache_lookup::find_prefix(refs, &path[..n]) else {
-        return None;
-    };
+    let i = cache_lookup::find_prefix(refs, &path[..n])?;
     if cache_lookup::is_root(refs, i) {
-        return Some(i);
+        Some(i)
+    } else {
+        None
     }
-    None
 }
 
 // A request that names the domain of the first component.

@@ -20,21 +20,14 @@ pub fn rest_fits(r: Rested, rooms: &[u16], room: usize) -> bool
     requires { (r.path ≤ 256) × (256 ≤ length rooms.now) }
     ensures { result ≡ name_fits room (named (next_units r.next (take r.path rooms.now)) (take r.path rooms.now)) }
 {
-    let n = r.path as usize;
-    let next = r.next;
-    walk_steps::question_request::fits(next, &rooms[..n], room)
+    walk_steps::question_request::fits(r.next, &rooms[..r.path as usize], room)
 }
 
+#[tactic(auto, unfolding(crate::specs::after_reply::Code::is_for_sysvol))]
 fn is_for_sysvol(kind: Kind) -> bool
     ensures { result ≡ is_for_sysvol kind }
 {
-    match kind {
-        Kind::Dc => false,
-        Kind::Root => false,
-        Kind::Link => false,
-        Kind::Sysvol => true,
-        Kind::Io => false,
-    }
+    matches!(kind, Kind::Sysvol)
 }
 
 // On from what was taken of the reply to the question q: the end, step 5 after DCs, or the entry just stored.
@@ -49,21 +42,12 @@ pub fn rest_after(
     requires { GoingOn refs.now rooms.old g taken }
     ensures { rested_with result rooms.new ≡ packed (turned g.left g.clock (taken_turn (core_at g rooms.old) q.kind taken refs.now doms.now)) }
 {
-    let kind = q.kind;
-    let on = Progress {
-        len: g.len,
-        left: g.left,
-        hit: true,
-        size: g.size,
-        clock: g.clock,
-        room: g.room,
-    };
+    let on = Progress { hit: true, ..g };
     match taken {
         Taken::Ends(end, status) => walk_steps::steps::rest(Next::Ends(end, status), g),
         Taken::Dcs(_) => walk_steps::cycle::from_domain(refs, doms, rooms, on),
         Taken::Entry(i, _) => {
-            let sysvol = is_for_sysvol(kind);
-            walk_steps::cycle::from_stored(refs, doms, rooms, on, i, sysvol)
+            walk_steps::cycle::from_stored(refs, doms, rooms, on, i, is_for_sysvol(q.kind))
         }
     }
 }

@@ -17,7 +17,7 @@ pub enum Hinted {
     Dc(usize, u16),
 }
 
-// HintOf hint a success sets.
+// Whose hint a success sets: of three ways, so no Option.
 #[derive(Clone, Copy)]
 pub enum HintOf {
     Nobody,
@@ -25,21 +25,15 @@ pub enum HintOf {
     Dcs,
 }
 
+#[tactic(auto, unfolding(crate::specs::party_hint::Code::whose_of, laws::specs::Choice::choose))]
 fn whose(q: Asking) -> HintOf
     ensures { result ≡ whose_of q.kind q.entry }
 {
-    let kind = q.kind;
-    match kind {
+    match q.kind {
         Kind::Dc => HintOf::Nobody,
-        Kind::Root => {
-            if q.entry == 0 {
-                return HintOf::Nobody;
-            }
-            HintOf::Dcs
-        }
-        Kind::Link => HintOf::Targets,
-        Kind::Sysvol => HintOf::Dcs,
-        Kind::Io => HintOf::Targets,
+        Kind::Root if q.entry == 0 => HintOf::Nobody,
+        Kind::Root | Kind::Sysvol => HintOf::Dcs,
+        Kind::Link | Kind::Io => HintOf::Targets,
     }
 }
 
@@ -48,8 +42,7 @@ fn hint_target(refs: &mut [u16], path: &[u16], q: Asking) -> Hinted
     requires { (in_order referrals refs.old ≡ true) × ((q.entry ≤ length path.now) × (q.party < targets_under (take q.entry path.now) refs.old)) }
     ensures { (doms : List ℕ) (size : ℕ) (hit : Bool) → in_order domains doms ≡ true → Hinting refs.old doms result refs.new doms (target_hint_set (caches_of refs.old doms) (core_of path.now size hit) (question_of q [])) }
 {
-    let entry = q.entry as usize;
-    let Some(i) = cache_lookup::find_prefix(refs, &path[..entry]) else {
+    let Some(i) = cache_lookup::find_prefix(refs, &path[..q.entry as usize]) else {
         return Hinted::Unset;
     };
     let old = cache_lookup::target_hint(refs, i);
@@ -75,8 +68,7 @@ pub fn set_hint(refs: &mut [u16], doms: &mut [u16], path: &[u16], q: Asking) -> 
     requires { Using refs.old doms.old path.now q }
     ensures { (size : ℕ) (hit : Bool) → Hinting refs.old doms.old result refs.new doms.new (hint_set (caches_of refs.old doms.old) (core_of path.now size hit) (question_of q [])) }
 {
-    let whose = whose(q);
-    match whose {
+    match whose(q) {
         HintOf::Nobody => Hinted::Unset,
         HintOf::Targets => hint_target(refs, path, q),
         HintOf::Dcs => hint_dc(doms, path, q),
@@ -84,6 +76,7 @@ pub fn set_hint(refs: &mut [u16], doms: &mut [u16], path: &[u16], q: Asking) -> 
 }
 
 // The hint as it was.
+#[tactic(auto, unfolding(crate::specs::party_hint::Code::unhinted, crate::specs::party_hint::Code::lent_caches))]
 pub fn unset_hint(refs: &mut [u16], doms: &mut [u16], h: Hinted)
     requires { Unhintable h refs.old doms.old }
     ensures { lent_caches refs.new doms.new ≡ unhinted h refs.old doms.old }

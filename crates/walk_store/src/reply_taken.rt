@@ -1,5 +1,7 @@
 // A reply taken: read by the kind of its question, tested, and stored with the hint of the party that answered. It returns before the
 // steps go on, so that they do not run under a frame that holds what was read.
+// The caches, the path, the question and the reply are passed one by one: each function writes others of them, and a struct of borrows
+// would be made anew at each call.
 ghost use Rattle.std.specs.Prelude.{◌≡◌, true, [], ◌<◌, length, take};
 ghost use Rattle.unc.specs.names.Paths.{matches};
 ghost use Rattle.reply_bytes.specs.texts.Code.{spanned};
@@ -14,11 +16,11 @@ ghost use Rattle.walk_steps.specs.steps.Steps.{empty_end, hint_set, stored_turn,
 ghost use Rattle.walk_steps.specs.steps.Held.{caches_of, core_of, question_of};
 ghost use Rattle.walk_steps.specs.declared.steps.Kind.TheVariants.{Dc};
 ghost use Rattle.walk_store.specs.party_hint.Code.{lent_caches, Using};
-ghost use Rattle.walk_store.specs.reply_taken.Code.{covers_no_more, said_of, saved_in, awaited_by, taken_turn, put_back, TakenIn, NamedIn};
+ghost use Rattle.walk_store.specs.reply_taken.Code.{covers_no_more, unread_taken, saved_in, awaited_by, taken_turn, put_back, TakenIn, NamedIn};
 
 use crate::party_hint::Hinted;
 use cache::places::PLACE;
-use reply_read::referral::{Answer, ReferralFound};
+use reply_read::referral::{ReferralFound, Unread};
 use walk_steps::steps::{Asking, End, Kind, Progress};
 
 // The statuses of ends that no host has answered.
@@ -35,14 +37,7 @@ pub enum Taken {
     Entry(usize, Hinted),
 }
 
-// What a reply that was read calls for: an end with its status, or that it is stored.
-#[derive(Clone, Copy)]
-pub enum Said {
-    Stops(End, u32),
-    Stores,
-}
-
-// The reply that a question waits for: the names of DCs, or a referral for so many units of the path.
+// The reply that a question waits for: the names of DCs, or a referral for so many units of the path; three ways, so no Option.
 #[derive(Clone, Copy)]
 pub enum Awaited {
     DcNames,
@@ -51,59 +46,45 @@ pub enum Awaited {
 }
 
 // The end of a reply without an entry.
+#[tactic(auto, unfolding(walk_steps::specs::steps::Steps::empty_end))]
 fn empty_end(kind: Kind) -> End
     ensures { result ≡ empty_end kind }
 {
     match kind {
-        Kind::Dc => End::NoDc,
-        Kind::Root => End::Failed,
-        Kind::Link => End::Failed,
-        Kind::Sysvol => End::NoDc,
-        Kind::Io => End::Failed,
+        Kind::Dc | Kind::Sysvol => End::NoDc,
+        Kind::Root | Kind::Link | Kind::Io => End::Failed,
     }
 }
 
 // Step 8.1.2: a root, or a prefix of so many units.
+#[tactic(auto, unfolding(crate::specs::reply_taken::Code::covers_no_more))]
 fn covers_nothing(q: Asking, root: bool, units: usize) -> bool
     ensures { result ≡ covers_no_more q root units }
 {
-    if !q.uncovered {
-        return false;
-    }
-    if root {
-        return true;
-    }
-    units <= q.entry as usize
+    q.uncovered && (root || units <= q.entry as usize)
 }
 
-// What a root, link or SYSVOL reply calls for, by its answer, whether it is a root's, and the units of its prefix.
-fn tested(q: Asking, answer: Answer, root: bool, units: usize) -> Said
-    ensures { result ≡ said_of q answer root units }
+// What is taken of a reply that says nothing.
+#[tactic(auto, unfolding(crate::specs::reply_taken::Code::unread_taken))]
+fn unread_taken(kind: Kind, why: Unread) -> Taken
+    ensures { result ≡ unread_taken kind why }
 {
-    let kind = q.kind;
-    match answer {
-        Answer::Malformed => Said::Stops(End::Malformed, 0),
-        Answer::Nothing => Said::Stops(empty_end(kind), PATH_NOT_FOUND),
-        Answer::Says => {
-            if covers_nothing(q, root, units) {
-                return Said::Stops(End::Failed, PATH_NOT_COVERED);
-            }
-            Said::Stores
-        }
+    match why {
+        Unread::Malformed => Taken::Ends(End::Malformed, 0),
+        Unread::Nothing => Taken::Ends(empty_end(kind), PATH_NOT_FOUND),
     }
 }
 
 // Whether the entry that a reply makes is an Interlink. Its header alone tells.
+#[tactic(auto, unfolding(cache_store::specs::entry_after_reply::Stored::is_interlink, reply_read::specs::referral::Code::referral_shown))]
 fn is_interlink(doms: &[u16], reply: &[u8], found: ReferralFound) -> bool
     ensures { result ≡ is_interlink (referral_shown reply.now found) (decode domains doms.now) }
 {
-    if !found.servers {
-        return false;
-    }
-    !found.storage
+    found.servers && !found.storage
 }
 
 // Place i, saved where there is room for it.
+#[tactic(auto, unfolding(crate::specs::reply_taken::Code::saved_in, laws::specs::Choice::choose))]
 fn save_in(cache: &[u16], i: usize, saved: &mut [u16])
     requires { i < place_count cache.now }
     ensures { saved.new ≡ saved_in i cache.now saved.old }
@@ -131,8 +112,7 @@ fn store_entry(
 {
     let hinted = crate::party_hint::set_hint(refs, doms, path, q);
     let interlink = is_interlink(doms, reply, found);
-    let prefix = found.prefix;
-    let place = cache_store::new_or_refreshed::store_place(refs, reply, prefix, g.clock);
+    let place = cache_store::new_or_refreshed::store_place(refs, reply, found.prefix, g.clock);
     save_in(refs, place, saved);
     cache_store::new_or_refreshed::store(refs, reply, found, interlink, g.clock);
     Taken::Entry(place, hinted)
@@ -154,12 +134,15 @@ fn take_referral(
     ensures back { length saved.old ≡ 2336 → put_back result saved.new refs.new doms.new ≡ lent_caches refs.old doms.old }
     ensures after { TakenIn (length saved.old) result saved.new path.now refs.new doms.new }
 {
-    let found = reply_read::referral::read_referral(reply, q.size, &path[..name]);
-    let answer = found.answer;
-    let said = tested(q, answer, found.root, found.prefix.units);
-    match said {
-        Said::Stops(end, status) => Taken::Ends(end, status),
-        Said::Stores => store_entry(refs, doms, path, g, q, reply, found, saved),
+    match reply_read::referral::read_referral(reply, q.size, &path[..name]) {
+        Err(why) => unread_taken(q.kind, why),
+        Ok(found) => {
+            if covers_nothing(q, found.root, found.prefix.units) {
+                Taken::Ends(End::Failed, PATH_NOT_COVERED)
+            } else {
+                store_entry(refs, doms, path, g, q, reply, found, saved)
+            }
+        }
     }
 }
 
@@ -182,12 +165,9 @@ fn take_dcs(
         // cannot come: the domain was found to be there
         return Taken::Ends(End::Gone, 0);
     };
-    let found = reply_read::name_lists::read_dcs(reply, q.size);
-    let answer = found.answer;
-    match answer {
-        Answer::Malformed => Taken::Ends(End::Malformed, 0),
-        Answer::Nothing => Taken::Ends(End::NoDc, PATH_NOT_FOUND),
-        Answer::Says => {
+    match reply_read::name_lists::read_dcs(reply, q.size) {
+        Err(why) => unread_taken(Kind::Dc, why),
+        Ok(found) => {
             save_in(doms, i, saved);
             cache_store::domain_cache::store_dcs(doms, i, reply, found);
             Taken::Dcs(i)
@@ -196,14 +176,14 @@ fn take_dcs(
 }
 
 // What is read: the name asked is the first so many units of the path. An I/O try has no reply.
+#[tactic(auto, unfolding(crate::specs::reply_taken::Code::awaited_by))]
 fn reply_awaited(kind: Kind, path: &[u16]) -> Awaited
     ensures { result ≡ awaited_by kind path.now }
 {
     match kind {
         Kind::Dc => Awaited::DcNames,
-        Kind::Root => Awaited::Referral(unc::prefix::first_end(path, 2)),
+        Kind::Root | Kind::Sysvol => Awaited::Referral(unc::prefix::first_end(path, 2)),
         Kind::Link => Awaited::Referral(path.len()),
-        Kind::Sysvol => Awaited::Referral(unc::prefix::first_end(path, 2)),
         Kind::Io => Awaited::NoReply,
     }
 }
@@ -223,9 +203,7 @@ pub fn take_reply(
     ensures back { length saved.old ≡ 2336 → put_back result saved.new refs.new doms.new ≡ lent_caches refs.old doms.old }
     ensures after { TakenIn (length saved.old) result saved.new path.now refs.new doms.new }
 {
-    let kind = q.kind;
-    let read = reply_awaited(kind, path);
-    match read {
+    match reply_awaited(q.kind, path) {
         Awaited::DcNames => take_dcs(refs, doms, path, g, q, reply, saved),
         Awaited::Referral(name) => take_referral(refs, doms, path, g, q, name, reply, saved),
         Awaited::NoReply => Taken::Ends(End::Malformed, 0),

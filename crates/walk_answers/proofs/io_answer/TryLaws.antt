@@ -1,7 +1,7 @@
 -- Laws of the answer to an I/O try.
 use Rattle.std.specs.Prelude.{Some, Option, None}
 use mathlib.Core.Path.{◌≡◌, refl, sym, ap, ◌∙◌, subst}
-use mathlib.Core.Bool.{Bool, true, false, not}
+use mathlib.Core.Bool.{Bool, true, false}
 use mathlib.Core.List.{List, []}
 use mathlib.Core.Logic.{◌⊎◌, inl, inr}
 use Prim.Native.Nat.{ℕ, ◌+◌, ◌-◌, ◌/◌, ◌≤◌, ◌<◌}
@@ -9,7 +9,7 @@ use native.Mathlib.Omega.{arith}
 use lib.ListN.{length, take, drop, replicate, length-drop}
 use lib.Seq.{length-take-le, take-take}
 use lib.Dec.{leb, ltb}
-use borrow.Author.Tests.{eq-eqb, ne_eqb, lt-ltb, le-ltb, leb-false, ltb-true, not-true, not-false}
+use borrow.Author.Tests.{eq-eqb, ne_eqb, leb-false, ltb-true}
 use Rattle.laws.specs.Choice.{choose}
 use Rattle.laws.specs.Lists.{pasted, roomed}
 use Rattle.laws.proofs.Choices.{choose_yes, choose_no, and_left}
@@ -29,14 +29,14 @@ use Rattle.cache_lookup.specs.Code.{entry_at}
 use Rattle.cache_lookup.proofs.LookupLaws.{KeyAt, key_found}
 use Rattle.cache_lookup.proofs.StoreLaws.{entry_good}
 use Rattle.cache_store.specs.entry_after_reply.Stored.{prefixed}
-use Rattle.walk_steps.specs.steps.Steps.{Caches, Core, Called, stops, ends, asks, Turn, ended, rests, goes, turned, is_in_use, referral_in_use, hint_set, target_hint_set, with_referrals, next_place, onward, step8, link_request, severity, is_one_of, next_target_statuses, path_not_covered, io_fails, io_with, io_answered}
+use Rattle.walk_steps.specs.steps.Steps.{Caches, Core, Called, stops, ends, asks, Turn, ended, rests, goes, turned, is_in_use, referral_in_use, hint_set, target_hint_set, with_referrals, next_place, onward, step8, severity, is_one_of, next_target_statuses, path_not_covered, io_fails, io_with, io_answered}
 use Rattle.walk_steps.specs.steps.Held.{caches_of, core_of, next_of, tried_of, question_of}
 use Rattle.walk_steps.specs.steps.Code.{core_at, rested_of, rested_at, called_of}
 use Rattle.walk_steps.specs.declared.steps.Kind.{Kind}
-use Rattle.walk_steps.specs.declared.steps.Kind.TheVariants.{Link, Io}
+use Rattle.walk_steps.specs.declared.steps.Kind.TheVariants.{Io}
 use Rattle.walk_steps.specs.declared.steps.End.TheVariants.{Done, Failed, Gone}
 use Rattle.walk_steps.specs.declared.steps.Next.{Next}
-use Rattle.walk_steps.specs.declared.steps.Next.TheVariants.{Asks, Ends}
+use Rattle.walk_steps.specs.declared.steps.Next.TheVariants.{Ends}
 use Rattle.walk_steps.specs.declared.steps.Asking.{Asking}
 use Rattle.walk_steps.specs.declared.steps.Progress.{Progress}
 use Rattle.walk_steps.specs.declared.steps.Rested.{Rested}
@@ -45,38 +45,13 @@ use Rattle.walk_steps.specs.cycle.Code.{Packed, rested_with, packed, Usable}
 use Rattle.walk_steps.proofs.cycle.MoveLaws.{matches_same, goes_stops}
 use Rattle.walk_steps.specs.question_request.Questions.{request_name, name_fits, rest_fits}
 use Rattle.walk_steps.specs.rounds.Code.{targets_under, in_round}
-use Rattle.walk_steps.proofs.rounds.RoundLaws.{round_past, round_on, targets_gone, targets_held, in_use_same, in_use_io}
+use Rattle.walk_steps.proofs.rounds.RoundLaws.{round_past, targets_gone, targets_held, in_use_same, in_use_io}
 use Rattle.walk_steps.proofs.rounds.FailLaws.{onward_end, onward_next}
 use Rattle.walk_store.specs.after_reply.Code.{left_by, leaves}
 use Rattle.walk_answers.proofs.referral_answer.AnswerLaws.{rest_called, still_left}
 use Rattle.walk_answers.specs.declared.io_answer.Failure.{Failure}
 use Rattle.walk_answers.specs.declared.io_answer.Failure.TheVariants.{Calls, Tries}
 use Rattle.walk_answers.specs.io_answer.Code.{tried_room, Trying, Failing, with_parties, place_in_use, not_covered, next_target, failure_calls}
-
--- the place of the entry in use
-module _ (prefix raw : List ℕ) (party began : ℕ) {f : Option ℕ} (e : f ≡ with_key referrals prefix (decode referrals raw)) where
-  pub place_gone : f ≡ None → None ≡ place_in_use prefix raw party began
-  unfolding place_in_use with_parties
-  place_gone h = sym (ap (with_parties raw party began) (sym e ∙ h))
-
-  module _ (i : ℕ) (h : f ≡ Some i) where
-    place_at_lem : place_in_use prefix raw party began ≡ choose (in_round (length (entry_at referrals i raw).targets) party began) (Some i) None
-    unfolding place_in_use with_parties
-    place_at_lem = ap (with_parties raw party began) (sym e ∙ h)
-
-    module _ {n : ℕ} (g : n ≡ length (entry_at referrals i raw).targets) where
-      pub place_party : n ≤ party → None ≡ place_in_use prefix raw party began
-      place_party k = sym (place_at_lem ∙ choose_no _ _ (sym (round_past _ party began (let z : length (entry_at referrals i raw).targets ≤ party = omega arith in z))))
-
-      module _ (a : party < n) where
-        counted : ltb began n ≡ in_round (length (entry_at referrals i raw).targets) party began
-        counted = round_on n party began a ∙ ap (λ (m : ℕ). in_round m party began) g
-
-        pub place_began : n ≤ began → None ≡ place_in_use prefix raw party began
-        place_began k = sym (place_at_lem ∙ choose_no _ _ (sym counted ∙ le-ltb began n k))
-
-        pub place_held : began < n → Some i ≡ place_in_use prefix raw party began
-        place_held k = sym (place_at_lem ∙ choose_yes _ _ (sym counted ∙ lt-ltb began n k))
 
 -- what that place tells
 record InUse (prefix raw : List ℕ) (party began i : ℕ) : Type 0 where
@@ -318,18 +293,6 @@ next_below n place h = go (told (leb n (place + 1)))
     go : (leb n (place + 1) ≡ true) ⊎ (leb n (place + 1) ≡ false) → choose (leb n (place + 1)) 0 (place + 1) < n
     go (inl t) = rw (choose_yes 0 (place + 1) t) h
     go (inr t) = rw (choose_no 0 (place + 1) t) (leb-false n (place + 1) t)
-
--- PATH_NOT_COVERED
-module _ (q : Asking) (g : Progress) (status : ℕ) (e : Referral) {b : Bool} (h : b ≡ e.settings.root) where
-  pub covered_end : not b ≡ true → (path tried : List ℕ) → called_of (Ends Failed status) ≡ not_covered (core_of path g.size g.hit) (question_of q tried) status e
-  unfolding not_covered called_of
-  covered_end x path tried = sym (choose_no _ (ends Failed status) (sym h ∙ not-true b x))
-
-  pub covered_asks : not b ≡ false → (path tried : List ℕ)
-      → called_of (Asks (record { kind = Link; entry = q.entry; party = q.party; began = q.party; size = g.size; uncovered = true }))
-      ≡ not_covered (core_of path g.size g.hit) (question_of q tried) status e
-  unfolding not_covered called_of link_request question_of
-  covered_asks x path tried = sym (choose_yes (asks (link_request (core_of path g.size g.hit) q.entry q.party q.party true)) _ (sym h ∙ not-false b x))
 
 failure_number : Failure → ℕ
 failure_number (Calls next) = 0

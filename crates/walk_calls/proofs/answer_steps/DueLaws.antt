@@ -7,6 +7,7 @@ use Prim.Native.Nat.{ℕ, ◌-◌, ◌≤◌}
 use native.Mathlib.Omega.{arith}
 use lib.ListN.{length, take, drop}
 use lib.Seq.{length-take-le, drop_at}
+use Rattle.std.specs.Prelude.{Result}
 use Rattle.laws.specs.Lists.{pasted, roomed}
 use Rattle.laws.proofs.Tests.{not_both}
 use Rattle.laws.proofs.Pasting.{pasted_whole, length_roomed, take_roomed}
@@ -33,7 +34,7 @@ use Rattle.walk_form.specs.held.Walks.{path_in, tried_in, boot_in, has_tried, ne
 use Rattle.walk_form.specs.declared.held.Walk.{Walk}
 use Rattle.walk_form.proofs.held.FormLaws.{Formed, form_told, first_rooms, Waiting, waiting_told, Prefixed, io_named, link_named, dc_named, sysvol_named, Rooted, root_named, request_tried}
 use Rattle.walk_calls.specs.call_end.Code.{left, closed_rest}
-use Rattle.walk_calls.specs.declared.call_end.Outcome.{Outcome}
+use Rattle.walk_calls.specs.declared.call_end.Refusal.{Refusal}
 use Rattle.walk_calls.proofs.call_end.RestLaws.{closed_rest_lem}
 use Rattle.walk_form.specs.held.Walks.{core_in}
 use Rattle.walk_calls.specs.answer_steps.Code.{AnswerDue, progress_of, io_turn, referral_turn, closed, closing}
@@ -186,10 +187,10 @@ module _ {refs doms : List ℕ} {walk : Walk} {texts : List ℕ} {q : Asking} {h
     pub answer_path : r.path ≤ 256
     answer_path = rest_path _ r o rests_so (walk.limit - walk.moves) (core_in walk texts) k
 
-    pub answer_closed : (out : List ℕ) → room ≡ length out → {v : Outcome} {s u : List ℕ}
-        → left v s u ≡ closed_rest walk.limit walk.size (boot_in walk texts) r o walk texts out → closed v s u more then ≡ closing clock walk texts out refs doms t
+    pub answer_closed : (out : List ℕ) → room ≡ length out → (v : Result Walk Refusal) {s u : List ℕ}
+        → left v walk s u ≡ closed_rest walk.limit walk.size (boot_in walk texts) r o walk texts out → closed v walk s u more then ≡ closing clock walk texts out refs doms t
     unfolding core_in closing
-    answer_closed out n h =
+    answer_closed out n v h =
         λ j.
         record {
           ending = (h ∙ closed_rest_lem _ r o rests_so walk.limit walk.size (boot_in walk texts) walk texts out k.size_kept) j;

@@ -5,6 +5,7 @@ use mathlib.Core.List.{List, ◌++◌}
 use Prim.Native.Nat.{ℕ, ◌+◌, ◌≤◌}
 use native.Mathlib.Omega.{arith}
 use lib.ListN.{length, take, drop, length-append}
+use Rattle.std.specs.Prelude.{Ok, Err}
 use Rattle.laws.specs.Choice.{choose}
 use Rattle.laws.specs.Lists.{pasted, roomed}
 use Rattle.laws.proofs.Choices.{choose_yes, choose_no}
@@ -22,7 +23,7 @@ use Rattle.walk_form.specs.declared.held.Walk.{Walk}
 use Rattle.walk_form.proofs.held.FormLaws.{form_told, last_room}
 use Rattle.walk_calls.specs.call_end.Closing.{refused, closes}
 use Rattle.walk_calls.specs.call_end.Code.{walk_with, closed_rest}
-use Rattle.walk_calls.specs.declared.call_end.Verdict.TheVariants.{Taken, ShortBuffer}
+use Rattle.walk_calls.specs.declared.call_end.Refusal.TheVariants.{ShortBuffer}
 
 -- the texts of a start
 pub texts_put : (texts rooms boot : List ℕ) {m o : List ℕ} → length texts ≡ 768 → length rooms ≡ 512 → length boot ≤ 256 → m ≡ pasted texts 0 rooms
@@ -59,15 +60,15 @@ module _ (walk : Walk) (texts : List ℕ) (f : in_form walk texts ≡ true) wher
 
 module _ (limit size : ℕ) (boot : List ℕ) (r : Rested) (rooms : List ℕ) (walk : Walk) (texts out : List ℕ) {b : Bool}
     (f : b ≡ name_fits (length out) (named (next_units r.next (take r.path rooms)) (take r.path rooms))) where
-  pub rest_short : b ≡ false → refused ShortBuffer walk texts out ≡ closed_rest limit size boot r rooms walk texts out
+  pub rest_short : b ≡ false → refused (Err ShortBuffer) walk texts out ≡ closed_rest limit size boot r rooms walk texts out
   unfolding closed_rest
   rest_short h = sym (choose_no _ _ (sym f ∙ h))
 
   pub rest_closed : b ≡ true → {w : Walk} {t o : List ℕ} → w ≡ walk_with limit size (length boot) r → t ≡ rooms ++ roomed 256 boot
       → o ≡ with_request (named (next_units r.next (take r.path rooms)) (take r.path rooms)) out
-      → record { verdict = Taken; walk = w; texts = t; out = o } ≡ closed_rest limit size boot r rooms walk texts out
+      → record { verdict = Ok tt; walk = w; texts = t; out = o } ≡ closed_rest limit size boot r rooms walk texts out
   unfolding closed_rest
-  rest_closed h a e g = (λ j. record { verdict = Taken; walk = a j; texts = e j; out = g j }) ∙ sym (choose_yes _ _ (sym f ∙ h))
+  rest_closed h a e g = (λ j. record { verdict = Ok tt; walk = a j; texts = e j; out = g j }) ∙ sym (choose_yes _ _ (sym f ∙ h))
 
 -- a rest that a call closes
 module _ (x : Resting) (r : Rested) (rooms : List ℕ) (e : rested_with r rooms ≡ packed x) where
@@ -78,9 +79,9 @@ module _ (x : Resting) (r : Rested) (rooms : List ℕ) (e : rested_with r rooms 
       λ j.
       choose (((λ k. name_fits (length out) (named (next_units (rested_is x r rooms e k).next (path_is x r rooms e k)) (path_is x r rooms e k))) ∙ rest_fits_lem x (length out) refl) j)
       (record {
-        verdict = Taken;
+        verdict = Ok tt;
         walk = walk_with limit (sym s j) (length boot) (rested_is x r rooms e j);
         texts = rooms_are x r rooms e j ++ roomed 256 boot;
         out = ((λ k. with_request (named (next_units (rested_is x r rooms e k).next (path_is x r rooms e k)) (path_is x r rooms e k)) out) ∙ rest_out x out refl) j;
       })
-      (refused ShortBuffer walk texts out)
+      (refused (Err ShortBuffer) walk texts out)

@@ -1,11 +1,11 @@
 -- Laws of an answer.
-use Rattle.std.specs.Prelude.{Option, None, Some}
 use mathlib.Core.Path.{◌≡◌, refl, sym, ap, ◌∙◌}
 use mathlib.Core.Bool.{Bool, true, false, ◌&&◌}
 use mathlib.Core.List.{List}
 use mathlib.Core.Logic.{◌⊎◌, inl, inr}
 use Prim.Native.Nat.{ℕ, ◌-◌}
 use lib.ListN.{length}
+use Rattle.std.specs.Prelude.{Err, None, Option, Some}
 use Rattle.laws.specs.Choice.{choose}
 use Rattle.laws.proofs.Choices.{choose_yes, choose_no, and_left, and_right}
 use Rattle.laws.proofs.Orders.{told}
@@ -23,18 +23,20 @@ use Rattle.walk_form.specs.declared.held.Walk.{Walk}
 use Rattle.walk_form.specs.held.Walks.{core_in}
 use Rattle.walk_calls.specs.answer_steps.Code.{AnswerDue, progress_of, io_turn, referral_turn, Closed, closing}
 use Rattle.walk_calls.proofs.answer_steps.DueLaws.{none_tried}
+use Rattle.walk_calls.specs.resting.Code.{walk_question}
+use Rattle.walk_calls.proofs.resting.RestingLaws.{question_none}
 use Rattle.walk_calls.specs.call_end.Closing.{Left, closes}
-use Rattle.walk_calls.specs.declared.call_end.Verdict.TheVariants.{NotInOrder, OutOfForm, ShortBuffer}
+use Rattle.walk_calls.specs.declared.call_end.Refusal.TheVariants.{NotInOrder, OutOfForm, ShortBuffer}
 use Rattle.walk_calls.specs.calls.Calls.{Answered, refused_answer, rest_at, rest_in, referral_event, io_event, answers, answer_call, referral_call, io_call}
 
 -- an answer, by its tests
 module _ (event : Option Turn) (clock : ℕ) (walk : Walk) (texts out refs doms : List ℕ) {b : Bool} (o : b ≡ (in_order referrals refs && in_order domains doms)) where
-  pub call_order : b ≡ false → refused_answer NotInOrder walk texts out refs doms ≡ answer_call event clock walk texts out refs doms
+  pub call_order : b ≡ false → refused_answer (Err NotInOrder) walk texts out refs doms ≡ answer_call event clock walk texts out refs doms
   unfolding answer_call
   call_order h = sym (choose_no _ _ (sym o ∙ h))
 
   module _ (h : b ≡ true) {f : Bool} (p : f ≡ in_form walk texts) where
-    pub call_form : f ≡ false → refused_answer OutOfForm walk texts out refs doms ≡ answer_call event clock walk texts out refs doms
+    pub call_form : f ≡ false → refused_answer (Err OutOfForm) walk texts out refs doms ≡ answer_call event clock walk texts out refs doms
     unfolding answer_call
     call_form g = sym (choose_yes _ _ (sym o ∙ h) ∙ choose_no _ _ (sym p ∙ g))
 
@@ -43,12 +45,23 @@ module _ (event : Option Turn) (clock : ℕ) (walk : Walk) (texts out refs doms 
       unfolding answer_call
       taken e = e ∙ sym (choose_yes _ _ (sym o ∙ h) ∙ choose_yes _ _ (sym p ∙ g))
 
-      pub call_none : event ≡ None → refused_answer OutOfForm walk texts out refs doms ≡ answer_call event clock walk texts out refs doms
+      pub call_none : event ≡ None → refused_answer (Err OutOfForm) walk texts out refs doms ≡ answer_call event clock walk texts out refs doms
       unfolding answers
       call_none e = taken (ap (λ (v : Option Turn). answers v clock walk texts out refs doms) (sym e))
 
       pub call_some : (t : Turn) {y : Answered} → event ≡ Some t → y ≡ answers (Some t) clock walk texts out refs doms → y ≡ answer_call event clock walk texts out refs doms
       call_some t e k = taken (k ∙ ap (λ (v : Option Turn). answers v clock walk texts out refs doms) (sym e))
+
+-- no question waits
+pub call_unasked : (event : Option Turn) (clock : ℕ) (walk : Walk) (texts out refs doms : List ℕ) {b : Bool} → b ≡ (in_order referrals refs && in_order domains doms) → b ≡ true
+    → walk_question walk texts ≡ None → ((e : End) (s : ℕ) → walk.next ≡ Ends e s → event ≡ None)
+    → refused_answer (Err OutOfForm) walk texts out refs doms ≡ answer_call event clock walk texts out refs doms
+call_unasked event clock walk texts out refs doms o h n v = go (question_none walk texts n)
+  where
+    go : (in_form walk texts ≡ false) ⊎ ((in_form walk texts ≡ true) × ((e : End) × ((s : ℕ) × (walk.next ≡ Ends e s))))
+        → refused_answer (Err OutOfForm) walk texts out refs doms ≡ answer_call event clock walk texts out refs doms
+    go (inl f) = call_form event clock walk texts out refs doms o h refl f
+    go (inr t) = call_none event clock walk texts out refs doms o h refl t.0 (v t.1.0 t.1.1.0 t.1.1.1)
 
 -- the event of an I/O answer, and that of a referral's
 module _ (c : Caches) (walk : Walk) (texts : List ℕ) (status : ℕ) where
@@ -104,7 +117,7 @@ module _ (t : Turn) (clock : ℕ) (walk : Walk) (texts out refs doms : List ℕ)
             refs = (ap (λ (x : Closed). x.refs) e ∙ choose_yes (encode referrals t.caches.referrals) refs y) j;
             doms = (ap (λ (x : Closed). x.doms) e ∙ choose_yes (encode domains t.caches.domains) doms y) j;
           })
-          ∙ sym (choose_yes _ (refused_answer ShortBuffer walk texts out refs doms) y)
+          ∙ sym (choose_yes _ (refused_answer (Err ShortBuffer) walk texts out refs doms) y)
       go (inr n) =
           (λ j.
           record {
@@ -112,7 +125,7 @@ module _ (t : Turn) (clock : ℕ) (walk : Walk) (texts out refs doms : List ℕ)
             refs = (ap (λ (x : Closed). x.refs) e ∙ choose_no (encode referrals t.caches.referrals) refs n) j;
             doms = (ap (λ (x : Closed). x.doms) e ∙ choose_no (encode domains t.caches.domains) doms n) j;
           })
-          ∙ sym (choose_no _ (refused_answer ShortBuffer walk texts out refs doms) n)
+          ∙ sym (choose_no _ (refused_answer (Err ShortBuffer) walk texts out refs doms) n)
 
 -- an answer that is due
 module _ (refs doms texts : List ℕ) (walk : Walk) (out : List ℕ) {b : Bool} (o : b ≡ (in_order referrals refs && in_order domains doms)) (h : b ≡ true) {f : Bool} (p : f ≡ in_form walk texts)

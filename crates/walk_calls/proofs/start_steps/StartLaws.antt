@@ -9,6 +9,7 @@ use lib.ListN.{length, take, drop, replicate, length-replicate, drop_of_length-l
 use lib.Seq.{length-take-le, take_at, drop_at}
 use lib.Dec.{eqb, leb}
 use borrow.Author.Tests.{eq-eqb, ne_eqb, le-leb}
+use Rattle.std.specs.Prelude.{Err, Result}
 use Rattle.laws.specs.Lists.{pasted}
 use Rattle.laws.specs.Choice.{choose}
 use Rattle.laws.proofs.Choices.{choose_yes, choose_no, and_both}
@@ -16,6 +17,7 @@ use Rattle.laws.proofs.Orders.{told}
 use Rattle.unc.specs.names.Paths.{is_normalised, component_count, normalised_count, path_units}
 use Rattle.unc.specs.names.Code.{form_within, room_after}
 use Rattle.unc.specs.declared.names.Form.{Form}
+use Rattle.unc.specs.declared.names.PathError.{PathError}
 use Rattle.cache.specs.order.Order.{good_prefix}
 use Rattle.walk_steps.specs.steps.Steps.{Caches, Core, ends, Turn, started, from_step2, hit_at, with_hit, step2, turned}
 use Rattle.walk_steps.specs.steps.Held.{caches_of, core_of}
@@ -31,7 +33,7 @@ use Rattle.walk_form.specs.held.Walks.{good_settings}
 use Rattle.walk_form.specs.declared.held.Walk.{Walk}
 use Rattle.walk_calls.specs.call_end.Closing.{Left, refused, closes}
 use Rattle.walk_calls.specs.call_end.Code.{closed_rest}
-use Rattle.walk_calls.specs.declared.call_end.Verdict.TheVariants.{BadSettings, OutOfForm}
+use Rattle.walk_calls.specs.declared.call_end.Refusal.TheVariants.{BadSettings, OutOfForm}
 use Rattle.walk_calls.proofs.call_end.RestLaws.{closed_rest_lem}
 use Rattle.walk_calls.specs.start_steps.Code.{path_rooms, start_at, start_rooms, Begun}
 
@@ -69,7 +71,7 @@ pub path_put : (path rooms : List ℕ) {m o : List ℕ} → length rooms ≡ 512
 unfolding path_rooms
 path_put path rooms l e h = λ j. (h ∙ ap (room_after path) (cleared_take 256 rooms l e)) j ++ cleared_drop 256 rooms l e j
 
-pub form_put : (path rooms : List ℕ) {m : List ℕ} {f : Form} → length rooms ≡ 512 → m ≡ pasted rooms 256 (replicate 256 0) → f ≡ form_within (length (take 256 m)) path
+pub form_put : (path rooms : List ℕ) {m : List ℕ} {f : Result Form PathError} → length rooms ≡ 512 → m ≡ pasted rooms 256 (replicate 256 0) → f ≡ form_within (length (take 256 m)) path
     → f ≡ form_within path_units path
 form_put path rooms l e h = h ∙ ap (λ (n : ℕ). form_within n path) (sym (cleared_half 256 rooms l e))
 
@@ -101,11 +103,11 @@ module _ (refs doms rooms : List ℕ) (g : Progress) (k : ℕ) (b : Begun refs r
 
 -- a start with a good path, by its tests
 module _ (refs doms texts : List ℕ) (walk : Walk) (path boot : List ℕ) (limit size clock : ℕ) (out : List ℕ) {s : Bool} (p : s ≡ good_settings limit size boot) where
-  pub at_settings : s ≡ false → refused BadSettings walk texts out ≡ start_at refs doms texts walk path boot limit size clock out
+  pub at_settings : s ≡ false → refused (Err BadSettings) walk texts out ≡ start_at refs doms texts walk path boot limit size clock out
   unfolding start_at
   at_settings u = sym (choose_no _ _ (sym p ∙ u))
 
-  pub at_texts : s ≡ true → (length texts ≡ 768 → ⊥) → refused OutOfForm walk texts out ≡ start_at refs doms texts walk path boot limit size clock out
+  pub at_texts : s ≡ true → (length texts ≡ 768 → ⊥) → refused (Err OutOfForm) walk texts out ≡ start_at refs doms texts walk path boot limit size clock out
   unfolding start_at
   at_texts u v = sym (choose_yes _ _ (sym p ∙ u) ∙ choose_no _ _ (ne_eqb _ 768 v))
 

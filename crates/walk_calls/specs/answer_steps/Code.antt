@@ -1,5 +1,5 @@
 -- Shapes of the code, proved equal to the rules; nothing here is to be believed.
-use Rattle.std.specs.Prelude.{ℕ, ◌-◌, ◌≡◌, Bool, true, List, [], length}
+use Rattle.std.specs.Prelude.{ℕ, ◌-◌, ◌≡◌, Bool, true, List, [], length, Result}
 use Rattle.cache.specs.order.Memory.{referrals, domains, in_order}
 use Rattle.walk_steps.specs.steps.Steps.{Turn, turned, referral_answered, io_answered}
 use Rattle.walk_steps.specs.steps.Held.{caches_of, question_of}
@@ -11,7 +11,7 @@ use Rattle.walk_form.specs.held.Walks.{has_tried, in_form, tried_in, boot_in, co
 use Rattle.walk_form.specs.declared.held.Walk.{Walk}
 use Rattle.walk_calls.specs.call_end.Closing.{Left, closes}
 use Rattle.walk_calls.specs.call_end.Code.{left}
-use Rattle.walk_calls.specs.declared.call_end.Outcome.{Outcome}
+use Rattle.walk_calls.specs.declared.call_end.Refusal.{Refusal}
 
 -- an answer is due: both caches are in order, the walk is in form and waits at q, which has a path tried or none
 pub record AnswerDue (refs doms : List ℕ) (walk : Walk) (texts : List ℕ) (q : Asking) (has : Bool) : Type 0 where
@@ -41,8 +41,8 @@ pub record Closed : Type 0 where
   pub refs : List ℕ
   pub doms : List ℕ
 
-abbrev pub closed : Outcome → List ℕ → List ℕ → List ℕ → List ℕ → Closed
-closed o texts out refs doms = record { ending = left o texts out; refs = refs; doms = doms }
+abbrev pub closed : Result Walk Refusal → Walk → List ℕ → List ℕ → List ℕ → List ℕ → Closed
+closed r walk texts out refs doms = record { ending = left r walk texts out; refs = refs; doms = doms }
 
 -- a turn whose call ends
 unfoldable pub closing : ℕ → Walk → List ℕ → List ℕ → List ℕ → List ℕ → Turn → Closed

@@ -1,5 +1,5 @@
 -- The calls of a host: what each one gives back and leaves in the lent memory.
-use Rattle.std.specs.Prelude.{ℕ, ◌-◌, false, ◌&&◌, List, length, eqb, leb, Option, None, Some}
+use Rattle.std.specs.Prelude.{ℕ, ◌-◌, false, ◌&&◌, List, length, eqb, leb, Ok, Err, Option, None, Some}
 use Rattle.laws.specs.Choice.{choose}
 use Rattle.unc.specs.names.Paths.{good_path, normalised, path_units}
 use Rattle.cache.specs.order.Memory.{referrals, domains, encode, in_order}
@@ -10,20 +10,19 @@ use Rattle.walk_steps.specs.declared.steps.Next.TheVariants.{Asks, Ends}
 use Rattle.walk_steps.specs.question_request.Questions.{rest_fits}
 use Rattle.walk_form.specs.held.Walks.{good_settings, has_tried, in_form, tried_in, boot_in, core_in}
 use Rattle.walk_form.specs.declared.held.Walk.{Walk}
-use Rattle.walk_calls.specs.call_end.Closing.{Left, refused, closes}
-use Rattle.walk_calls.specs.declared.call_end.Verdict.{Verdict}
-use Rattle.walk_calls.specs.declared.call_end.Verdict.TheVariants.{Taken, BadPath, LongPath, BadSettings, NotInOrder, OutOfForm, ShortBuffer}
+use Rattle.walk_calls.specs.call_end.Closing.{Verdict, Left, refused, closes}
+use Rattle.walk_calls.specs.declared.call_end.Refusal.TheVariants.{BadPath, LongPath, BadSettings, NotInOrder, OutOfForm, ShortBuffer}
 
 -- the numbers of refusals: "1 bad path, 2 path good but over 256 units, 3 limit, size or bootstrap DC, 4 either cache not in order, 5 walk
 -- ended, out of form, or waiting for another kind of answer, 10 output buffer shorter than the request"; 0 where the call is taken
 unfoldable pub refusal_number : Verdict → ℕ
-refusal_number Taken = 0
-refusal_number BadPath = 1
-refusal_number LongPath = 2
-refusal_number BadSettings = 3
-refusal_number NotInOrder = 4
-refusal_number OutOfForm = 5
-refusal_number ShortBuffer = 10
+refusal_number (Ok u) = 0
+refusal_number (Err BadPath) = 1
+refusal_number (Err LongPath) = 2
+refusal_number (Err BadSettings) = 3
+refusal_number (Err NotInOrder) = 4
+refusal_number (Err OutOfForm) = 5
+refusal_number (Err ShortBuffer) = 10
 
 -- where the steps rest after a start
 unfoldable pub start_rest : List ℕ → List ℕ → List ℕ → ℕ → ℕ → ℕ → Resting
@@ -39,11 +38,11 @@ start_call refs doms texts walk path boot limit size clock out =
     (choose (good_settings limit size boot)
     (choose (eqb (length texts) 768)
     (closes limit boot (start_rest refs doms path limit size clock) walk texts out)
-    (refused OutOfForm walk texts out))
-    (refused BadSettings walk texts out))
-    (refused LongPath walk texts out))
-    (refused BadPath walk texts out))
-    (refused NotInOrder walk texts out)
+    (refused (Err OutOfForm) walk texts out))
+    (refused (Err BadSettings) walk texts out))
+    (refused (Err LongPath) walk texts out))
+    (refused (Err BadPath) walk texts out))
+    (refused (Err NotInOrder) walk texts out)
 
 -- what an answer leaves: that, and both caches
 pub record Answered : Type 0 where
@@ -75,7 +74,7 @@ io_event c w (waits q) status = choose (has_tried q.kind) (Some (io_answered c w
 
 -- an event whose steps come to rest: both caches are as the event left them; 10 leaves them as they were
 unfoldable pub answers : Option Turn → ℕ → Walk → List ℕ → List ℕ → List ℕ → List ℕ → Answered
-answers None clock walk texts out refs doms = refused_answer OutOfForm walk texts out refs doms
+answers None clock walk texts out refs doms = refused_answer (Err OutOfForm) walk texts out refs doms
 answers (Some t) clock walk texts out refs doms =
     choose (rest_fits (length out) (turned (walk.limit - walk.moves) clock t))
     (record {
@@ -83,7 +82,7 @@ answers (Some t) clock walk texts out refs doms =
       refs = encode referrals t.caches.referrals;
       doms = encode domains t.caches.domains;
     })
-    (refused_answer ShortBuffer walk texts out refs doms)
+    (refused_answer (Err ShortBuffer) walk texts out refs doms)
 
 -- an answer's refusals: 4, 5, then 10
 unfoldable pub answer_call : Option Turn → ℕ → Walk → List ℕ → List ℕ → List ℕ → List ℕ → Answered
@@ -91,8 +90,8 @@ answer_call event clock walk texts out refs doms =
     choose (in_order referrals refs && in_order domains doms)
     (choose (in_form walk texts)
     (answers event clock walk texts out refs doms)
-    (refused_answer OutOfForm walk texts out refs doms))
-    (refused_answer NotInOrder walk texts out refs doms)
+    (refused_answer (Err OutOfForm) walk texts out refs doms))
+    (refused_answer (Err NotInOrder) walk texts out refs doms)
 
 -- `answer_referral` and `answer_io`
 unfoldable pub referral_call : List ℕ → List ℕ → List ℕ → Walk → ℕ → List ℕ → ℕ → List ℕ → Answered

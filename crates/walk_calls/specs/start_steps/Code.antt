@@ -1,6 +1,6 @@
 -- Shapes of the code, proved equal to the rules; nothing here is to be believed.
 -- Words of the functions that a start is made of.
-use Rattle.std.specs.Prelude.{ℕ, ◌≤◌, ◌≡◌, true, false, eqb, List, ◌++◌, length, take, replicate}
+use Rattle.std.specs.Prelude.{ℕ, ◌≤◌, ◌≡◌, true, false, eqb, List, ◌++◌, length, take, replicate, Err}
 use Rattle.laws.specs.Choice.{choose}
 use Rattle.unc.specs.names.Paths.{is_normalised, component_count}
 use Rattle.unc.specs.names.Code.{room_after}
@@ -12,7 +12,7 @@ use Rattle.walk_steps.specs.cycle.Code.{packed}
 use Rattle.walk_form.specs.held.Walks.{good_settings}
 use Rattle.walk_form.specs.declared.held.Walk.{Walk}
 use Rattle.walk_calls.specs.call_end.Closing.{Left, refused, closes}
-use Rattle.walk_calls.specs.declared.call_end.Verdict.TheVariants.{BadSettings, OutOfForm}
+use Rattle.walk_calls.specs.declared.call_end.Refusal.TheVariants.{BadSettings, OutOfForm}
 
 -- the rooms after a path was put: the path alone, or as they were but for the path tried
 unfoldable pub path_rooms : List ℕ → List ℕ → List ℕ
@@ -32,8 +32,8 @@ start_at refs doms texts walk path boot limit size clock out =
     choose (good_settings limit size boot)
     (choose (eqb (length texts) 768)
     (closes limit boot (turned limit clock (started (caches_of refs doms) (core_of path size false) clock)) walk texts out)
-    (refused OutOfForm walk texts out))
-    (refused BadSettings walk texts out)
+    (refused (Err OutOfForm) walk texts out))
+    (refused (Err BadSettings) walk texts out)
 
 -- the rooms after it: those of the first rest, or as they were where it is refused before
 unfoldable pub start_rooms : List ℕ → List ℕ → List ℕ → List ℕ → List ℕ → ℕ → ℕ → ℕ → List ℕ → List ℕ

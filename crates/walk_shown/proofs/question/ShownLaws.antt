@@ -1,15 +1,15 @@
 -- Laws of what is shown.
-use Rattle.std.specs.Prelude.{Option, None, Some}
 use mathlib.Core.Path.{◌≡◌, refl, sym, ap, ◌∙◌}
 use mathlib.Core.Bool.{Bool, true, false, ◌&&◌, ◌||◌}
-use mathlib.Core.List.{List, [], ◌∷◌}
+use mathlib.Core.List.{List, [], ◌∷◌, ◌++◌}
 use mathlib.Core.Logic.{◌⊎◌, inl, inr}
 use Prim.Native.Nat.{ℕ, ◌+◌, ◌-◌, ◌≤◌, ◌<◌}
 use native.Mathlib.Omega.{arith}
-use lib.ListN.{length, get_or, take, drop, set, length-take, length-drop}
+use lib.ListN.{length, get_or, take, drop, length-take, length-drop}
 use lib.Seq.{take_all}
-use lib.Dec.{eqb, leb}
+use lib.Dec.{eqb}
 use borrow.Author.Tests.{eq-eqb, ne_eqb, ltb-true, le-leb, lt-leb}
+use Rattle.std.specs.Prelude.{Ok, Err, None, Option, Some}
 use Rattle.laws.specs.Choice.{choose}
 use Rattle.laws.specs.Lists.{pasted, part}
 use Rattle.laws.proofs.Choices.{choose_yes, choose_no, and_left}
@@ -43,20 +43,22 @@ use Rattle.walk_form.proofs.held.FormLaws.{Formed, form_told, Waiting, waiting_t
 use Rattle.walk_form.specs.packed.Packing.{kind_number}
 use Rattle.walk_form.specs.held.Walks.{core_in}
 use Rattle.walk_calls.specs.calls.Calls.{rest_in, rest_at}
+use Rattle.walk_calls.specs.resting.Code.{walk_question, walk_end}
+use Rattle.walk_calls.proofs.resting.RestingLaws.{question_none, end_none}
 use Rattle.walk_shown.specs.question.Shown.{Given, given, shows, shows_some, dc_at_place, target_at_place, party_of, party_text, question_shown, end_path, end_shown}
 use Rattle.walk_shown.specs.question.Code.{root_party, Showable}
 use Rattle.walk_shown.specs.question.Shown.{party_at, party_call, name_at, name_call, path_at, path_call, question_at, question_call, end_at, end_call}
-use Rattle.walk_shown.specs.declared.question.Shown.TheVariants.{Units, NotInOrder, OutOfForm, ShortBuffer, NoEntry}
+use Rattle.walk_shown.specs.declared.question.ShowError.TheVariants.{NotInOrder, OutOfForm, ShortBuffer, NoEntry}
 
 -- a text put into the buffer
 module _ (text out : List ℕ) where
-  pub put_short : length out < length text → given ShortBuffer out ≡ shows text out
+  pub put_short : length out < length text → given (Err ShortBuffer) out ≡ shows text out
   unfolding shows
   put_short h = sym (choose_no _ _ (lt-leb (length text) (length out) h))
 
-  pub put_whole : {o : List ℕ} → length text ≤ length out → o ≡ pasted out 0 text → given (Units (length text)) o ≡ shows text out
+  pub put_whole : {o : List ℕ} → length text ≤ length out → o ≡ pasted out 0 text → given (Ok (length text)) o ≡ shows text out
   unfolding shows
-  put_whole h e = (λ j. given (Units (length text)) (e j)) ∙ sym (choose_yes _ _ (le-leb (length text) (length out) h))
+  put_whole h e = (λ j. given (Ok (length text)) (e j)) ∙ sym (choose_yes _ _ (le-leb (length text) (length out) h))
 
 pub shows_as : (out : List ℕ) {g : Given} {a b : List ℕ} → g ≡ shows a out → a ≡ b → g ≡ shows b out
 shows_as out h e = h ∙ ap (λ (t : List ℕ). shows t out) e
@@ -75,7 +77,7 @@ module _ (path doms : List ℕ) (place : ℕ) (out : List ℕ) {name : List ℕ}
   named_found : f ≡ with_key domains (get_or (components path) 0 []) (decode domains doms)
   named_found = place_named path doms n e
 
-  pub dc_gone : f ≡ None → given NoEntry out ≡ shows_some (dc_at_place place (domain_named (get_or (components path) 0 []) (decode domains doms))) out
+  pub dc_gone : f ≡ None → given (Err NoEntry) out ≡ shows_some (dc_at_place place (domain_named (get_or (components path) 0 []) (decode domains doms))) out
   unfolding shows_some dc_at_place domain_named
   dc_gone h = ap (λ (d : Option Domain). shows_some (dc_at_place place d) out) (sym (none_held (decode domains doms) (sym named_found ∙ h)))
 
@@ -99,7 +101,7 @@ module _ (path doms : List ℕ) (place : ℕ) (out : List ℕ) {name : List ℕ}
 
 -- a target of the entry of a prefix
 module _ (prefix refs : List ℕ) (place : ℕ) (out : List ℕ) {f : Option ℕ} (e : f ≡ with_key referrals prefix (decode referrals refs)) where
-  pub target_gone : f ≡ None → given NoEntry out ≡ shows_some (target_at_place place (prefixed prefix (decode referrals refs))) out
+  pub target_gone : f ≡ None → given (Err NoEntry) out ≡ shows_some (target_at_place place (prefixed prefix (decode referrals refs))) out
   unfolding shows_some target_at_place prefixed
   target_gone h = ap (λ (d : Option Referral). shows_some (target_at_place place d) out) (sym (none_held (decode referrals refs) (sym e ∙ h)))
 
@@ -198,7 +200,7 @@ module _ (refs doms path boot : List ℕ) (q : Asking) where
 
 -- the test of end 27
 module _ (c : Caches) (w : Core) (boot : List ℕ) (q : Question) (out : List ℕ) {b : Bool} (e : b ≡ is_in_use c w q) where
-  pub waiting_gone : b ≡ false → given NoEntry out ≡ shows_some (party_text c w boot q) out
+  pub waiting_gone : b ≡ false → given (Err NoEntry) out ≡ shows_some (party_text c w boot q) out
   unfolding party_text shows_some
   waiting_gone h = ap (λ (t : Option (List ℕ)). shows_some t out) (sym (choose_no _ _ (sym e ∙ h)))
 
@@ -348,12 +350,12 @@ module _ (w : Walk) (texts : List ℕ) {b : Bool} (e : b ≡ in_form w texts) (h
 -- the calls, by their tests
 module _ (refs doms : List ℕ) (w : Walk) (texts out : List ℕ) where
   module _ {a : Bool} (e : a ≡ (in_order referrals refs && in_order domains doms)) where
-    pub party_order : a ≡ false → given NotInOrder out ≡ party_call refs doms w texts out
+    pub party_order : a ≡ false → given (Err NotInOrder) out ≡ party_call refs doms w texts out
     unfolding party_call
     party_order h = sym (choose_no _ _ (sym e ∙ h))
 
     module _ (y : a ≡ true) {b : Bool} (f : b ≡ in_form w texts) where
-      pub party_form : b ≡ false → given OutOfForm out ≡ party_call refs doms w texts out
+      pub party_form : b ≡ false → given (Err OutOfForm) out ≡ party_call refs doms w texts out
       unfolding party_call
       party_form h = sym (choose_yes _ _ (sym e ∙ y) ∙ choose_no _ _ (sym f ∙ h))
 
@@ -362,7 +364,7 @@ module _ (refs doms : List ℕ) (w : Walk) (texts out : List ℕ) where
         unfolding party_call
         formed_party = choose_yes _ _ (sym e ∙ y) ∙ choose_yes _ _ (sym f ∙ h)
 
-        pub party_ended : (x : End) (s : ℕ) → w.next ≡ Ends x s → given OutOfForm out ≡ party_call refs doms w texts out
+        pub party_ended : (x : End) (s : ℕ) → w.next ≡ Ends x s → given (Err OutOfForm) out ≡ party_call refs doms w texts out
         unfolding party_at
         party_ended x s n =
             ap (λ (r : Rest). party_at (caches_of refs doms) (core_in w texts) (boot_in w texts) r out) (rest_ended w texts x s n) ∙ sym formed_party
@@ -378,24 +380,24 @@ module _ (refs doms : List ℕ) (w : Walk) (texts out : List ℕ) where
             ∙ (ap (λ (r : Rest). party_at (caches_of refs doms) (core_in w texts) (boot_in w texts) r out) (rest_waits w texts q n) ∙ sym formed_party)
 
 module _ (w : Walk) (texts out : List ℕ) {b : Bool} (f : b ≡ in_form w texts) where
-  pub name_form : b ≡ false → given OutOfForm out ≡ name_call w texts out
+  pub name_form : b ≡ false → given (Err OutOfForm) out ≡ name_call w texts out
   unfolding name_call
   name_form h = sym (choose_no _ _ (sym f ∙ h))
 
-  pub path_form : b ≡ false → given OutOfForm out ≡ path_call w texts out
+  pub path_form : b ≡ false → given (Err OutOfForm) out ≡ path_call w texts out
   unfolding path_call
   path_form h = sym (choose_no _ _ (sym f ∙ h))
 
-  pub question_form : b ≡ false → given OutOfForm out ≡ question_call w texts out
+  pub question_form : b ≡ false → given (Err OutOfForm) out ≡ question_call w texts out
   unfolding question_call
   question_form h = sym (choose_no _ _ (sym f ∙ h))
 
-  pub end_form_lem : b ≡ false → given OutOfForm out ≡ end_call w texts out
+  pub end_form_lem : b ≡ false → given (Err OutOfForm) out ≡ end_call w texts out
   unfolding end_call
   end_form_lem h = sym (choose_no _ _ (sym f ∙ h))
 
   module _ (h : b ≡ true) where
-    pub name_ended : (x : End) (s : ℕ) → w.next ≡ Ends x s → given OutOfForm out ≡ name_call w texts out
+    pub name_ended : (x : End) (s : ℕ) → w.next ≡ Ends x s → given (Err OutOfForm) out ≡ name_call w texts out
     unfolding name_call name_at
     name_ended x s n = ap (λ (r : Rest). name_at (core_in w texts) r out) (rest_ended w texts x s n) ∙ sym (choose_yes _ _ (sym f ∙ h))
 
@@ -408,7 +410,7 @@ module _ (w : Walk) (texts out : List ℕ) {b : Bool} (f : b ≡ in_form w texts
         (name_same (take w.path texts) 0 w.size true w.hit q (take w.tried (drop 256 texts)))
         ∙ (ap (λ (r : Rest). name_at (core_in w texts) r out) (rest_waits w texts q n) ∙ sym (choose_yes _ _ (sym f ∙ h)))
 
-    pub path_waits : (q : Asking) → w.next ≡ Asks q → given OutOfForm out ≡ path_call w texts out
+    pub path_waits : (q : Asking) → w.next ≡ Asks q → given (Err OutOfForm) out ≡ path_call w texts out
     unfolding path_call path_at
     path_waits q n = ap (λ (r : Rest). path_at (core_in w texts) w.moves r out) (rest_waits w texts q n) ∙ sym (choose_yes _ _ (sym f ∙ h))
 
@@ -418,7 +420,7 @@ module _ (w : Walk) (texts out : List ℕ) {b : Bool} (f : b ≡ in_form w texts
         shows_as out k (ap (end_path x (take w.path texts)) (part_as 256 w.tried texts))
         ∙ (ap (λ (r : Rest). path_at (core_in w texts) w.moves r out) (rest_ended w texts x s n) ∙ sym (choose_yes _ _ (sym f ∙ h)))
 
-    pub question_ended : (x : End) (s : ℕ) → w.next ≡ Ends x s → given OutOfForm out ≡ question_call w texts out
+    pub question_ended : (x : End) (s : ℕ) → w.next ≡ Ends x s → given (Err OutOfForm) out ≡ question_call w texts out
     unfolding question_call question_at
     question_ended x s n = ap (λ (r : Rest). question_at w.moves r out) (rest_ended w texts x s n) ∙ sym (choose_yes _ _ (sym f ∙ h))
 
@@ -429,7 +431,7 @@ module _ (w : Walk) (texts out : List ℕ) {b : Bool} (f : b ≡ in_form w texts
         shows_as out e (λ j. k j ∷ q.size ∷ w.moves ∷ [])
         ∙ (ap (λ (r : Rest). question_at w.moves r out) (rest_waits w texts q n) ∙ sym (choose_yes _ _ (sym f ∙ h)))
 
-    pub end_waits : (q : Asking) → w.next ≡ Asks q → given OutOfForm out ≡ end_call w texts out
+    pub end_waits : (q : Asking) → w.next ≡ Asks q → given (Err OutOfForm) out ≡ end_call w texts out
     unfolding end_call end_at
     end_waits q n = ap (λ (r : Rest). end_at w.moves r out) (rest_waits w texts q n) ∙ sym (choose_yes _ _ (sym f ∙ h))
 
@@ -439,16 +441,48 @@ module _ (w : Walk) (texts out : List ℕ) {b : Bool} (f : b ≡ in_form w texts
         shows_as out e (λ j. k j ∷ s ∷ w.moves ∷ [])
         ∙ (ap (λ (r : Rest). end_at w.moves r out) (rest_ended w texts x s n) ∙ sym (choose_yes _ _ (sym f ∙ h)))
 
+-- no question waits, or the walk has not ended
+pub party_unasked : (refs doms : List ℕ) (w : Walk) (texts out : List ℕ) {a : Bool} → a ≡ (in_order referrals refs && in_order domains doms) → a ≡ true
+    → walk_question w texts ≡ None → given (Err OutOfForm) out ≡ party_call refs doms w texts out
+party_unasked refs doms w texts out e y n = go (question_none w texts n)
+  where
+    go : (in_form w texts ≡ false) ⊎ ((in_form w texts ≡ true) × ((x : End) × ((s : ℕ) × (w.next ≡ Ends x s)))) → given (Err OutOfForm) out ≡ party_call refs doms w texts out
+    go (inl f) = party_form refs doms w texts out e y refl f
+    go (inr t) = party_ended refs doms w texts out e y refl t.0 t.1.0 t.1.1.0 t.1.1.1
+
+module _ (w : Walk) (texts out : List ℕ) where
+  pub name_unasked : walk_question w texts ≡ None → given (Err OutOfForm) out ≡ name_call w texts out
+  name_unasked n = go (question_none w texts n)
+    where
+      go : (in_form w texts ≡ false) ⊎ ((in_form w texts ≡ true) × ((x : End) × ((s : ℕ) × (w.next ≡ Ends x s)))) → given (Err OutOfForm) out ≡ name_call w texts out
+      go (inl f) = name_form w texts out refl f
+      go (inr t) = name_ended w texts out refl t.0 t.1.0 t.1.1.0 t.1.1.1
+
+  pub question_unasked : walk_question w texts ≡ None → given (Err OutOfForm) out ≡ question_call w texts out
+  question_unasked n = go (question_none w texts n)
+    where
+      go : (in_form w texts ≡ false) ⊎ ((in_form w texts ≡ true) × ((x : End) × ((s : ℕ) × (w.next ≡ Ends x s)))) → given (Err OutOfForm) out ≡ question_call w texts out
+      go (inl f) = question_form w texts out refl f
+      go (inr t) = question_ended w texts out refl t.0 t.1.0 t.1.1.0 t.1.1.1
+
+  pub path_unended : walk_end w texts ≡ None → given (Err OutOfForm) out ≡ path_call w texts out
+  path_unended n = go (end_none w texts n)
+    where
+      go : (in_form w texts ≡ false) ⊎ ((in_form w texts ≡ true) × ((q : Asking) × (w.next ≡ Asks q))) → given (Err OutOfForm) out ≡ path_call w texts out
+      go (inl f) = path_form w texts out refl f
+      go (inr t) = path_waits w texts out refl t.0 t.1.0 t.1.1
+
+  pub end_unended : walk_end w texts ≡ None → given (Err OutOfForm) out ≡ end_call w texts out
+  end_unended n = go (end_none w texts n)
+    where
+      go : (in_form w texts ≡ false) ⊎ ((in_form w texts ≡ true) × ((q : Asking) × (w.next ≡ Asks q))) → given (Err OutOfForm) out ≡ end_call w texts out
+      go (inl f) = end_form_lem w texts out refl f
+      go (inr t) = end_waits w texts out refl t.0 t.1.0 t.1.1
+
 -- three numbers
-pub numbers_short : (a b c : ℕ) (out : List ℕ) → length out < 3 → given ShortBuffer out ≡ shows (a ∷ b ∷ c ∷ []) out
+pub numbers_short : (a b c : ℕ) (out : List ℕ) → length out < 3 → given (Err ShortBuffer) out ≡ shows (a ∷ b ∷ c ∷ []) out
 numbers_short a b c out h = put_short (a ∷ b ∷ c ∷ []) out h
 
-pub numbers_put : (a b c : ℕ) (out : List ℕ) → 3 ≤ length out → given (Units 3) (set (set (set out 0 a) 1 b) 2 c) ≡ shows (a ∷ b ∷ c ∷ []) out
+pub numbers_put : (a b c : ℕ) (out : List ℕ) {m : List ℕ} → 3 ≤ length out → m ≡ a ∷ b ∷ c ∷ [] → given (Ok 3) (m ++ drop 3 out) ≡ shows (a ∷ b ∷ c ∷ []) out
 unfolding shows pasted
-numbers_put a b c out h = go out h
-  where
-    go : (l : List ℕ) → 3 ≤ length l → given (Units 3) (set (set (set l 0 a) 1 b) 2 c) ≡ choose (leb 3 (length l)) (given (Units 3) (pasted l 0 (a ∷ b ∷ c ∷ []))) (given ShortBuffer l)
-    go [] k = absurd (omega arith)
-    go (x ∷ []) k = absurd (omega arith)
-    go (x ∷ y ∷ []) k = absurd (omega arith)
-    go (x ∷ y ∷ z ∷ l) k = sym (choose_yes _ _ (le-leb 3 (length (x ∷ y ∷ z ∷ l)) k))
+numbers_put a b c out h e = ap (λ (x : List ℕ). given (Ok 3) (x ++ drop 3 out)) e ∙ sym (choose_yes _ _ (le-leb 3 (length out) h))

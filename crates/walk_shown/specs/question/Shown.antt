@@ -1,5 +1,5 @@
 -- What a host is shown of a walk: the question that waits (kind, party, name, size), or the end (number, status, path, moves).
-use Rattle.std.specs.Prelude.{ℕ, ◌&&◌, List, [], ◌∷◌, length, get_or, leb, eqb, Option, None, Some}
+use Rattle.std.specs.Prelude.{ℕ, ◌&&◌, List, [], ◌∷◌, length, get_or, leb, eqb, Result, Ok, Err, Option, None, Some}
 use Rattle.laws.specs.Choice.{choose}
 use Rattle.laws.specs.Lists.{pasted}
 use Rattle.unc.specs.names.Paths.{components}
@@ -16,17 +16,17 @@ use Rattle.walk_form.specs.held.Walks.{in_form, boot_in, core_in}
 use Rattle.walk_form.specs.declared.held.Walk.{Walk}
 use Rattle.walk_form.specs.packed.Packing.{kind_number}
 use Rattle.walk_calls.specs.calls.Calls.{rest_in}
-use Rattle.walk_shown.specs.declared.question.Shown.{Shown}
-use Rattle.walk_shown.specs.declared.question.Shown.TheVariants.{Units, NotInOrder, OutOfForm, ShortBuffer, NoEntry}
+use Rattle.walk_shown.specs.declared.question.ShowError.{ShowError}
+use Rattle.walk_shown.specs.declared.question.ShowError.TheVariants.{NotInOrder, OutOfForm, ShortBuffer, NoEntry}
 
 -- the numbers of what is not shown: 4 either cache not in order, 5 no such question or end, or out of form, 10 buffer shorter than the text,
 -- 27 the entry in use is gone or too short; 0 where the text is shown
-unfoldable pub shown_number : Shown → ℕ
-shown_number (Units n) = 0
-shown_number NotInOrder = 4
-shown_number OutOfForm = 5
-shown_number ShortBuffer = 10
-shown_number NoEntry = 27
+unfoldable pub shown_number : Result ℕ ShowError → ℕ
+shown_number (Ok n) = 0
+shown_number (Err NotInOrder) = 4
+shown_number (Err OutOfForm) = 5
+shown_number (Err ShortBuffer) = 10
+shown_number (Err NoEntry) = 27
 
 -- the DC and the target at a place of their entry
 unfoldable pub dc_at_place : ℕ → Option Domain → Option (List ℕ)
@@ -88,23 +88,23 @@ end_shown w e status tried moves =
 
 -- what a call gives back, and the buffer that it leaves
 pub record Given : Type 0 where
-  pub answer : Shown
+  pub answer : Result ℕ ShowError
   pub out : List ℕ
 
-abbrev pub given : Shown → List ℕ → Given
+abbrev pub given : Result ℕ ShowError → List ℕ → Given
 given answer out = record { answer = answer; out = out }
 
 -- a text at the start of the buffer, what stood past it stays; 10 where the buffer is shorter
 unfoldable pub shows : List ℕ → List ℕ → Given
-shows text out = choose (leb (length text) (length out)) (given (Units (length text)) (pasted out 0 text)) (given ShortBuffer out)
+shows text out = choose (leb (length text) (length out)) (given (Ok (length text)) (pasted out 0 text)) (given (Err ShortBuffer) out)
 
 unfoldable pub shows_some : Option (List ℕ) → List ℕ → Given
-shows_some None out = given NoEntry out
+shows_some None out = given (Err NoEntry) out
 shows_some (Some text) out = shows text out
 
 -- `question_party`: 4, 5, 27 or 10
 unfoldable pub party_at : Caches → Core → List ℕ → Rest → List ℕ → Given
-party_at c w boot (ended e status tried) out = given OutOfForm out
+party_at c w boot (ended e status tried) out = given (Err OutOfForm) out
 party_at c w boot (waits q) out = shows_some (question_shown c w boot q).party out
 
 unfoldable pub party_call : List ℕ → List ℕ → Walk → List ℕ → List ℕ → Given
@@ -112,37 +112,37 @@ party_call refs doms walk texts out =
     choose (in_order referrals refs && in_order domains doms)
     (choose (in_form walk texts)
     (party_at (caches_of refs doms) (core_in walk texts) (boot_in walk texts) (rest_in walk texts) out)
-    (given OutOfForm out))
-    (given NotInOrder out)
+    (given (Err OutOfForm) out))
+    (given (Err NotInOrder) out)
 
 -- `question_name`: 5 or 10
 unfoldable pub name_at : Core → Rest → List ℕ → Given
-name_at w (ended e status tried) out = given OutOfForm out
+name_at w (ended e status tried) out = given (Err OutOfForm) out
 name_at w (waits q) out = shows (name_asked w q) out
 
 unfoldable pub name_call : Walk → List ℕ → List ℕ → Given
-name_call walk texts out = choose (in_form walk texts) (name_at (core_in walk texts) (rest_in walk texts) out) (given OutOfForm out)
+name_call walk texts out = choose (in_form walk texts) (name_at (core_in walk texts) (rest_in walk texts) out) (given (Err OutOfForm) out)
 
 -- `end_path`: 5 or 10
 unfoldable pub path_at : Core → ℕ → Rest → List ℕ → Given
-path_at w moves (waits q) out = given OutOfForm out
+path_at w moves (waits q) out = given (Err OutOfForm) out
 path_at w moves (ended e status tried) out = shows (end_shown w e status tried moves).path out
 
 unfoldable pub path_call : Walk → List ℕ → List ℕ → Given
 path_call walk texts out =
-    choose (in_form walk texts) (path_at (core_in walk texts) walk.moves (rest_in walk texts) out) (given OutOfForm out)
+    choose (in_form walk texts) (path_at (core_in walk texts) walk.moves (rest_in walk texts) out) (given (Err OutOfForm) out)
 
 -- `question_numbers`: its kind and size, and the moves; `end_numbers`: its number, status and moves
 unfoldable pub question_at : ℕ → Rest → List ℕ → Given
-question_at moves (ended e status tried) out = given OutOfForm out
+question_at moves (ended e status tried) out = given (Err OutOfForm) out
 question_at moves (waits q) out = shows (kind_number q.kind ∷ q.size ∷ moves ∷ []) out
 
 unfoldable pub question_call : Walk → List ℕ → List ℕ → Given
-question_call walk texts out = choose (in_form walk texts) (question_at walk.moves (rest_in walk texts) out) (given OutOfForm out)
+question_call walk texts out = choose (in_form walk texts) (question_at walk.moves (rest_in walk texts) out) (given (Err OutOfForm) out)
 
 unfoldable pub end_at : ℕ → Rest → List ℕ → Given
-end_at moves (waits q) out = given OutOfForm out
+end_at moves (waits q) out = given (Err OutOfForm) out
 end_at moves (ended e status tried) out = shows (end_number e ∷ status ∷ moves ∷ []) out
 
 unfoldable pub end_call : Walk → List ℕ → List ℕ → Given
-end_call walk texts out = choose (in_form walk texts) (end_at walk.moves (rest_in walk texts) out) (given OutOfForm out)
+end_call walk texts out = choose (in_form walk texts) (end_at walk.moves (rest_in walk texts) out) (given (Err OutOfForm) out)

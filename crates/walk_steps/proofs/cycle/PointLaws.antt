@@ -9,6 +9,7 @@ use native.Mathlib.Omega.{arith}
 use lib.ListN.{length, take}
 use lib.Dec.{eqb}
 use borrow.Author.Tests.{le-leb, lt-leb, eq-eqb, ne_eqb, eqb-true}
+use Rattle.std.specs.Int.{from_bool}
 use Rattle.laws.specs.Choice.{choose}
 use Rattle.laws.proofs.Choices.{choose_yes, choose_no}
 use Rattle.laws.proofs.Tests.{not_both}
@@ -91,20 +92,18 @@ moves_fall n m a b c = omega arith
 
 -- the parts of a number
 module _ (what i len left : ℕ) (a : what < 16) (b : i < 65536) (c : len ≤ 256) where
-  pub parts_hit : {hit : Bool} {n : ℕ} → hit ≡ true → n ≡ what + 16 * i + 2097152 * len + 1073741824 * left + 1048576 → Parts what i hit len left n
-  parts_hit {hit} {n} t e = record {
+  pub parts_of : (hit : Bool) {n : ℕ} → n ≡ what + 16 * i + 1048576 * from_bool hit + 2097152 * len + 1073741824 * left → Parts what i hit len left n
+  parts_of true {n} e = record {
     its_case = omega arith;
     its_place = omega arith;
-    its_hit = eq-eqb (n / 1048576 % 2) 1 (omega arith) ∙ sym t;
+    its_hit = eq-eqb (n / 1048576 % 2) 1 (omega arith);
     its_units = omega arith;
     its_left = omega arith;
   }
-
-  pub parts_new : {hit : Bool} {n : ℕ} → hit ≡ false → n ≡ what + 16 * i + 2097152 * len + 1073741824 * left → Parts what i hit len left n
-  parts_new {hit} {n} t e = record {
+  parts_of false {n} e = record {
     its_case = omega arith;
     its_place = omega arith;
-    its_hit = ne_eqb (n / 1048576 % 2) 1 (λ z. omega arith) ∙ sym t;
+    its_hit = ne_eqb (n / 1048576 % 2) 1 (λ z. omega arith);
     its_units = omega arith;
     its_left = omega arith;
   }
@@ -129,12 +128,6 @@ module _ (what i n : ℕ) (a : what < 16) (b : i < 65536) where
   }
 
 -- what the look-ups find
-pub found_at : {f : Option ℕ} (i : ℕ) → i < 65536 → f ≡ Some i → FoundAt f i
-found_at i l e = record { none = λ h. absurd (omega arith); there = λ h. e }
-
-pub found_none : {f : Option ℕ} → f ≡ None → FoundAt f nowhere
-found_none e = record { none = λ h. e; there = λ h. absurd (h refl) }
-
 module _ (doms path : List ℕ) where
   pub dc_none : ((size : ℕ) (hit : Bool) → step5 (decode domains doms) (core_of path size hit) ≡ step6_host (core_of path size hit)) → DcAt doms path nowhere
   dc_none e = record { host = λ h. e; without = λ h. absurd (omega arith); dc = λ a b. absurd (a refl); few = λ a b. absurd (a refl) }

@@ -17,42 +17,10 @@ use Rattle.walk_steps.specs.steps.Held.{next_of, asking_of}
 use Rattle.walk_steps.specs.declared.steps.Kind.{Kind}
 use Rattle.walk_steps.specs.declared.steps.Kind.TheVariants.{Dc, Root, Link, Sysvol, Io}
 use Rattle.walk_steps.specs.declared.steps.End.{End}
-use Rattle.walk_steps.specs.declared.steps.Asking.{Asking}
 use Rattle.walk_steps.specs.declared.steps.Next.{Next}
 use Rattle.walk_steps.specs.declared.steps.Next.TheVariants.{Asks, Ends}
 use Rattle.walk_steps.specs.question_request.Questions.{request_name, name_fits, rest_fits, with_request, out_after}
 use Rattle.walk_steps.specs.question_request.Code.{name_units, next_units, named}
-
--- by the kind
-module _ (kind : Kind) (path : List ℕ) {n : ℕ} where
-  pub units_dc : kind ≡ Dc → n ≡ length (first_of 1 path) → Some n ≡ name_units kind path
-  unfolding name_units
-  units_dc h e = rw (h, e)
-
-  pub units_root : kind ≡ Root → n ≡ length (first_of 2 path) → Some n ≡ name_units kind path
-  unfolding name_units
-  units_root h e = rw (h, e)
-
-  pub units_sysvol : kind ≡ Sysvol → n ≡ length (first_of 2 path) → Some n ≡ name_units kind path
-  unfolding name_units
-  units_sysvol h e = rw (h, e)
-
-pub units_link : (kind : Kind) (path : List ℕ) → kind ≡ Link → Some (length path) ≡ name_units kind path
-unfolding name_units
-units_link kind path h = rw h
-
-pub units_io : (kind : Kind) (path : List ℕ) → kind ≡ Io → None ≡ name_units kind path
-unfolding name_units
-units_io kind path h = rw h
-
--- by the next move
-pub units_ends : (next : Next) (path : List ℕ) (e : End) (status : ℕ) → next ≡ Ends e status → None ≡ next_units next path
-unfolding next_units
-units_ends next path e status h = rw h
-
-pub units_asks : (next : Next) (path : List ℕ) (q : Asking) {r : Option ℕ} → next ≡ Asks q → r ≡ name_units q.kind path → r ≡ next_units next path
-unfolding next_units
-units_asks next path q h e = e ∙ rw h
 
 -- the name lies inside the path
 kind_within : (kind : Kind) (path : List ℕ) (n : ℕ) → name_units kind path ≡ Some n → n ≤ length path

@@ -1,14 +1,14 @@
 -- Laws of rounds: how many parties there are, and whether the entry in use has them.
 use Rattle.std.specs.Prelude.{Option, Some, None}
+use Rattle.std.specs.Option.{is_some}
 use mathlib.Core.Path.{◌≡◌, refl, sym, ap, ◌∙◌}
 use mathlib.Core.Bool.{Bool, true, false, ◌||◌}
 use mathlib.Core.List.{List, []}
-use Prim.Native.Nat.{ℕ, ◌+◌, ◌≤◌, ◌<◌}
+use Prim.Native.Nat.{ℕ, ◌≤◌, ◌<◌}
 use native.Mathlib.Omega.{arith}
 use lib.ListN.{length, get_or, take}
 use lib.Dec.{ltb, eqb}
-use borrow.Author.Tests.{eq-eqb, ne_eqb, lt-ltb, le-ltb, le-leb, lt-leb}
-use Rattle.laws.proofs.Choices.{choose_yes, choose_no}
+use borrow.Author.Tests.{lt-ltb, le-ltb}
 use Rattle.unc.specs.names.Paths.{components}
 use Rattle.cache.specs.places.Layout.{place_count}
 use Rattle.cache.specs.order.Memory.{referrals, domains, decode}
@@ -16,7 +16,7 @@ use Rattle.cache_lookup.specs.Lookup.{with_key}
 use Rattle.cache_lookup.specs.Code.{entry_at}
 use Rattle.cache_lookup.proofs.EntryLaws.{count_targets, count_dcs}
 use Rattle.cache_store.specs.entry_after_reply.Stored.{held, prefixed}
-use Rattle.walk_steps.specs.steps.Steps.{Caches, domain_named, is_there, dc_count, target_count, domain_in_use, referral_in_use, party_count, is_in_use, next_place}
+use Rattle.walk_steps.specs.steps.Steps.{Caches, domain_named, is_there, dc_count, target_count, domain_in_use, referral_in_use, party_count, is_in_use}
 use Rattle.walk_steps.specs.steps.Held.{caches_of, core_of, question_of}
 use Rattle.walk_steps.specs.declared.steps.Kind.{Kind}
 use Rattle.walk_steps.specs.declared.steps.Kind.TheVariants.{Dc, Root, Link, Sysvol, Io}
@@ -49,6 +49,11 @@ module _ (path raw : List ℕ) {f : Option ℕ} (e : f ≡ with_key domains (get
     pub dcs_held : {n : ℕ} → n ≡ length (entry_at domains i raw).dcs → n ≡ dcs_named path raw
     unfolding dcs_named domain_named dc_count
     dcs_held g = g ∙ sym (ap dc_count (key_held domains (get_or (components path) 0 []) raw i (sym e ∙ h)))
+
+-- there where a place was found
+pub there_told : (path raw : List ℕ) (f : Option ℕ) → f ≡ with_key domains (get_or (components path) 0 []) (decode domains raw) → is_some f ≡ domain_there path raw
+there_told path raw None e = there_gone path raw e refl
+there_told path raw (Some i) e = there_held path raw e i refl
 
 -- the entry of a prefix
 module _ (prefix raw : List ℕ) {f : Option ℕ} (e : f ≡ with_key referrals prefix (decode referrals raw)) where
@@ -90,22 +95,6 @@ module _ (n party began : ℕ) where
   pub round_on : party < n → ltb began n ≡ in_round n party began
   unfolding in_round
   round_on h = rw (lt-ltb party n h)
-
-pub root_host : (entry : ℕ) (b : Bool) → entry ≡ 0 → true ≡ (eqb entry 0 || b)
-root_host entry b h = rw (eq-eqb entry 0 h)
-
-pub root_round : (entry party began : ℕ) {r : Bool} {n m : ℕ} → (entry ≡ 0 → ⊥) → r ≡ in_round m party began → m ≡ n → r ≡ (eqb entry 0 || in_round n party began)
-root_round entry party began h e g = rw (ne_eqb entry 0 h) (e ∙ ap (λ (x : ℕ). in_round x party began) g)
-
--- the place after
-module _ (n place : ℕ) where
-  pub next_first : n ≤ place + 1 → 0 ≡ next_place n place
-  unfolding next_place
-  next_first h = sym (choose_yes _ _ (le-leb n (place + 1) h))
-
-  pub next_after : place + 1 < n → place + 1 ≡ next_place n place
-  unfolding next_place
-  next_after h = sym (choose_no _ _ (lt-leb n (place + 1) h))
 
 -- whether the entry in use is there does not depend on the size, the hit and the path tried
 pub in_use_same : (c : Caches) (path : List ℕ) (size more : ℕ) (hit other : Bool) (q : Asking) (tried others : List ℕ)

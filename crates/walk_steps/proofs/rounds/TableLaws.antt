@@ -1,23 +1,14 @@
 -- Laws of a search in a table.
-use mathlib.Core.Path.{◌≡◌}
-use mathlib.Core.Bool.{true, false}
-use mathlib.Core.List.{List}
-use Prim.Native.Nat.{ℕ, ◌+◌, ◌≤◌, ◌<◌}
-use native.Mathlib.Numerals.{add-one}
-use lib.ListN.{length, get_or, drop, drop_of_length-le}
-use lib.Seq.{drop-cons}
-use borrow.Author.Tests.{eq-eqb, ne_eqb}
+use Rattle.std.proofs.Common.{◌≡◌, refl, arith, ℕ, List, [], ◌∷◌, ◌||◌}
+use Rattle.std.specs.List.{list_any}
+use lib.Dec.{eqb}
 use Rattle.walk_steps.specs.steps.Steps.{is_one_of}
 
-module _ (n : ℕ) (table : List ℕ) (i : ℕ) where
-  pub one_hit : i < length table → n ≡ get_or table i 0 → is_one_of n (drop i table) ≡ true
-  unfolding is_one_of
-  one_hit h e = rw (drop-cons table i 0 h, eq-eqb n (get_or table i 0) e)
+eqb_swap : (m n : ℕ) → eqb m n ≡ eqb n m
+eqb_swap m n = grind arith
 
-  pub one_miss : i < length table → (n ≡ get_or table i 0 → ⊥) → is_one_of n (drop i table) ≡ is_one_of n (drop (i + 1) table)
-  unfolding is_one_of
-  one_miss h e = rw (add-one, drop-cons table i 0 h, ne_eqb n (get_or table i 0) e)
-
-  pub one_end : length table ≤ i → is_one_of n (drop i table) ≡ false
-  unfolding is_one_of
-  one_end h = rw (drop_of_length-le table h)
+-- the library's search
+pub one_found : (n : ℕ) (table : List ℕ) → list_any (λ y. eqb y n) table ≡ is_one_of n table
+unfolding is_one_of
+one_found n [] = refl
+one_found n (m ∷ ms) = λ i. eqb_swap m n i || one_found n ms i

@@ -9,7 +9,7 @@ use native.Mathlib.Omega.{arith}
 use lib.ListN.{length, get_or, take, drop, length-take}
 use lib.Seq.{length-take-le}
 use lib.Dec.{leb}
-use borrow.Author.Tests.{eq-eqb, ne_eqb, le-leb, leb-true, eqb-true}
+use borrow.Author.Tests.{ne_eqb, le-leb, leb-true, eqb-true}
 use Rattle.laws.specs.Choice.{choose}
 use Rattle.laws.proofs.Choices.{choose_yes, choose_no, and_left, and_right}
 use Rattle.laws.proofs.Orders.{told}
@@ -26,35 +26,12 @@ use Rattle.cache_lookup.specs.Lookup.{with_key}
 use Rattle.cache_lookup.specs.Code.{entry_at}
 use Rattle.walk_steps.specs.steps.Steps.{Core, Question, waits, ended, rests, asking}
 use Rattle.walk_steps.specs.steps.Held.{asking_of, next_of, tried_of}
-use Rattle.walk_steps.specs.steps.Code.{rested_of, ended_at, asked_at, rested_at, domain_asking, root_at, root_in}
-use Rattle.walk_steps.specs.declared.steps.Kind.{Kind}
-use Rattle.walk_steps.specs.declared.steps.End.{End}
-use Rattle.walk_steps.specs.declared.steps.End.TheVariants.{LimitReached, TooLong}
+use Rattle.walk_steps.specs.steps.Code.{rested_of, ended_at, asked_at, root_at, root_in}
+use Rattle.walk_steps.specs.declared.steps.End.TheVariants.{TooLong}
 use Rattle.walk_steps.specs.declared.steps.Asking.{Asking}
-use Rattle.walk_steps.specs.declared.steps.Next.{Next}
-use Rattle.walk_steps.specs.declared.steps.Next.TheVariants.{Asks, Ends}
+use Rattle.walk_steps.specs.declared.steps.Next.TheVariants.{Asks}
 use Rattle.walk_steps.specs.declared.steps.Rested.{Rested}
 use Rattle.walk_steps.proofs.steps.HeldLaws.{key_fits}
-
--- a question put, or the limit
-module _ (q : Asking) (path left : ℕ) (hit : Bool) where
-  pub asked_limit : {r : Rested} → r ≡ ended_at LimitReached 0 path left hit → left ≡ 0 → r ≡ asked_at q path left hit
-  unfolding asked_at
-  asked_limit e h = e ∙ sym (choose_yes _ _ (eq-eqb left 0 h))
-
-  pub asked_put : (left ≡ 0 → ⊥) → record { next = Asks q; path = path; tried = 0; left = left - 1; hit = hit } ≡ asked_at q path left hit
-  unfolding asked_at
-  asked_put h = sym (choose_no _ _ (ne_eqb left 0 h))
-
--- the rest at a next move
-module _ {r : Rested} (next : Next) (path left : ℕ) (hit : Bool) where
-  pub rests_asked : (q : Asking) → next ≡ Asks q → r ≡ asked_at q path left hit → r ≡ rested_at next path left hit
-  unfolding rested_at
-  rests_asked q h e = e ∙ sym (ap (λ (n : Next). rested_at n path left hit) h)
-
-  pub rests_ended : (e : End) (status : ℕ) → next ≡ Ends e status → r ≡ ended_at e status path left hit → r ≡ rested_at next path left hit
-  unfolding rested_at
-  rests_ended e status h f = f ∙ sym (ap (λ (n : Next). rested_at n path left hit) h)
 
 -- it is what the steps do with a question that has no path tried
 pub asked_rests : (left : ℕ) (w : Core) (q : Question) → q.tried ≡ [] → asked_at (asking_of q) (length w.path) left w.hit ≡ rested_of (asking left w q)
@@ -120,11 +97,6 @@ first_within k path e = omega (arith, (spans k path).inside)
 pub first_part : (path : List ℕ) (ps : List (Place Referral)) {n : ℕ} {f : Option ℕ} → n ≡ length (first_of 2 path) → f ≡ with_key referrals (take n path) ps
     → f ≡ with_key referrals (first_of 2 path) ps
 first_part path ps e h = h ∙ ((λ j. with_key referrals (take (e j) path) ps) ∙ ap (λ (x : List ℕ). with_key referrals x ps) (spans 2 path).begin)
-
-pub domain_asking_lem : (kind : Kind) (path : List ℕ) (party size : ℕ) {n : ℕ} → n ≡ length (first_of 1 path)
-    → record { kind = kind; entry = n; party = party; began = party; size = size; uncovered = false } ≡ domain_asking kind path party size
-unfolding domain_asking
-domain_asking_lem kind path party size e = λ j. record { kind = kind; entry = e j; party = party; began = party; size = size; uncovered = false }
 
 -- numbers that fit a unit
 pub prefix_within : (i : ℕ) (raw : List ℕ) → length (entry_at referrals i raw).prefix ≤ 256

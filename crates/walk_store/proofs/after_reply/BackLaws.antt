@@ -1,6 +1,6 @@
 -- Laws of what comes after a reply that was taken: where the steps rest, and both caches put back.
 use mathlib.Core.Path.{◌≡◌, refl, sym, ap, ◌∙◌}
-use mathlib.Core.Bool.{Bool, true, false}
+use mathlib.Core.Bool.{Bool, true}
 use mathlib.Core.List.{List, []}
 use Prim.Native.Nat.{ℕ}
 use lib.ListN.{take}
@@ -26,28 +26,6 @@ use Rattle.walk_store.specs.declared.reply_taken.Taken.TheVariants.{Ends, Dcs, E
 use Rattle.walk_store.specs.party_hint.Code.{Lent, lent_caches, unhinted}
 use Rattle.walk_store.specs.reply_taken.Code.{taken_turn, put_back}
 use Rattle.walk_store.specs.after_reply.Code.{is_for_sysvol}
-
--- by the kind of the question
-module _ (kind : Kind) where
-  pub plain_dc : kind ≡ Dc → false ≡ is_for_sysvol kind
-  unfolding is_for_sysvol
-  plain_dc h = ap is_for_sysvol (sym h)
-
-  pub plain_root : kind ≡ Root → false ≡ is_for_sysvol kind
-  unfolding is_for_sysvol
-  plain_root h = ap is_for_sysvol (sym h)
-
-  pub plain_link : kind ≡ Link → false ≡ is_for_sysvol kind
-  unfolding is_for_sysvol
-  plain_link h = ap is_for_sysvol (sym h)
-
-  pub for_sysvol : kind ≡ Sysvol → true ≡ is_for_sysvol kind
-  unfolding is_for_sysvol
-  for_sysvol h = ap is_for_sysvol (sym h)
-
-  pub plain_io : kind ≡ Io → false ≡ is_for_sysvol kind
-  unfolding is_for_sysvol
-  plain_io h = ap is_for_sysvol (sym h)
 
 after_kind : (k : Kind) (w : Core) (e : Referral) → called_after (is_for_sysvol k) w e ≡ after_store k w e
 unfolding called_after is_for_sysvol after_store

@@ -31,32 +31,6 @@ use Rattle.walk_store.specs.declared.party_hint.HintOf.TheVariants.{Nobody, Targ
 use Rattle.walk_store.specs.party_hint.Code.{whose_of, lent_caches, unhinted, Unhintable, Hinting, Using}
 use Rattle.walk_store.proofs.party_hint.HintLaws.{target_held, target_order, target_fits, target_below, target_back, dc_held, dc_order, dc_fits, dc_below, dc_back}
 
--- whose hint it is
-module _ (k : Kind) (entry : ℕ) where
-  pub whose_dc : k ≡ kind.Dc → Nobody ≡ whose_of k entry
-  unfolding whose_of
-  whose_dc h = ap (λ (x : Kind). whose_of x entry) (sym h)
-
-  pub whose_host : k ≡ kind.Root → entry ≡ 0 → Nobody ≡ whose_of k entry
-  unfolding whose_of
-  whose_host h z = sym (choose_yes Nobody Dcs (eq-eqb entry 0 z)) ∙ ap (λ (x : Kind). whose_of x entry) (sym h)
-
-  pub whose_domain : k ≡ kind.Root → (entry ≡ 0 → ⊥) → Dcs ≡ whose_of k entry
-  unfolding whose_of
-  whose_domain h z = sym (choose_no Nobody Dcs (ne_eqb entry 0 z)) ∙ ap (λ (x : Kind). whose_of x entry) (sym h)
-
-  pub whose_link : k ≡ kind.Link → Targets ≡ whose_of k entry
-  unfolding whose_of
-  whose_link h = ap (λ (x : Kind). whose_of x entry) (sym h)
-
-  pub whose_sysvol : k ≡ kind.Sysvol → Dcs ≡ whose_of k entry
-  unfolding whose_of
-  whose_sysvol h = ap (λ (x : Kind). whose_of x entry) (sym h)
-
-  pub whose_io : k ≡ kind.Io → Targets ≡ whose_of k entry
-  unfolding whose_of
-  whose_io h = ap (λ (x : Kind). whose_of x entry) (sym h)
-
 numbered : HintOf → ℕ
 numbered Nobody = 0
 numbered Targets = 1
@@ -295,17 +269,3 @@ module _ (refs doms path : List ℕ) (q : Asking) (u : Using refs doms path q) {
       → (size : ℕ) (hit : Bool) → Hinting refs doms h refs m (hint_set (caches_of refs doms) (core_of path size hit) (question_of q []))
   dcs_set t {h} {m} f size hit =
       subst (Hinting refs doms h refs m) (set_dcs (caches_of refs doms) (core_of path size hit) q q.kind refl (sym e ∙ t)) (f refs size hit u.refs_order)
-
--- the hint taken back
-module _ (h : Hinted) (refs doms : List ℕ) where
-  pub back_none : h ≡ Unset → lent_caches refs doms ≡ unhinted h refs doms
-  unfolding unhinted
-  back_none e = ap (λ (k : Hinted). unhinted k refs doms) (sym e)
-
-  pub back_target : {i old : ℕ} {m : List ℕ} → h ≡ Target i old → m ≡ encode referrals (target_hinted i old (decode referrals refs)) → lent_caches m doms ≡ unhinted h refs doms
-  unfolding unhinted
-  back_target e a = (λ j. lent_caches (a j) doms) ∙ ap (λ (k : Hinted). unhinted k refs doms) (sym e)
-
-  pub back_dc : {i old : ℕ} {m : List ℕ} → h ≡ Dc i old → m ≡ encode domains (dc_hinted i old (decode domains doms)) → lent_caches refs m ≡ unhinted h refs doms
-  unfolding unhinted
-  back_dc e a = (λ j. lent_caches refs (a j)) ∙ ap (λ (k : Hinted). unhinted k refs doms) (sym e)

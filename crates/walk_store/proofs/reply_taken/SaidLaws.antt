@@ -21,12 +21,11 @@ use Rattle.cache.specs.order.Order.{good_prefix, good_target, first_opens_none, 
 use Rattle.cache.proofs.order.KindLaws.{prefix_short, good_referral_lem}
 use Rattle.reply_read.specs.referral.Replies as replies
 use Rattle.reply_read.specs.referral.Replies.{read_referral}
-use Rattle.reply_read.specs.referral.Code.{ReferralInside, kept_inside, is_inside, target_shown, referral_shown, denoted}
+use Rattle.reply_read.specs.referral.Code.{ReferralInside, kept_inside, is_inside, target_shown, referral_shown}
 use Rattle.reply_read.specs.declared.referral.Kept.{Kept}
 use Rattle.reply_read.specs.declared.referral.ReferralFound.{ReferralFound}
-use Rattle.reply_read.specs.declared.referral.Answer.TheVariants.{Says}
 use Rattle.reply_read.proofs.referral.SaysLaws as said
-use Rattle.reply_read.proofs.referral.SaysLaws.{Sound, says_sound, denoted_says}
+use Rattle.reply_read.proofs.referral.SaysLaws.{Sound, says_sound}
 use Rattle.cache_entry.specs.write_entry.Code.{kept_fits}
 use Rattle.cache_store.specs.entry_after_reply.Stored.{fresh}
 use Rattle.cache_store.specs.entry_after_reply.Code.{Storable}
@@ -124,9 +123,9 @@ fresh_good asked x s g =
       hinted = omega (arith, s.some);
     })
 
-module _ (size : ℕ) (asked r : List ℕ) (f : ReferralFound) (e : denoted r f ≡ read_referral size asked r) (h : f.answer ≡ Says) where
+module _ (size : ℕ) (asked r : List ℕ) (f : ReferralFound) (e : replies.says (referral_shown r f) ≡ read_referral size asked r) where
   sound : Sound asked (referral_shown r f)
-  sound = says_sound size asked r (referral_shown r f) (sym e ∙ denoted_says r f h)
+  sound = says_sound size asked r (referral_shown r f) (sym e)
 
   good_targets : every path_good (referral_shown r f).targets ≡ true
   good_targets = targets_good (referral_shown r f).targets sound.targets_normal

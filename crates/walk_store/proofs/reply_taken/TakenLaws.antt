@@ -1,17 +1,14 @@
 -- Laws of a reply that is taken: what it calls for, the turn that it makes, and the caches put back.
-use Rattle.std.specs.Prelude.{Option, Some, None}
 use mathlib.Core.Path.{◌≡◌, refl, sym, ap, ◌∙◌, subst}
-use mathlib.Core.Bool.{Bool, true, false, not, ◌&&◌, ◌||◌, true≢false}
+use mathlib.Core.Bool.{Bool, true, false, ◌&&◌, ◌||◌, true≢false}
 use mathlib.Core.List.{List, [], map}
-use mathlib.Core.Logic.{◌⊎◌, inl, inr}
 use Prim.Native.Nat.{ℕ, ◌<◌}
 use native.Mathlib.Omega.{arith}
 use lib.ListN.{length, get_or, take}
 use lib.Seq.{take_all}
 use lib.Dec.{leb}
-use borrow.Author.Tests.{eq-eqb, ne_eqb, not-true, not-false}
+use borrow.Author.Tests.{eq-eqb}
 use Rattle.laws.proofs.Choices.{choose_yes, choose_no}
-use Rattle.laws.proofs.Orders.{told}
 use Rattle.unc.specs.names.Paths.{components, first_of, matches}
 use Rattle.unc.proofs.names.PieceLaws.{spans}
 use Rattle.reply_bytes.specs.texts.Code.{spanned}
@@ -24,18 +21,19 @@ use Rattle.cache.specs.order.Memory.{referrals, domains, decode, encode, in_orde
 use Rattle.cache_lookup.specs.Lookup.{with_key}
 use Rattle.reply_read.specs.referral.Replies as replies
 use Rattle.reply_read.specs.referral.Replies.{read_referral}
-use Rattle.reply_read.specs.referral.Code.{ReferralInside, referral_shown, reply_of, denoted}
+use Rattle.reply_read.specs.referral.Code.{ReferralInside, referral_shown, unread, denoted}
 use Rattle.reply_read.specs.declared.referral.ReferralFound.{ReferralFound}
-use Rattle.reply_read.specs.declared.referral.Answer.{Answer}
-use Rattle.reply_read.specs.declared.referral.Answer.TheVariants as answer
+use Rattle.std.specs.Prelude.{Ok, Err, Option, Some, None}
+use Rattle.reply_read.specs.declared.referral.Unread.{Unread}
+use Rattle.reply_read.specs.declared.referral.Unread.TheVariants as reason
 use Rattle.reply_read.specs.name_lists.NameLists.{read_dcs}
-use Rattle.reply_read.specs.name_lists.Code.{denoted_dcs, DcsInside}
+use Rattle.reply_read.specs.name_lists.Code.{dcs_shown, DcsInside}
 use Rattle.reply_read.specs.declared.name_lists.DcsFound.{DcsFound}
 use Rattle.cache_store.specs.entry_after_reply.Stored.{is_interlink, stored, stored_entry, prefixed, store_place, dcs_stored}
 use Rattle.cache_store.specs.entry_after_reply.Code.{Storable}
 use Rattle.cache_store.specs.domain_cache.Code.{DomainAt, StorableDcs}
 use Rattle.cache_store.proofs.domain_cache.DcLaws.{domain_found, storable_dcs}
-use Rattle.walk_steps.specs.steps.Steps.{Caches, Core, Question, Called, ends, asks, Turn, with_hit, with_domains, with_referrals, empty_end, covers_nothing, step3, step4, step5, step7, step8, step11, after_store, stored_turn, hint_set, dcs_in, dc_answer, referral_answer, referral_succeeds, name_asked, path_not_found, path_not_covered}
+use Rattle.walk_steps.specs.steps.Steps.{Caches, Core, Question, ends, asks, Turn, with_hit, with_domains, with_referrals, empty_end, covers_nothing, step3, step4, step5, step7, step8, step11, after_store, stored_turn, hint_set, dcs_in, dc_answer, referral_answer, referral_succeeds, name_asked, path_not_found, path_not_covered}
 use Rattle.walk_steps.specs.steps.Held.{caches_of, core_of, question_of}
 use Rattle.walk_steps.specs.declared.steps.Kind.{Kind}
 use Rattle.walk_steps.specs.declared.steps.Kind.TheVariants as kind
@@ -49,114 +47,14 @@ use Rattle.walk_store.specs.declared.party_hint.Hinted.{Hinted}
 use Rattle.walk_store.specs.declared.party_hint.Hinted.TheVariants.{Unset}
 use Rattle.walk_store.specs.declared.reply_taken.Taken.{Taken}
 use Rattle.walk_store.specs.declared.reply_taken.Taken.TheVariants.{Ends, Dcs, Entry}
-use Rattle.walk_store.specs.declared.reply_taken.Said.{Said}
-use Rattle.walk_store.specs.declared.reply_taken.Said.TheVariants.{Stops, Stores}
 use Rattle.walk_store.specs.declared.reply_taken.Awaited.{Awaited}
 use Rattle.walk_store.specs.declared.reply_taken.Awaited.TheVariants as awaited
 use Rattle.walk_store.specs.party_hint.Code.{lent_caches, unhinted, Unhintable, Hinting, Using}
-use Rattle.walk_store.specs.reply_taken.Code.{awaited_by, NamedIn, covers_no_more, said_of, saved_in, taken_turn, put_back, CanPutBack, TakenIn}
+use Rattle.walk_store.specs.reply_taken.Code.{awaited_by, NamedIn, covers_no_more, unread_taken, saved_in, taken_turn, put_back, CanPutBack, TakenIn}
 use Rattle.walk_store.proofs.reply_taken.PlaceLaws.{place_inside, more_stored, more_order, entry_there, more_fits, more_usable, more_back, dcs_decoded, dcs_order, dcs_inside, dcs_back}
 use Rattle.walk_store.proofs.reply_taken.SaidLaws.{first_whole, said_storable, said_matches}
 
--- the end of a reply without an entry
-module _ (k : Kind) where
-  pub empty_dc : k ≡ kind.Dc → end.NoDc ≡ empty_end k
-  unfolding empty_end
-  empty_dc h = ap empty_end (sym h)
-
-  pub empty_root : k ≡ kind.Root → end.Failed ≡ empty_end k
-  unfolding empty_end
-  empty_root h = ap empty_end (sym h)
-
-  pub empty_link : k ≡ kind.Link → end.Failed ≡ empty_end k
-  unfolding empty_end
-  empty_link h = ap empty_end (sym h)
-
-  pub empty_sysvol : k ≡ kind.Sysvol → end.NoDc ≡ empty_end k
-  unfolding empty_end
-  empty_sysvol h = ap empty_end (sym h)
-
-  pub empty_io : k ≡ kind.Io → end.Failed ≡ empty_end k
-  unfolding empty_end
-  empty_io h = ap empty_end (sym h)
-
--- step 8.1.2, by numbers
-module _ (q : Asking) (root : Bool) (units : ℕ) where
-  pub cover_off : not q.uncovered ≡ true → false ≡ covers_no_more q root units
-  unfolding covers_no_more
-  cover_off h = sym (ap (λ (b : Bool). b && (root || leb units q.entry)) (not-true q.uncovered h))
-
-  module _ (h : not q.uncovered ≡ false) where
-    cover_on : (root || leb units q.entry) ≡ covers_no_more q root units
-    unfolding covers_no_more
-    cover_on = sym (ap (λ (b : Bool). b && (root || leb units q.entry)) (not-false q.uncovered h))
-
-    pub cover_root : root ≡ true → true ≡ covers_no_more q root units
-    cover_root g = sym (ap (λ (b : Bool). b || leb units q.entry) g) ∙ cover_on
-
-    pub cover_short : root ≡ false → leb units q.entry ≡ covers_no_more q root units
-    cover_short g = sym (ap (λ (b : Bool). b || leb units q.entry) g) ∙ cover_on
-
--- what a reply calls for
-module _ (q : Asking) (a : Answer) (root : Bool) (units : ℕ) where
-  pub said_malformed : a ≡ answer.Malformed → Stops end.Malformed 0 ≡ said_of q a root units
-  unfolding said_of
-  said_malformed h = ap (λ (x : Answer). said_of q x root units) (sym h)
-
-  pub said_nothing : {e : End} → a ≡ answer.Nothing → e ≡ empty_end q.kind → Stops e path_not_found ≡ said_of q a root units
-  unfolding said_of
-  said_nothing h g = ap (λ (x : End). Stops x path_not_found) g ∙ ap (λ (x : Answer). said_of q x root units) (sym h)
-
-  module _ {b : Bool} (h : a ≡ answer.Says) (e : b ≡ covers_no_more q root units) where
-    pub said_covered : b ≡ true → Stops end.Failed path_not_covered ≡ said_of q a root units
-    unfolding said_of
-    said_covered t = sym (choose_yes (Stops end.Failed path_not_covered) Stores (sym e ∙ t)) ∙ ap (λ (x : Answer). said_of q x root units) (sym h)
-
-    pub said_stores : b ≡ false → Stores ≡ said_of q a root units
-    unfolding said_of
-    said_stores t = sym (choose_no (Stops end.Failed path_not_covered) Stores (sym e ∙ t)) ∙ ap (λ (x : Answer). said_of q x root units) (sym h)
-
--- the header alone tells an Interlink
-module _ (reply doms : List ℕ) (f : ReferralFound) where
-  pub link_off : not f.servers ≡ true → false ≡ is_interlink (referral_shown reply f) (decode domains doms)
-  unfolding is_interlink referral_shown
-  link_off h = sym (ap (λ (b : Bool). b && not f.storage) (not-true f.servers h))
-
-  pub link_on : not f.servers ≡ false → not f.storage ≡ is_interlink (referral_shown reply f) (decode domains doms)
-  unfolding is_interlink referral_shown
-  link_on h = sym (ap (λ (b : Bool). b && not f.storage) (not-false f.servers h))
-
--- the reply that is awaited
-module _ (k : Kind) (path : List ℕ) where
-  pub awaits_dc : k ≡ kind.Dc → awaited.DcNames ≡ awaited_by k path
-  unfolding awaited_by
-  awaits_dc h = ap (λ (x : Kind). awaited_by x path) (sym h)
-
-  pub awaits_root : {n : ℕ} → k ≡ kind.Root → n ≡ length (first_of 2 path) → awaited.Referral n ≡ awaited_by k path
-  unfolding awaited_by
-  awaits_root h e = ap awaited.Referral e ∙ ap (λ (x : Kind). awaited_by x path) (sym h)
-
-  pub awaits_link : k ≡ kind.Link → awaited.Referral (length path) ≡ awaited_by k path
-  unfolding awaited_by
-  awaits_link h = ap (λ (x : Kind). awaited_by x path) (sym h)
-
-  pub awaits_sysvol : {n : ℕ} → k ≡ kind.Sysvol → n ≡ length (first_of 2 path) → awaited.Referral n ≡ awaited_by k path
-  unfolding awaited_by
-  awaits_sysvol h e = ap awaited.Referral e ∙ ap (λ (x : Kind). awaited_by x path) (sym h)
-
-  pub awaits_io : k ≡ kind.Io → awaited.NoReply ≡ awaited_by k path
-  unfolding awaited_by
-  awaits_io h = ap (λ (x : Kind). awaited_by x path) (sym h)
-
 -- memory to save in
-pub saved_place : (i : ℕ) (raw saved : List ℕ) {o : List ℕ} → length saved ≡ 2336 → o ≡ place_at i raw → o ≡ saved_in i raw saved
-unfolding saved_in
-saved_place i raw saved h e = e ∙ sym (choose_yes (place_at i raw) saved (eq-eqb (length saved) 2336 h))
-
-pub saved_not : (i : ℕ) (raw saved : List ℕ) → (length saved ≡ 2336 → ⊥) → saved ≡ saved_in i raw saved
-unfolding saved_in
-saved_not i raw saved h = sym (choose_no (place_at i raw) saved (ne_eqb (length saved) 2336 h))
-
 saved_is : (i : ℕ) (raw saved : List ℕ) → length saved ≡ 2336 → saved_in i raw saved ≡ place_at i raw
 unfolding saved_in
 saved_is i raw saved h = choose_yes (place_at i raw) saved (eq-eqb (length saved) 2336 h)
@@ -279,83 +177,57 @@ module _ (refs doms path : List ℕ) (size clock : ℕ) (hit : Bool) (q : Asking
       ),
     )
 
-said_number : Said → ℕ
-said_number (Stops e status) = 0
-said_number Stores = 1
-
-stores_not : {A : Type 0} {e : End} {status : ℕ} → Stores ≡ Stops e status → A
-unfolding said_number
-stores_not w = let z : ◌≡◌ {A = ℕ} 1 0 = ap said_number w in absurd (omega arith)
-
--- a root, link or SYSVOL reply that was read
-module _ (refs doms path : List ℕ) (size clock : ℕ) (hit : Bool) (q : Asking) (name : ℕ) (u : Using refs doms path q) (n : NamedIn name path) (reply : List ℕ) (f : ReferralFound)
-    (d : denoted reply f ≡ read_referral q.size (take name path) reply) {x : Said} (y : x ≡ said_of q f.answer f.root f.prefix.units) where
-  cover_is : covers_no_more q f.root f.prefix.units ≡ covers_nothing (question_of q []) (referral_shown reply f)
-  unfolding covers_no_more covers_nothing question_of referral_shown
-  cover_is = λ j. q.uncovered && (f.root || leb (sym (length_spanned reply f.prefix) j) q.entry)
-
+-- a root, link or SYSVOL reply
+module _ (refs doms path : List ℕ) (size clock : ℕ) (hit : Bool) (q : Asking) (name : ℕ) (u : Using refs doms path q) (n : NamedIn name path) (reply : List ℕ) where
   abbrev turn : Turn
   turn = referral_answer (caches_of refs doms) (core_of path size hit) (question_of q []) clock (read_referral q.size (take name path) reply)
 
-  read_as_lem : {a : Answer} → f.answer ≡ a → referral_answer (caches_of refs doms) (core_of path size hit) (question_of q []) clock (reply_of a (referral_shown reply f)) ≡ turn
+  read_turn : {y : replies.Reply replies.ReferralReply} → y ≡ read_referral q.size (take name path) reply
+      → referral_answer (caches_of refs doms) (core_of path size hit) (question_of q []) clock y ≡ turn
+  read_turn d = ap (referral_answer (caches_of refs doms) (core_of path size hit) (question_of q []) clock) d
+
+  -- one that says nothing
+  nothing_taken : (why : Unread) → unread why ≡ read_referral q.size (take name path) reply → (saved : List ℕ)
+      → Takes (core_of path size hit) q.kind path refs doms (unread_taken q.kind why) saved saved refs doms turn
+  unfolding unread unread_taken referral_answer question_of
+  nothing_taken reason.Malformed d saved = ends_taken (core_of path size hit) q.kind path refs doms saved end.Malformed 0 u.refs_order u.doms_order (read_turn d)
+  nothing_taken reason.Nothing d saved = ends_taken (core_of path size hit) q.kind path refs doms saved (empty_end q.kind) path_not_found u.refs_order u.doms_order (read_turn d)
+
+  pub unread_referral : (why : Unread) → denoted (referral_shown reply) (Err why) ≡ read_referral q.size (take name path) reply → {t : Taken} → t ≡ unread_taken q.kind why
+      → (saved : List ℕ) → Takes (core_of path size hit) q.kind path refs doms t saved saved refs doms turn
   unfolding denoted
-  read_as_lem h =
-      ap (referral_answer (caches_of refs doms) (core_of path size hit) (question_of q []) clock)
-      (ap (λ (z : Answer). reply_of z (referral_shown reply f)) (sym h) ∙ d)
+  unread_referral why d e saved = subst (λ (t : Taken). Takes (core_of path size hit) q.kind path refs doms t saved saved refs doms turn) (sym e) (nothing_taken why d saved)
 
-  end_of : Said → Called
-  end_of (Stops e status) = ends e status
-  end_of Stores = ends end.Gone 0
+  -- one that says something: it covers no more, or it is stored
+  module _ (f : ReferralFound) (d : denoted (referral_shown reply) (Ok f) ≡ read_referral q.size (take name path) reply) where
+    says : replies.says (referral_shown reply f) ≡ read_referral q.size (take name path) reply
+    unfolding denoted
+    says = d
 
-  stops_as : (a : Answer) → f.answer ≡ a → (e : End) (status : ℕ) → said_of q a f.root f.prefix.units ≡ Stops e status
-      → record { caches = caches_of refs doms; core = core_of path size hit; called = ends e status } ≡ turn
-  unfolding said_of reply_of referral_answer question_of end_of
-  stops_as answer.Malformed h e status g =
-      (λ j. record { caches = caches_of refs doms; core = core_of path size hit; called = ap end_of (sym g) j }) ∙ read_as_lem h
-  stops_as answer.Nothing h e status g =
-      (λ j. record { caches = caches_of refs doms; core = core_of path size hit; called = ap end_of (sym g) j }) ∙ read_as_lem h
-  stops_as answer.Says h e status g = go (told (covers_no_more q f.root f.prefix.units))
-    where
-      go : (covers_no_more q f.root f.prefix.units ≡ true) ⊎ (covers_no_more q f.root f.prefix.units ≡ false)
-          → record { caches = caches_of refs doms; core = core_of path size hit; called = ends e status } ≡ turn
-      go (inl t) =
-          (λ j. record { caches = caches_of refs doms; core = core_of path size hit; called = ap end_of (sym g ∙ choose_yes (Stops end.Failed path_not_covered) Stores t) j })
-          ∙ (sym (choose_yes _ _ (sym cover_is ∙ t)) ∙ read_as_lem h)
-      go (inr t) = stores_not (sym (choose_no (Stops end.Failed path_not_covered) Stores t) ∙ g)
+    cover_is : covers_no_more q f.root f.prefix.units ≡ covers_nothing (question_of q []) (referral_shown reply f)
+    unfolding covers_no_more covers_nothing question_of referral_shown
+    cover_is = λ j. q.uncovered && (f.root || leb (sym (length_spanned reply f.prefix) j) q.entry)
 
-  pub stops_taken : (saved : List ℕ) (e : End) (status : ℕ) → x ≡ Stops e status → Takes (core_of path size hit) q.kind path refs doms (Ends e status) saved saved refs doms turn
-  stops_taken saved e status h =
-      ends_taken (core_of path size hit) q.kind path refs doms saved e status u.refs_order u.doms_order (stops_as f.answer refl e status (sym y ∙ h))
-
-  -- it is stored
-  module _ (h : x ≡ Stores) where
-    says_as : (a : Answer) → f.answer ≡ a → said_of q a f.root f.prefix.units ≡ Stores → (f.answer ≡ answer.Says) × (covers_no_more q f.root f.prefix.units ≡ false)
-    unfolding said_of
-    says_as answer.Malformed k g = stores_not (sym g)
-    says_as answer.Nothing k g = stores_not (sym g)
-    says_as answer.Says k g = go (told (covers_no_more q f.root f.prefix.units))
-      where
-        go : (covers_no_more q f.root f.prefix.units ≡ true) ⊎ (covers_no_more q f.root f.prefix.units ≡ false)
-            → (f.answer ≡ answer.Says) × (covers_no_more q f.root f.prefix.units ≡ false)
-        go (inl t) = stores_not (sym g ∙ choose_yes (Stops end.Failed path_not_covered) Stores t)
-        go (inr t) = (k, t)
-
-    says : (f.answer ≡ answer.Says) × (covers_no_more q f.root f.prefix.units ≡ false)
-    says = says_as f.answer refl (sym y ∙ h)
+    pub covered_referral : {b : Bool} → b ≡ covers_no_more q f.root f.prefix.units → b ≡ true → (saved : List ℕ)
+        → Takes (core_of path size hit) q.kind path refs doms (Ends end.Failed path_not_covered) saved saved refs doms turn
+    unfolding referral_answer
+    covered_referral e t saved =
+        ends_taken (core_of path size hit) q.kind path refs doms saved end.Failed path_not_covered u.refs_order u.doms_order
+        (sym (choose_yes _ _ (sym (e ∙ cover_is) ∙ t)) ∙ read_turn says)
 
     pub stores_wanted : ReferralInside reply f → Using refs doms path q × (Storable reply f × (matches (spanned reply f.prefix) path ≡ true))
-    stores_wanted w =
-        (u, (said_storable q.size (take name path) reply f d says.0 w, n.whole _ (said_matches q.size (take name path) reply f d says.0)))
+    stores_wanted w = (u, (said_storable q.size (take name path) reply f says w, n.whole _ (said_matches q.size (take name path) reply f says)))
 
-    stored_turn_lem : stored_turn (hint_set (caches_of refs doms) (core_of path size hit) (question_of q [])) (core_of path size hit) (question_of q []) (referral_shown reply f) clock ≡ turn
-    unfolding reply_of referral_answer
-    stored_turn_lem = sym (choose_no _ _ (sym cover_is ∙ says.1)) ∙ read_as_lem says.0
+    module _ {b : Bool} (e : b ≡ covers_no_more q f.root f.prefix.units) (h : b ≡ false) where
+      stored_turn_lem : stored_turn (hint_set (caches_of refs doms) (core_of path size hit) (question_of q [])) (core_of path size hit) (question_of q []) (referral_shown reply f) clock ≡ turn
+      unfolding referral_answer
+      stored_turn_lem = sym (choose_no _ _ (sym (e ∙ cover_is) ∙ h)) ∙ read_turn says
 
-    pub stores_taken : (saved : List ℕ) {t : Taken} {after more then : List ℕ}
-        → Takes (core_of path size hit) q.kind path refs doms t saved after more then
-        (stored_turn (hint_set (caches_of refs doms) (core_of path size hit) (question_of q [])) (core_of path size hit) (question_of q []) (referral_shown reply f) clock)
-        → Takes (core_of path size hit) q.kind path refs doms t saved after more then turn
-    stores_taken saved k = (k.0 ∙ stored_turn_lem, k.1)
+      pub stores_taken : (saved : List ℕ) {t : Taken} {after more then : List ℕ}
+          → Takes (core_of path size hit) q.kind path refs doms t saved after more then
+          (stored_turn (hint_set (caches_of refs doms) (core_of path size hit) (question_of q [])) (core_of path size hit) (question_of q []) (referral_shown reply f) clock)
+          → Takes (core_of path size hit) q.kind path refs doms t saved after more then turn
+      stores_taken saved k = (k.0 ∙ stored_turn_lem, k.1)
 
 -- a DC reply, into the domain of the first component
 module _ (refs doms path : List ℕ) (size : ℕ) (hit : Bool) (q : Asking) (u : Using refs doms path q) (k : q.kind ≡ kind.Dc) (reply : List ℕ) {name : List ℕ} (y : name ≡ get_or (components path) 0 [])
@@ -369,27 +241,33 @@ module _ (refs doms path : List ℕ) (size : ℕ) (hit : Bool) (q : Asking) (u :
   pub domain_at_lem : (i : ℕ) → g ≡ Some i → DomainAt i doms
   domain_at_lem i h = domain_found doms u.doms_order (get_or (components path) 0 []) i (sym named_is ∙ h)
 
-  module _ (f : DcsFound) (d : denoted_dcs reply f ≡ read_dcs q.size reply) where
-    dcs_read : {a : Answer} → f.answer ≡ a → reply_of a (map (spanned reply) (take f.count f.kept)) ≡ read_dcs q.size reply
-    unfolding denoted_dcs
-    dcs_read h = ap (λ (a : Answer). reply_of a (map (spanned reply) (take f.count f.kept))) (sym h) ∙ d
+  abbrev answered : Turn
+  answered = dc_answer (caches_of refs doms) (core_of path size hit) (read_dcs q.size reply)
 
-    abbrev answered : Turn
-    answered = dc_answer (caches_of refs doms) (core_of path size hit) (read_dcs q.size reply)
+  dcs_read : {y : replies.Reply (List (List ℕ))} → y ≡ read_dcs q.size reply → dc_answer (caches_of refs doms) (core_of path size hit) y ≡ answered
+  dcs_read d = ap (dc_answer (caches_of refs doms) (core_of path size hit)) d
 
-    pub dc_malformed : f.answer ≡ answer.Malformed → (saved : List ℕ) → Takes (core_of path size hit) q.kind path refs doms (Ends end.Malformed 0) saved saved refs doms answered
-    unfolding dc_answer reply_of
-    dc_malformed h saved =
-        ends_taken (core_of path size hit) q.kind path refs doms saved end.Malformed 0 u.refs_order u.doms_order (ap (dc_answer (caches_of refs doms) (core_of path size hit)) (dcs_read h))
+  -- one that says nothing
+  no_dcs_taken : (why : Unread) → unread why ≡ read_dcs q.size reply → (saved : List ℕ)
+      → Takes (core_of path size hit) q.kind path refs doms (unread_taken kind.Dc why) saved saved refs doms answered
+  unfolding unread unread_taken dc_answer
+  no_dcs_taken reason.Malformed d saved = ends_taken (core_of path size hit) q.kind path refs doms saved end.Malformed 0 u.refs_order u.doms_order (dcs_read d)
+  no_dcs_taken reason.Nothing d saved = ends_taken (core_of path size hit) q.kind path refs doms saved (empty_end kind.Dc) path_not_found u.refs_order u.doms_order (dcs_read d)
 
-    pub dc_nothing : f.answer ≡ answer.Nothing → (saved : List ℕ) → Takes (core_of path size hit) q.kind path refs doms (Ends end.NoDc path_not_found) saved saved refs doms answered
-    unfolding dc_answer reply_of empty_end
-    dc_nothing h saved =
-        ends_taken (core_of path size hit) q.kind path refs doms saved end.NoDc path_not_found u.refs_order u.doms_order (ap (dc_answer (caches_of refs doms) (core_of path size hit)) (dcs_read h))
+  pub unread_dcs : (why : Unread) → denoted (dcs_shown reply) (Err why) ≡ read_dcs q.size reply → {t : Taken} → t ≡ unread_taken kind.Dc why
+      → (saved : List ℕ) → Takes (core_of path size hit) q.kind path refs doms t saved saved refs doms answered
+  unfolding denoted
+  unread_dcs why d e saved = subst (λ (t : Taken). Takes (core_of path size hit) q.kind path refs doms t saved saved refs doms answered) (sym e) (no_dcs_taken why d saved)
 
-    module _ (h : f.answer ≡ answer.Says) (w : DcsInside reply f) (i : ℕ) (z : g ≡ Some i) where
+  -- one that says something
+  module _ (f : DcsFound) (d : denoted (dcs_shown reply) (Ok f) ≡ read_dcs q.size reply) where
+    dcs_said : replies.says (dcs_shown reply f) ≡ read_dcs q.size reply
+    unfolding denoted
+    dcs_said = d
+
+    module _ (w : DcsInside reply f) (i : ℕ) (z : g ≡ Some i) where
       storable : StorableDcs reply f
-      storable = storable_dcs q.size reply f d w h
+      storable = storable_dcs q.size reply f (sym dcs_said) w
 
       pub dcs_wanted : DomainAt i doms × StorableDcs reply f
       dcs_wanted = (domain_at_lem i z, storable)
@@ -402,10 +280,10 @@ module _ (refs doms path : List ℕ) (size : ℕ) (hit : Bool) (q : Asking) (u :
           called = asks (step5 (dcs_stored i (map (spanned reply) (take f.count f.kept)) (decode domains doms)) (core_of path size true));
         }
             ≡ answered
-        unfolding dc_answer dcs_in with_hit with_domains caches_of reply_of
+        unfolding dc_answer dcs_in with_hit with_domains caches_of dcs_shown
         answer_is =
             (let j : with_key domains (get_or (components path) 0 []) (decode domains doms) ≡ Some i = sym named_is ∙ z in rw j refl)
-            ∙ ap (dc_answer (caches_of refs doms) (core_of path size hit)) (dcs_read h)
+            ∙ dcs_read dcs_said
 
         dcs_turn : taken_turn (core_of path size hit) q.kind (Dcs i) refs then ≡ answered
         unfolding taken_turn with_hit with_domains caches_of

@@ -7,9 +7,9 @@ use Rattle.cache.specs.places.Layout.{place_count, place_at}
 use Rattle.cache.specs.places.Code.{changed}
 use Rattle.cache.specs.order.Memory.{referrals, domains, decode, in_order}
 use Rattle.cache_lookup.specs.Code.{entry_at}
-use Rattle.reply_read.specs.declared.referral.Answer.{Answer}
-use Rattle.reply_read.specs.declared.referral.Answer.TheVariants as answer
-use Rattle.walk_steps.specs.steps.Steps.{Core, Turn, ends, asks, with_hit, step5, after_store, empty_end, path_not_found, path_not_covered}
+use Rattle.reply_read.specs.declared.referral.Unread.{Unread}
+use Rattle.reply_read.specs.declared.referral.Unread.TheVariants as unread
+use Rattle.walk_steps.specs.steps.Steps.{Core, Turn, ends, asks, with_hit, step5, after_store, empty_end, path_not_found}
 use Rattle.walk_steps.specs.steps.Held.{caches_of}
 use Rattle.walk_steps.specs.declared.steps.Kind.{Kind}
 use Rattle.walk_steps.specs.declared.steps.Kind.TheVariants as kind
@@ -19,8 +19,6 @@ use Rattle.walk_steps.specs.cycle.Code.{Usable}
 use Rattle.walk_store.specs.declared.party_hint.Hinted.{Hinted}
 use Rattle.walk_store.specs.declared.reply_taken.Taken.{Taken}
 use Rattle.walk_store.specs.declared.reply_taken.Taken.TheVariants.{Ends, Dcs, Entry}
-use Rattle.walk_store.specs.declared.reply_taken.Said.{Said}
-use Rattle.walk_store.specs.declared.reply_taken.Said.TheVariants.{Stops, Stores}
 use Rattle.walk_store.specs.declared.reply_taken.Awaited.{Awaited}
 use Rattle.walk_store.specs.declared.reply_taken.Awaited.TheVariants.{DcNames, Referral, NoReply}
 use Rattle.walk_store.specs.party_hint.Code.{Lent, lent_caches, unhinted, Unhintable}
@@ -42,11 +40,10 @@ pub record NamedIn (name : ℕ) (path : List ℕ) : Type 0 where
 unfoldable pub covers_no_more : Asking → Bool → ℕ → Bool
 covers_no_more q root units = q.uncovered && (root || leb units q.entry)
 
--- what a root, link or SYSVOL reply calls for
-unfoldable pub said_of : Asking → Answer → Bool → ℕ → Said
-said_of q answer.Malformed root units = Stops end.Malformed 0
-said_of q answer.Nothing root units = Stops (empty_end q.kind) path_not_found
-said_of q answer.Says root units = choose (covers_no_more q root units) (Stops end.Failed path_not_covered) Stores
+-- what is taken of a reply that says nothing
+unfoldable pub unread_taken : Kind → Unread → Taken
+unread_taken k unread.Malformed = Ends end.Malformed 0
+unread_taken k unread.Nothing = Ends (empty_end k) path_not_found
 
 -- memory to save in, with place i of a cache where it has the units of a place
 unfoldable pub saved_in : ℕ → List ℕ → List ℕ → List ℕ

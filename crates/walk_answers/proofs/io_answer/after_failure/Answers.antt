@@ -7,5 +7,5 @@ returns-then-status-eq-PATH_NOT_COVERED c = record { called = fails_covered c.ar
 pub returns-then-is_next : goal.returns-then-is_next
 returns-then-is_next c = record { called = fails_on c.args.q c.args.g c.args.status _ c.if-status-eq-PATH_NOT_COVERED.false c.is_next.ensures c.if-is_next.true _ c.next_target.ensures.called; inside = c.next_target.ensures.inside }
 
-pub returns : goal.returns
-returns c = record { called = fails_end c.args.q c.args.g c.args.status _ c.if-status-eq-PATH_NOT_COVERED.false c.is_next.ensures c.if-is_next.false; inside = no_try _ _ }
+pub returns-else-is_next : goal.returns-else-is_next
+returns-else-is_next c = record { called = fails_end c.args.q c.args.g c.args.status _ c.if-status-eq-PATH_NOT_COVERED.false c.is_next.ensures c.if-is_next.false; inside = no_try _ _ }

@@ -9,5 +9,5 @@ next_place-target-requires c = omega (arith, c.target_count.ensures, (referral_t
 pub returns-then-target-q : goal.returns-then-target-q
 returns-then-target-q c = record { called = next_end c.args.q c.args.status _ c.next_place-target.ensures c.target_count.ensures c.if-target-q.true; inside = no_try _ _ }
 
-pub returns : goal.returns
-returns c = record { called = next_try c.args.q c.args.status _ c.next_place-target.ensures c.target_count.ensures c.if-target-q.false; inside = next_inside c.args.q c.args.status _ c.next_place-target.ensures c.target_count.ensures c.requires.1 }
+pub returns-else-target-q : goal.returns-else-target-q
+returns-else-target-q c = record { called = next_try c.args.q c.args.status _ c.next_place-target.ensures c.target_count.ensures c.if-target-q.false; inside = next_inside c.args.q c.args.status _ c.next_place-target.ensures c.target_count.ensures c.requires.1 }

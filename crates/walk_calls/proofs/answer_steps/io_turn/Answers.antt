@@ -17,4 +17,4 @@ pub close_answer-requires : goal.close_answer-requires
 close_answer-requires c = (c.requires.form, (answer_left_lem c.requires (io_turn c.args.refs.now c.args.doms.now c.args.texts.now c.args.walk c.args.q c.args.status) c.args.clock _ (io_kept c.requires c.args.status c.args.clock) (io_leaves c.requires c.copy_rooms.ensures c.args.status c.args.clock _ c.progress-g.ensures c.io_answer-r.ensures), (search rules, answer_path c.requires (io_turn c.args.refs.now c.args.doms.now c.args.texts.now c.args.walk c.args.q c.args.status) c.args.clock _ (io_kept c.requires c.args.status c.args.clock) (io_leaves c.requires c.copy_rooms.ensures c.args.status c.args.clock _ c.progress-g.ensures c.io_answer-r.ensures))))
 
 pub returns : goal.returns
-returns c = answer_closed c.requires (io_turn c.args.refs.now c.args.doms.now c.args.texts.now c.args.walk c.args.q c.args.status) c.args.clock _ (io_kept c.requires c.args.status c.args.clock) (io_leaves c.requires c.copy_rooms.ensures c.args.status c.args.clock _ c.progress-g.ensures c.io_answer-r.ensures) _ refl c.close_answer.ensures
+returns c = answer_closed c.requires (io_turn c.args.refs.now c.args.doms.now c.args.texts.now c.args.walk c.args.q c.args.status) c.args.clock _ (io_kept c.requires c.args.status c.args.clock) (io_leaves c.requires c.copy_rooms.ensures c.args.status c.args.clock _ c.progress-g.ensures c.io_answer-r.ensures) _ refl _ c.close_answer.ensures

@@ -17,4 +17,4 @@ pub close_answer-requires : goal.close_answer-requires
 close_answer-requires c = (c.requires.form, (answer_left_lem c.requires (referral_turn c.args.refs.now c.args.doms.now c.args.texts.now c.args.walk c.args.q c.args.status c.args.reply.now c.args.clock) c.args.clock _ (referral_kept c.requires c.args.status c.args.reply.now c.args.clock) (referral_leaves c.requires c.copy_rooms.ensures c.args.status c.args.clock _ c.progress-g.ensures c.args.reply.now c.referral_answer-r.ensures), (search rules, answer_path c.requires (referral_turn c.args.refs.now c.args.doms.now c.args.texts.now c.args.walk c.args.q c.args.status c.args.reply.now c.args.clock) c.args.clock _ (referral_kept c.requires c.args.status c.args.reply.now c.args.clock) (referral_leaves c.requires c.copy_rooms.ensures c.args.status c.args.clock _ c.progress-g.ensures c.args.reply.now c.referral_answer-r.ensures))))
 
 pub returns : goal.returns
-returns c = answer_closed c.requires (referral_turn c.args.refs.now c.args.doms.now c.args.texts.now c.args.walk c.args.q c.args.status c.args.reply.now c.args.clock) c.args.clock _ (referral_kept c.requires c.args.status c.args.reply.now c.args.clock) (referral_leaves c.requires c.copy_rooms.ensures c.args.status c.args.clock _ c.progress-g.ensures c.args.reply.now c.referral_answer-r.ensures) _ refl c.close_answer.ensures
+returns c = answer_closed c.requires (referral_turn c.args.refs.now c.args.doms.now c.args.texts.now c.args.walk c.args.q c.args.status c.args.reply.now c.args.clock) c.args.clock _ (referral_kept c.requires c.args.status c.args.reply.now c.args.clock) (referral_leaves c.requires c.copy_rooms.ensures c.args.status c.args.clock _ c.progress-g.ensures c.args.reply.now c.referral_answer-r.ensures) _ refl _ c.close_answer.ensures

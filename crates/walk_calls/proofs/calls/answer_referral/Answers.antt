@@ -1,25 +1,42 @@
+use mathlib.Core.Path.{◌≡◌, refl, sym, ap, ◌∙◌}
+use native.Mathlib.Omega.{arith}
+use Rattle.std.specs.Prelude.{Result, Err, Some, None}
+use Rattle.walk_form.specs.declared.held.Walk.{Walk}
+use Rattle.walk_calls.specs.declared.call_end.Refusal.{Refusal}
+use Rattle.walk_calls.specs.declared.call_end.Refusal.TheVariants.{OutOfForm}
+use Rattle.walk_calls.specs.calls.Code.{answered}
 use Rattle.walk_calls.specs.calls.Calls.{referral_call}
-use Rattle.walk_calls.proofs.calls.AnswerLaws.{call_order, call_form, call_none, referral_ended, referral_other, due, referral_taken}
+use Rattle.walk_calls.proofs.resting.RestingLaws.{question_told}
+use Rattle.walk_calls.proofs.calls.AnswerLaws.{call_order, call_unasked, call_none, referral_ended, referral_other, due, referral_taken}
 use Rattle.walk_calls.proofs.calls.answer_referral.Goals as goal
 
 pub returns-then-not-caches_in_order : goal.returns-then-not-caches_in_order
 unfolding referral_call
 returns-then-not-caches_in_order c = call_order _ c.args.clock c.args.walk c.args.texts.now c.args.out.now c.args.refs.now c.args.doms.now c.caches_in_order.ensures c.if-not-caches_in_order.true
 
-pub returns-then-not-in_form : goal.returns-then-not-in_form
+pub returns-in_err-q : goal.returns-in_err-q
 unfolding referral_call
-returns-then-not-in_form c = call_form _ c.args.clock c.args.walk c.args.texts.now c.args.out.now c.args.refs.now c.args.doms.now c.caches_in_order.ensures c.if-not-caches_in_order.false c.in_form.ensures c.if-not-in_form.true
-
-pub returns-in_default : goal.returns-in_default
-unfolding referral_call
-returns-in_default c = call_none _ c.args.clock c.args.walk c.args.texts.now c.args.out.now c.args.refs.now c.args.doms.now c.caches_in_order.ensures c.if-not-caches_in_order.false c.in_form.ensures c.if-not-in_form.false (referral_ended _ c.args.walk c.args.texts.now c.args.status c.args.reply.now c.args.clock _ _ c.in_default.is)
+returns-in_err-q c =
+    let none : c.question.result ≡ None = grind arith in
+    let refused : c.from_residual.result ≡ Err OutOfForm = grind arith in
+    ap (λ (r : Result Walk Refusal). answered r c.args.walk c.args.texts.now c.args.out.now c.args.refs.now c.args.doms.now) refused
+    ∙ call_unasked _ c.args.clock c.args.walk c.args.texts.now c.args.out.now c.args.refs.now c.args.doms.now c.caches_in_order.ensures c.if-not-caches_in_order.false (sym c.question.ensures ∙ none) (referral_ended _ c.args.walk c.args.texts.now c.args.status c.args.reply.now c.args.clock)
 
 pub returns-then-has_tried : goal.returns-then-has_tried
 unfolding referral_call
-returns-then-has_tried c = call_none _ c.args.clock c.args.walk c.args.texts.now c.args.out.now c.args.refs.now c.args.doms.now c.caches_in_order.ensures c.if-not-caches_in_order.false c.in_form.ensures c.if-not-in_form.false (referral_other _ c.args.walk c.args.texts.now c.args.status c.args.reply.now c.args.clock _ c.in-Asks.is c.has_tried.ensures c.if-has_tried.true)
+returns-then-has_tried c =
+    let asked : c.question.result ≡ Some c.in_ok-q.q = grind arith in
+    let t = question_told c.args.walk c.args.texts.now _ (sym c.question.ensures ∙ asked) in
+    call_none _ c.args.clock c.args.walk c.args.texts.now c.args.out.now c.args.refs.now c.args.doms.now c.caches_in_order.ensures c.if-not-caches_in_order.false refl t.0 (referral_other _ c.args.walk c.args.texts.now c.args.status c.args.reply.now c.args.clock _ t.1 c.has_tried.ensures c.if-has_tried.true)
 
 pub referral_turn-requires : goal.referral_turn-requires
-referral_turn-requires c = due c.args.refs.now c.args.doms.now c.args.texts.now c.args.walk c.args.out.now c.caches_in_order.ensures c.if-not-caches_in_order.false c.in_form.ensures c.if-not-in_form.false _ c.in-Asks.is c.has_tried.ensures c.if-has_tried.false
+referral_turn-requires c =
+    let asked : c.question.result ≡ Some c.in_ok-q.q = grind arith in
+    let t = question_told c.args.walk c.args.texts.now _ (sym c.question.ensures ∙ asked) in
+    due c.args.refs.now c.args.doms.now c.args.texts.now c.args.walk c.args.out.now c.caches_in_order.ensures c.if-not-caches_in_order.false refl t.0 _ t.1 c.has_tried.ensures c.if-has_tried.false
 
 pub returns : goal.returns
-returns c = referral_taken c.args.refs.now c.args.doms.now c.args.texts.now c.args.walk c.args.out.now c.caches_in_order.ensures c.if-not-caches_in_order.false c.in_form.ensures c.if-not-in_form.false _ c.in-Asks.is c.has_tried.ensures c.args.status c.args.reply.now c.args.clock c.if-has_tried.false c.referral_turn.ensures
+returns c =
+    let asked : c.question.result ≡ Some c.in_ok-q.q = grind arith in
+    let t = question_told c.args.walk c.args.texts.now _ (sym c.question.ensures ∙ asked) in
+    referral_taken c.args.refs.now c.args.doms.now c.args.texts.now c.args.walk c.args.out.now c.caches_in_order.ensures c.if-not-caches_in_order.false refl t.0 _ t.1 c.has_tried.ensures c.args.status c.args.reply.now c.args.clock c.if-has_tried.false c.referral_turn.ensures

@@ -10,5 +10,5 @@ returns-then-entry-eq0 c = root_host _ _ _ _ _ c.if-entry-eq0.true c.host.ensure
 pub put_dc-requires : goal.put_dc-requires
 put_dc-requires c = (c.requires.0, c.requires.1 c.if-entry-eq0.false)
 
-pub returns : goal.returns
-returns c = root_dc _ _ _ _ _ c.if-entry-eq0.false c.put_dc.ensures
+pub returns-else-entry-eq0 : goal.returns-else-entry-eq0
+returns-else-entry-eq0 c = root_dc _ _ _ _ _ c.if-entry-eq0.false c.put_dc.ensures

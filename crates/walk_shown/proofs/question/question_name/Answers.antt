@@ -1,20 +1,40 @@
-use Rattle.walk_shown.proofs.question.ShownLaws.{name_form, name_ended, name_shown, path_ends, path_few, tried_within, tried_few}
+use mathlib.Core.Path.{◌≡◌, refl, sym, ap, ◌∙◌}
+use Prim.Native.Nat.{ℕ}
+use native.Mathlib.Omega.{arith}
+use Rattle.std.specs.Prelude.{Result, Err, Some, None}
+use Rattle.walk_calls.proofs.resting.RestingLaws.{question_told}
+use Rattle.walk_shown.specs.question.Shown.{given}
+use Rattle.walk_shown.specs.declared.question.ShowError.{ShowError}
+use Rattle.walk_shown.specs.declared.question.ShowError.TheVariants.{OutOfForm}
+use Rattle.walk_shown.proofs.question.ShownLaws.{name_shown, path_ends, path_few, tried_within, tried_few, name_unasked}
 use Rattle.walk_shown.proofs.question.question_name.Goals as goal
 
-pub returns-then-not-in_form : goal.returns-then-not-in_form
-returns-then-not-in_form c = name_form _ _ _ c.in_form.ensures c.if-not-in_form.true
-
-pub returns-in_default : goal.returns-in_default
-returns-in_default c = name_ended _ _ _ c.in_form.ensures c.if-not-in_form.false _ _ c.in_default.is
+pub returns-in_err-q : goal.returns-in_err-q
+returns-in_err-q c =
+    let none : c.question.result ≡ None = grind arith in
+    let refused : c.from_residual.result ≡ Err OutOfForm = grind arith in
+    ap (λ (r : Result ℕ ShowError). given r c.args.out.now) refused ∙ name_unasked c.args.walk c.args.texts.now _ (sym c.question.ensures ∙ none)
 
 pub slice_bounds-put_name-end : goal.slice_bounds-put_name-end
-slice_bounds-put_name-end c = path_ends _ _ c.in_form.ensures c.if-not-in_form.false
+slice_bounds-put_name-end c =
+    let asked : c.question.result ≡ Some c.in_ok-q.q = grind arith in
+    let t = question_told c.args.walk c.args.texts.now _ (sym c.question.ensures ∙ asked) in
+    path_ends _ _ refl t.0
 
 pub slice_bounds-put_name-end-2 : goal.slice_bounds-put_name-end-2
-slice_bounds-put_name-end-2 c = tried_within _ _ c.in_form.ensures c.if-not-in_form.false
+slice_bounds-put_name-end-2 c =
+    let asked : c.question.result ≡ Some c.in_ok-q.q = grind arith in
+    let t = question_told c.args.walk c.args.texts.now _ (sym c.question.ensures ∙ asked) in
+    tried_within _ _ refl t.0
 
 pub put_name-requires : goal.put_name-requires
-put_name-requires c = (path_few _ _ c.in_form.ensures c.if-not-in_form.false, tried_few _ _ c.in_form.ensures c.if-not-in_form.false)
+put_name-requires c =
+    let asked : c.question.result ≡ Some c.in_ok-q.q = grind arith in
+    let t = question_told c.args.walk c.args.texts.now _ (sym c.question.ensures ∙ asked) in
+    (path_few _ _ refl t.0, tried_few _ _ refl t.0)
 
 pub returns : goal.returns
-returns c = name_shown _ _ _ c.in_form.ensures c.if-not-in_form.false _ c.in-Asks.is c.put_name.ensures
+returns c =
+    let asked : c.question.result ≡ Some c.in_ok-q.q = grind arith in
+    let t = question_told c.args.walk c.args.texts.now _ (sym c.question.ensures ∙ asked) in
+    name_shown _ _ _ refl t.0 _ t.1 c.put_name.ensures

@@ -1,23 +1,43 @@
-use Rattle.walk_shown.proofs.question.ShownLaws.{party_order, party_form, party_ended, party_shown, path_ends, boot_within, boot_few, waiting_good, waiting_entry}
+use mathlib.Core.Path.{◌≡◌, refl, sym, ap, ◌∙◌}
+use Prim.Native.Nat.{ℕ}
+use native.Mathlib.Omega.{arith}
+use Rattle.std.specs.Prelude.{Result, Err, Some, None}
+use Rattle.walk_calls.proofs.resting.RestingLaws.{question_told}
+use Rattle.walk_shown.specs.question.Shown.{given}
+use Rattle.walk_shown.specs.declared.question.ShowError.{ShowError}
+use Rattle.walk_shown.specs.declared.question.ShowError.TheVariants.{OutOfForm}
+use Rattle.walk_shown.proofs.question.ShownLaws.{party_order, party_shown, path_ends, boot_within, boot_few, waiting_good, waiting_entry, party_unasked}
 use Rattle.walk_shown.proofs.question.question_party.Goals as goal
 
 pub returns-then-not-caches_in_order : goal.returns-then-not-caches_in_order
 returns-then-not-caches_in_order c = party_order _ _ _ _ _ c.caches_in_order.ensures c.if-not-caches_in_order.true
 
-pub returns-then-not-in_form : goal.returns-then-not-in_form
-returns-then-not-in_form c = party_form _ _ _ _ _ c.caches_in_order.ensures c.if-not-caches_in_order.false c.in_form.ensures c.if-not-in_form.true
+pub returns-in_err-q : goal.returns-in_err-q
+returns-in_err-q c =
+    let none : c.question.result ≡ None = grind arith in
+    let refused : c.from_residual.result ≡ Err OutOfForm = grind arith in
+    ap (λ (r : Result ℕ ShowError). given r c.args.out.now) refused ∙ party_unasked _ _ c.args.walk c.args.texts.now _ c.caches_in_order.ensures c.if-not-caches_in_order.false (sym c.question.ensures ∙ none)
 
-pub returns-in_default : goal.returns-in_default
-returns-in_default c = party_ended _ _ _ _ _ c.caches_in_order.ensures c.if-not-caches_in_order.false c.in_form.ensures c.if-not-in_form.false _ _ c.in_default.is
+pub slice_bounds-path-end : goal.slice_bounds-path-end
+slice_bounds-path-end c =
+    let asked : c.question.result ≡ Some c.in_ok-q.q = grind arith in
+    let t = question_told c.args.walk c.args.texts.now _ (sym c.question.ensures ∙ asked) in
+    path_ends _ _ refl t.0
 
-pub slice_bounds-put_waiting-end : goal.slice_bounds-put_waiting-end
-slice_bounds-put_waiting-end c = path_ends _ _ c.in_form.ensures c.if-not-in_form.false
-
-pub slice_bounds-put_waiting-end-2 : goal.slice_bounds-put_waiting-end-2
-slice_bounds-put_waiting-end-2 c = boot_within _ _ c.in_form.ensures c.if-not-in_form.false
+pub slice_bounds-boot-end : goal.slice_bounds-boot-end
+slice_bounds-boot-end c =
+    let asked : c.question.result ≡ Some c.in_ok-q.q = grind arith in
+    let t = question_told c.args.walk c.args.texts.now _ (sym c.question.ensures ∙ asked) in
+    boot_within _ _ refl t.0
 
 pub put_waiting-requires : goal.put_waiting-requires
-put_waiting-requires c = (waiting_good _ _ c.in_form.ensures c.if-not-in_form.false _ c.in-Asks.is, (waiting_entry _ _ c.in_form.ensures c.if-not-in_form.false _ c.in-Asks.is, boot_few _ _ c.in_form.ensures c.if-not-in_form.false))
+put_waiting-requires c =
+    let asked : c.question.result ≡ Some c.in_ok-q.q = grind arith in
+    let t = question_told c.args.walk c.args.texts.now _ (sym c.question.ensures ∙ asked) in
+    (waiting_good _ _ refl t.0 _ t.1, (waiting_entry _ _ refl t.0 _ t.1, boot_few _ _ refl t.0))
 
 pub returns : goal.returns
-returns c = party_shown _ _ _ _ _ c.caches_in_order.ensures c.if-not-caches_in_order.false c.in_form.ensures c.if-not-in_form.false _ c.in-Asks.is c.put_waiting.ensures
+returns c =
+    let asked : c.question.result ≡ Some c.in_ok-q.q = grind arith in
+    let t = question_told c.args.walk c.args.texts.now _ (sym c.question.ensures ∙ asked) in
+    party_shown _ _ _ _ _ c.caches_in_order.ensures c.if-not-caches_in_order.false refl t.0 _ t.1 c.put_waiting.ensures

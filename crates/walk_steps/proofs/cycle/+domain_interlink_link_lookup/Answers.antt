@@ -1,7 +1,8 @@
 use Rattle.walk_steps.proofs.cycle.PointLaws.{match_fits, looked_next, rests_on, halts_after, fits7, fewer, rank_falls, moves_fall, past5, is_due7, try_few, turn_few, long_few, look_few, first_few, place_in_few, root_read, tries_root, tries_sysvol, tries_other, interlink_is, turns, halts_here, long_halts, len_few, next_point, next_halts}
 use mathlib.Core.Path.{refl, sym, ◌∙◌}
 use Rattle.walk_steps.proofs.cycle.+domain_interlink_link_lookup.Goals as goal
-use Rattle.walk_steps.proofs.cycle.+domain_interlink_link_lookup.Goals.{domain-then-n-eq-DUE7+else-is_root, domain-else-n-eq-DUE7}
+use Rattle.walk_steps.proofs.cycle.+domain_interlink_link_lookup.Goals.{domain-else-n-eq-DUE7-via-then-n-eq-DUE7+else-is_root, domain-else-n-eq-DUE7-via-else-n-eq-DUE7}
+use Rattle.walk_steps.proofs.cycle.+domain_interlink_link_lookup.Goals.{link-then-for_sysvol-via-then-for_sysvol, link-then-for_sysvol-via-else-for_sysvol+then-not-is_interlink}
 
 pub domain-step5-requires : goal.domain-step5-requires
 domain-step5-requires t c = (c.requires.0, c.if-n-eq-DUE5.true)
@@ -28,9 +29,9 @@ domain-link-requires t c = (
       (
         c.requires.1.1,
         λ w.
-            elim c.if-n-eq-DUE7.branch [
-              | domain-then-n-eq-DUE7+else-is_root h ↦ root_read c.args.refs.now c.args.n h.place.ensures h.is_root.ensures h.if-is_root.false
-              | domain-else-n-eq-DUE7 h ↦ absurd (h.if-n-eq-DUE7.false w)
+            elim c.else-n-eq-DUE7.branch [
+              | domain-else-n-eq-DUE7-via-then-n-eq-DUE7+else-is_root h ↦ root_read c.args.refs.now c.args.n h.place.ensures h.is_root.ensures h.if-is_root.false
+              | domain-else-n-eq-DUE7-via-else-n-eq-DUE7 h ↦ absurd (h.if-n-eq-DUE7.false w)
             ],
       ),
     ),
@@ -71,28 +72,26 @@ pub link-for_sysvol-requires : goal.link-for_sysvol-requires
 link-for_sysvol-requires t c = c.requires.0.ready.standing
 
 pub link-case_at-requires : goal.link-case_at-requires
-link-case_at-requires t c = (try_few, (place_in_few c.args.n c.place.ensures, c.requires.0.counted))
+link-case_at-requires t c = (try_few, (place_in_few c.args.n c.place-then-for_sysvol.ensures, c.requires.0.counted))
 
 pub link-returns-then-for_sysvol : goal.link-returns-then-for_sysvol
-link-returns-then-for_sysvol t c = tries_sysvol c.args.refs.now c.args.doms.now c.args.texts.now c.args.clock c.args.n c.requires.0 (is_due7 c.args.n c.if-n-eq-DUE9.false c.requires.1.0 c.requires.1.1.0) c.place.ensures c.case_at.ensures (c.requires.1.1.1 (is_due7 c.args.n c.if-n-eq-DUE9.false c.requires.1.0 c.requires.1.1.0)) (sym c.for_sysvol.ensures ∙ c.if-for_sysvol.true)
+link-returns-then-for_sysvol t c =
+    elim c.then-for_sysvol.branch [
+      | link-then-for_sysvol-via-then-for_sysvol h ↦ tries_sysvol c.args.refs.now c.args.doms.now c.args.texts.now c.args.clock c.args.n c.requires.0 (is_due7 c.args.n c.if-n-eq-DUE9.false c.requires.1.0 c.requires.1.1.0) c.place-then-for_sysvol.ensures c.case_at.ensures (c.requires.1.1.1 (is_due7 c.args.n c.if-n-eq-DUE9.false c.requires.1.0 c.requires.1.1.0)) (sym c.for_sysvol.ensures ∙ h.if-for_sysvol.true)
+      | link-then-for_sysvol-via-else-for_sysvol+then-not-is_interlink h ↦ tries_other c.args.refs.now c.args.doms.now c.args.texts.now c.args.clock c.args.n c.requires.0 (is_due7 c.args.n c.if-n-eq-DUE9.false c.requires.1.0 c.requires.1.1.0) c.place-then-for_sysvol.ensures c.case_at.ensures (c.requires.1.1.1 (is_due7 c.args.n c.if-n-eq-DUE9.false c.requires.1.0 c.requires.1.1.0)) (sym c.for_sysvol.ensures ∙ h.if-for_sysvol.false) (interlink_is c.args.refs.now c.args.n h.place.ensures h.is_interlink.ensures h.if-not-is_interlink.true)
+    ]
 
 pub link-is_interlink-requires : goal.link-is_interlink-requires
-link-is_interlink-requires t c = fits7 c.args.refs.now c.args.doms.now c.args.texts.now c.args.clock c.args.n c.requires.0 (is_due7 c.args.n c.if-n-eq-DUE9.false c.requires.1.0 c.requires.1.1.0) c.place-2.ensures
-
-pub link-case_at-requires-then-not-is_interlink : goal.link-case_at-requires-then-not-is_interlink
-link-case_at-requires-then-not-is_interlink t c = (try_few, (place_in_few c.args.n c.place-then-not-is_interlink.ensures, c.requires.0.counted))
-
-pub link-returns-then-not-is_interlink : goal.link-returns-then-not-is_interlink
-link-returns-then-not-is_interlink t c = tries_other c.args.refs.now c.args.doms.now c.args.texts.now c.args.clock c.args.n c.requires.0 (is_due7 c.args.n c.if-n-eq-DUE9.false c.requires.1.0 c.requires.1.1.0) c.place-then-not-is_interlink.ensures c.case_at-then-not-is_interlink.ensures (c.requires.1.1.1 (is_due7 c.args.n c.if-n-eq-DUE9.false c.requires.1.0 c.requires.1.1.0)) (sym c.for_sysvol.ensures ∙ c.if-for_sysvol.false) (interlink_is c.args.refs.now c.args.n c.place-2.ensures c.is_interlink.ensures c.if-not-is_interlink.true)
+link-is_interlink-requires t c = fits7 c.args.refs.now c.args.doms.now c.args.texts.now c.args.clock c.args.n c.requires.0 (is_due7 c.args.n c.if-n-eq-DUE9.false c.requires.1.0 c.requires.1.1.0) c.place.ensures
 
 pub link-case_at-requires-2 : goal.link-case_at-requires-2
-link-case_at-requires-2 t c = (turn_few, (place_in_few c.args.n c.place-3.ensures, c.requires.0.counted))
+link-case_at-requires-2 t c = (turn_few, (place_in_few c.args.n c.place-2.ensures, c.requires.0.counted))
 
 pub link-interlink-requires : goal.link-interlink-requires
-link-interlink-requires t c = (rank_falls c.args.n _ 0 c.decreases c.case_at-2.ensures.its_left, ((turns c.args.refs.now c.args.doms.now c.args.texts.now c.args.clock c.args.n c.requires.0 (is_due7 c.args.n c.if-n-eq-DUE9.false c.requires.1.0 c.requires.1.1.0) c.place-3.ensures c.case_at-2.ensures (c.requires.1.1.1 (is_due7 c.args.n c.if-n-eq-DUE9.false c.requires.1.0 c.requires.1.1.0)) (sym c.for_sysvol.ensures ∙ c.if-for_sysvol.false) (interlink_is c.args.refs.now c.args.n c.place-2.ensures c.is_interlink.ensures c.if-not-is_interlink.false)).point, c.case_at-2.ensures.its_case))
+link-interlink-requires t c = (rank_falls c.args.n _ 0 c.decreases c.case_at-2.ensures.its_left, ((turns c.args.refs.now c.args.doms.now c.args.texts.now c.args.clock c.args.n c.requires.0 (is_due7 c.args.n c.if-n-eq-DUE9.false c.requires.1.0 c.requires.1.1.0) c.place-2.ensures c.case_at-2.ensures (c.requires.1.1.1 (is_due7 c.args.n c.if-n-eq-DUE9.false c.requires.1.0 c.requires.1.1.0)) (sym c.for_sysvol.ensures ∙ c.if-for_sysvol.false) (interlink_is c.args.refs.now c.args.n c.place.ensures c.is_interlink.ensures c.if-not-is_interlink.false)).point, c.case_at-2.ensures.its_case))
 
 pub link-returns : goal.link-returns
-link-returns t c = rests_on c.args.refs.now c.args.doms.now c.args.texts.now c.args.clock c.args.n (turns c.args.refs.now c.args.doms.now c.args.texts.now c.args.clock c.args.n c.requires.0 (is_due7 c.args.n c.if-n-eq-DUE9.false c.requires.1.0 c.requires.1.1.0) c.place-3.ensures c.case_at-2.ensures (c.requires.1.1.1 (is_due7 c.args.n c.if-n-eq-DUE9.false c.requires.1.0 c.requires.1.1.0)) (sym c.for_sysvol.ensures ∙ c.if-for_sysvol.false) (interlink_is c.args.refs.now c.args.n c.place-2.ensures c.is_interlink.ensures c.if-not-is_interlink.false)) c.interlink.ensures
+link-returns t c = rests_on c.args.refs.now c.args.doms.now c.args.texts.now c.args.clock c.args.n (turns c.args.refs.now c.args.doms.now c.args.texts.now c.args.clock c.args.n c.requires.0 (is_due7 c.args.n c.if-n-eq-DUE9.false c.requires.1.0 c.requires.1.1.0) c.place-2.ensures c.case_at-2.ensures (c.requires.1.1.1 (is_due7 c.args.n c.if-n-eq-DUE9.false c.requires.1.0 c.requires.1.1.0)) (sym c.for_sysvol.ensures ∙ c.if-for_sysvol.false) (interlink_is c.args.refs.now c.args.n c.place.ensures c.is_interlink.ensures c.if-not-is_interlink.false)) c.interlink.ensures
 
 pub lookup-sought-found-requires : goal.lookup-sought-found-requires
 lookup-sought-found-requires t c = c.requires.0.ready

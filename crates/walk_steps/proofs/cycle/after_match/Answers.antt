@@ -8,5 +8,5 @@ returns-then-not-is_expired c = after_fresh _ _ (sym c.is_expired.ensures ∙ c.
 pub returns-then-is_root : goal.returns-then-is_root
 returns-then-is_root c = after_root _ _ (sym c.is_expired.ensures ∙ c.if-not-is_expired.false) (sym c.is_root.ensures ∙ c.if-is_root.true)
 
-pub returns : goal.returns
-returns c = after_link _ _ (sym c.is_expired.ensures ∙ c.if-not-is_expired.false) (sym c.is_root.ensures ∙ c.if-is_root.false)
+pub returns-else-is_root : goal.returns-else-is_root
+returns-else-is_root c = after_link _ _ (sym c.is_expired.ensures ∙ c.if-not-is_expired.false) (sym c.is_root.ensures ∙ c.if-is_root.false)

@@ -17,5 +17,5 @@ returns-then-dc_count-eq0 c = dc_bare c.args.doms.now c.args.path.now (dc_withou
 pub dc_hint-requires : goal.dc_hint-requires
 dc_hint-requires c = dc_fits c.args.doms.now c.args.path.now c.host.ensures c.find_domain.ensures _ c.in-Some.is
 
-pub returns : goal.returns
-returns c = dc_there c.args.doms.now c.args.path.now _ (search rules) c.dc_hint.ensures (dc_hinted_lem c.args.doms.now c.args.path.now c.host.ensures c.find_domain.ensures _ c.in-Some.is (ne_eqb _ 0 (λ z. c.if-dc_count-eq0.false (c.dc_count.ensures ∙ z))))
+pub returns-else-dc_count-eq0 : goal.returns-else-dc_count-eq0
+returns-else-dc_count-eq0 c = dc_there c.args.doms.now c.args.path.now _ (search rules) c.dc_hint.ensures (dc_hinted_lem c.args.doms.now c.args.path.now c.host.ensures c.find_domain.ensures _ c.in-Some.is (ne_eqb _ 0 (λ z. c.if-dc_count-eq0.false (c.dc_count.ensures ∙ z))))

@@ -7,5 +7,5 @@ returns-then-m-eq-ASK_LINK c = rests_asked c.args.refs.now c.args.doms.now c.arg
 pub step5-requires : goal.step5-requires
 step5-requires c = without_point c.args.refs.now c.args.doms.now c.args.texts.now c.args.n c.root_asked-m.ensures c.if-m-eq-ASK_LINK.false
 
-pub returns : goal.returns
-returns c = without_next c.args.refs.now c.args.doms.now c.args.texts.now c.args.n c.root_asked-m.ensures c.step5.ensures
+pub returns-else-m-eq-ASK_LINK : goal.returns-else-m-eq-ASK_LINK
+returns-else-m-eq-ASK_LINK c = without_next c.args.refs.now c.args.doms.now c.args.texts.now c.args.n c.root_asked-m.ensures c.step5.ensures

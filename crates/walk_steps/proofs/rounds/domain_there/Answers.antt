@@ -1,8 +1,6 @@
-use Rattle.walk_steps.proofs.rounds.RoundLaws.{there_gone, there_held}
+use mathlib.Core.Path.{◌∙◌}
+use Rattle.walk_steps.proofs.rounds.RoundLaws.{there_told}
 use Rattle.walk_steps.proofs.rounds.domain_there.Goals as goal
 
-pub returns-in_default : goal.returns-in_default
-returns-in_default c = there_gone _ _ c.domain_place.ensures c.in_default.is
-
 pub returns : goal.returns
-returns c = there_held _ _ c.domain_place.ensures _ c.in-Some.is
+returns c = c.is_some.ensures ∙ there_told _ _ _ c.domain_place.ensures

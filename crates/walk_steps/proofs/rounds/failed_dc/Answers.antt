@@ -1,5 +1,4 @@
 use Rattle.walk_steps.proofs.steps.StepLaws.{first_within}
-use Rattle.walk_steps.proofs.rounds.FailLaws.{dc_exhausted, dc_next}
 use Rattle.walk_steps.proofs.rounds.RoundLaws.{dcs_few}
 use Rattle.cache.proofs.order.KindLaws.{prefix_short}
 use native.Mathlib.Omega.{arith}
@@ -8,11 +7,5 @@ use Rattle.walk_steps.proofs.rounds.failed_dc.Goals as goal
 pub next_place-dc-requires : goal.next_place-dc-requires
 next_place-dc-requires c = omega (arith, c.dcs.ensures, dcs_few c.args.path.now c.args.doms.now)
 
-pub returns-then-dc-q : goal.returns-then-dc-q
-returns-then-dc-q c = λ hit. dc_exhausted _ _ c.next_place-dc.ensures c.dcs.ensures c.if-dc-q.true
-
 pub overflow_cast-entry : goal.overflow_cast-entry
 overflow_cast-entry c = omega (arith, first_within 1 _ c.first_end-entry.ensures, prefix_short _ c.requires)
-
-pub returns : goal.returns
-returns c = λ hit. dc_next _ _ c.next_place-dc.ensures c.dcs.ensures c.if-dc-q.false c.first_end-entry.ensures

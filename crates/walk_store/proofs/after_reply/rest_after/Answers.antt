@@ -12,4 +12,4 @@ pub returns-in-Dcs : goal.returns-in-Dcs
 returns-in-Dcs c = on_dcs c.args.refs.now c.args.doms.now c.args.rooms.now c.args.g c.args.q.kind c.args.taken _ c.in-Dcs.is c.from_domain.ensures
 
 pub returns-in-Entry : goal.returns-in-Entry
-returns-in-Entry c = on_entry_lem c.args.refs.now c.args.doms.now c.args.rooms.now c.args.g c.args.q.kind c.args.taken _ _ c.in-Entry.is c.is_for_sysvol-sysvol.ensures c.from_stored.ensures
+returns-in-Entry c = on_entry_lem c.args.refs.now c.args.doms.now c.args.rooms.now c.args.g c.args.q.kind c.args.taken _ _ c.in-Entry.is c.is_for_sysvol.ensures c.from_stored.ensures

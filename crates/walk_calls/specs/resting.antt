@@ -1,0 +1,2 @@
+-- Where a walk of any content rests.
+pub mod Code

@@ -35,7 +35,6 @@ pub extern "C" fn dfsc_start(
     let o = walk_calls::calls::start(
         refs,
         doms,
-        dfsc_memory::no_walk(),
         &mut walk[n..],
         path,
         boot,
@@ -173,7 +172,7 @@ pub extern "C" fn dfsc_read_domains(reply: &[u8], size: u32, doms: &mut [u16]) -
     ensures cache { doms.new ≡ domains_after size reply.now doms.old }
 {
     let read = cache_store::domain_cache::read_domains(reply, size, doms);
-    dfsc_memory::domains_number(read)
+    dfsc_memory::number(read)
 }
 
 // The referral cache as text: its units, or 2^32 times 4 or 10.
@@ -193,7 +192,7 @@ pub extern "C" fn dfsc_read(text: &[u16], refs: &mut [u16]) -> u32
     ensures cache { refs.new ≡ read_after text.now refs.old }
 {
     let answer = listing_read::read_listing::read(text, refs);
-    dfsc_memory::read_number(answer)
+    dfsc_memory::number(answer)
 }
 
 // Expires every entry of the referral cache: 0, or 4.
@@ -203,7 +202,7 @@ pub extern "C" fn dfsc_expire_all(refs: &mut [u16]) -> u32
     ensures cache { refs.new ≡ (expire_all_call refs.old).cache }
 {
     let answer = cache_upkeep::expire_all(refs);
-    dfsc_memory::upkeep_number(answer)
+    dfsc_memory::number(answer)
 }
 
 // Expires the referral entry whose prefix is equal to the path: 0, or 4, 1, 2 or 27.
@@ -213,7 +212,7 @@ pub extern "C" fn dfsc_expire(refs: &mut [u16], path: &[u16]) -> u32
     ensures cache { refs.new ≡ (expire_call refs.old path.now).cache }
 {
     let answer = cache_upkeep::expire(refs, path);
-    dfsc_memory::upkeep_number(answer)
+    dfsc_memory::number(answer)
 }
 
 // Moves the DCHint of the domain of an equal name to its next DC: 0, or 4 or 27.
@@ -223,7 +222,7 @@ pub extern "C" fn dfsc_next_dc(doms: &mut [u16], name: &[u16]) -> u32
     ensures cache { doms.new ≡ (next_dc_call doms.old name.now).cache }
 {
     let answer = cache_upkeep::next_dc(doms, name);
-    dfsc_memory::upkeep_number(answer)
+    dfsc_memory::number(answer)
 }
 
 // The version of the interface.

@@ -4,13 +4,7 @@ use Rattle.laws.specs.Choice.{choose}
 use Rattle.laws.specs.Lists.{pasted}
 use Rattle.walk_form.specs.declared.held.Walk.{Walk}
 use Rattle.walk_form.specs.packed.Packing.{packed_walk}
-use Rattle.listing_read.specs.read_listing.Code as red
-use Rattle.listing_read.specs.declared.read_listing.Loaded.{Loaded}
 
 -- the units of a walk after a call, as they are written
 unfoldable pub closed_units : ℕ → Walk → List ℕ → List ℕ
 closed_units number w units = choose (eqb number 0) (pasted units 0 (packed_walk w)) units
-
--- `dfsc_read`: the numbers of its answers
-abbrev pub read_refusal : Loaded → ℕ
-read_refusal answer = red.load_refusal answer

@@ -1,6 +1,6 @@
 -- The calls of hosts in other languages. A walk is lent as 800 units: its packed form in the first 32 (`walk_form::packed`), then its three texts. Units
 -- of another length or not of that form are a walk out of form.
-use Rattle.std.specs.Prelude.{ℕ, ◌*◌, false, List, ◌++◌, take, drop, eqb, Option, Some, None}
+use Rattle.std.specs.Prelude.{ℕ, ◌*◌, false, List, ◌++◌, take, drop, eqb, Result, Ok, Err, Option, Some, None}
 use Rattle.laws.specs.Choice.{choose}
 use Rattle.walk_steps.specs.declared.steps.End.TheVariants.{Gone}
 use Rattle.walk_steps.specs.declared.steps.Next.TheVariants.{Ends}
@@ -9,8 +9,7 @@ use Rattle.walk_form.specs.packed.Packing.{packed_walk, unpacked}
 use Rattle.walk_calls.specs.call_end.Closing.{Left}
 use Rattle.walk_calls.specs.calls.Calls.{refusal_number, Answered, start_call, referral_call, io_call}
 use Rattle.walk_shown.specs.question.Shown.{Given, shown_number, party_call, name_call, path_call, question_call, end_call}
-use Rattle.walk_shown.specs.declared.question.Shown.{Shown}
-use Rattle.walk_shown.specs.declared.question.Shown.TheVariants.{Units, NotInOrder, OutOfForm, ShortBuffer, NoEntry}
+use Rattle.walk_shown.specs.declared.question.ShowError.{ShowError}
 
 -- a walk that is out of form with any texts: its limit is 0
 unfoldable pub no_walk : Walk
@@ -70,12 +69,9 @@ unfoldable pub io_answer_units : List ℕ → List ℕ → List ℕ → ℕ → 
 io_answer_units refs doms units status clock out = answer_in_units units (io_call refs doms (texts_in units) (walk_in units) status clock out)
 
 -- how many units are shown, or 65,536 times the number that says why there are none
-unfoldable pub shown_result : Shown → ℕ
-shown_result (Units n) = n
-shown_result NotInOrder = 65536 * shown_number NotInOrder
-shown_result OutOfForm = 65536 * shown_number OutOfForm
-shown_result ShortBuffer = 65536 * shown_number ShortBuffer
-shown_result NoEntry = 65536 * shown_number NoEntry
+unfoldable pub shown_result : Result ℕ ShowError → ℕ
+shown_result (Ok n) = n
+shown_result (Err e) = 65536 * shown_number (Err e)
 
 pub record Seen : Type 0 where
   pub result : ℕ

@@ -1,35 +1,30 @@
 // What a host lends: a walk as units, and the numbers that are given back. A walk is lent as 800 units: its packed form in 32, then its texts.
 #![tactic(auto)]
 
-ghost use Rattle.std.specs.Prelude.{◌≡◌, ◌≤◌, min, length};
+ghost use Rattle.std.specs.Prelude.{◌≡◌, ◌≤◌, min, length, MatchResult};
+ghost use Rattle.std.specs.Result.{result_unwrap_or};
 ghost use Rattle.walk_calls.specs.calls.Calls.{refusal_number};
-ghost use Rattle.cache_store.specs.domain_cache.Code.{domains_refusal};
-ghost use Rattle.cache_upkeep.specs.Calls.{upkeep_number};
+ghost use Rattle.walk_calls.specs.call_end.Code.{verdict_of};
 ghost use Rattle.dfsc_memory.specs.Units.{no_walk, walk_in, shown_result};
-ghost use Rattle.dfsc_memory.specs.Code.{closed_units, read_refusal};
+ghost use Rattle.dfsc_memory.specs.Code.{closed_units};
 ghost use Rattle.dfsc_memory.specs.Listing.{list_result};
 
-use cache_store::domain_cache::DomainsRead;
-use cache_upkeep::Upkeep;
-use listing_read::read_listing::Loaded;
-use listing_write::Answer;
-use walk_calls::call_end::{Outcome, Verdict};
+use listing_write::ListError;
+use walk_calls::call_end::Refusal;
 use walk_form::held::Walk;
 use walk_form::packed::HEAD;
-use walk_shown::question::Shown;
+use walk_shown::question::ShowError;
 use walk_steps::steps::{End, Next};
 
 // The units of the packed form that are there.
 pub fn head_units(units: &[u16]) -> usize
     ensures { result ≡ min 32 (length units.now) }
 {
-    if units.len() < HEAD {
-        return units.len();
-    }
-    HEAD
+    HEAD.min(units.len())
 }
 
 // A walk that is out of form.
+#[tactic(auto, unfolding(crate::specs::Units::no_walk))]
 pub fn no_walk() -> Walk
     ensures { result ≡ no_walk }
 {
@@ -49,96 +44,50 @@ pub fn no_walk() -> Walk
 pub fn held(units: &[u16]) -> Walk
     ensures { result ≡ walk_in units.now }
 {
-    let n = head_units(units);
-    let Some(walk) = walk_form::packed::unpack(&units[..n]) else {
-        return no_walk();
-    };
-    walk
+    walk_form::packed::unpack(&units[..head_units(units)]).unwrap_or(no_walk())
 }
 
-pub fn refusal_number(verdict: Verdict) -> u32
-    ensures { result ≡ refusal_number verdict }
+// The number of a call that gives back nothing: 0 where it is done, else that of its refusal.
+pub fn number<E: Into<u32>>(answer: Result<(), E>) -> u32
+    ensures { MatchResult answer (λ _. result ≡ 0) (λ error. E.converts error result) }
 {
-    match verdict {
-        Verdict::Taken => 0,
-        Verdict::BadPath => 1,
-        Verdict::LongPath => 2,
-        Verdict::BadSettings => 3,
-        Verdict::NotInOrder => 4,
-        Verdict::OutOfForm => 5,
-        Verdict::ShortBuffer => 10,
+    match answer {
+        Ok(()) => 0,
+        Err(error) => error.into(),
     }
 }
 
 // The number of a call, and its walk into the units where it is taken.
-pub fn close(o: Outcome, units: &mut [u16]) -> u32
-    requires { refusal_number o.verdict ≡ 0 → 32 ≤ length units.old }
-    ensures number { result ≡ refusal_number o.verdict }
-    ensures units { units.new ≡ closed_units (refusal_number o.verdict) o.walk units.old }
+pub fn close(answer: Result<Walk, Refusal>, units: &mut [u16]) -> u32
+    requires { refusal_number (verdict_of answer) ≡ 0 → 32 ≤ length units.old }
+    ensures number { result ≡ refusal_number (verdict_of answer) }
+    ensures units { (walk : Walk) → units.new ≡ closed_units (refusal_number (verdict_of answer)) (result_unwrap_or answer walk) units.old }
 {
-    let verdict = o.verdict;
-    let number = refusal_number(verdict);
-    if number != 0 {
-        return number;
-    }
-    let walk = o.walk;
-    walk_form::packed::pack(walk, units);
-    0
-}
-
-pub fn shown_result(s: Shown) -> u32
-    ensures { result ≡ shown_result s }
-{
-    match s {
-        Shown::Units(n) => n as u32,
-        Shown::NotInOrder => 262144,
-        Shown::OutOfForm => 327680,
-        Shown::ShortBuffer => 655360,
-        Shown::NoEntry => 1769472,
+    match answer {
+        Ok(walk) => {
+            walk_form::packed::pack(walk, units);
+            0
+        }
+        Err(refusal) => refusal.into(),
     }
 }
 
-pub fn domains_number(read: DomainsRead) -> u32
-    ensures { result ≡ domains_refusal read }
+// How many units are shown, or why none are, in one number, as include/dfsc.h gives it to hosts.
+pub fn shown_result(shown: Result<u16, ShowError>) -> u32
+    ensures { result ≡ shown_result shown }
 {
-    match read {
-        DomainsRead::Done => 0,
-        DomainsRead::BadSize => 3,
-        DomainsRead::NotInOrder => 4,
-        DomainsRead::TooMany => 6,
-        DomainsRead::Unreadable => 7,
+    match shown {
+        Ok(n) => n as u32,
+        Err(error) => 65536 * u32::from(error),
     }
 }
 
-pub fn list_result(answer: Answer) -> u64
+// As `shown_result`, in 64 bits.
+pub fn list_result(answer: Result<usize, ListError>) -> u64
     ensures { result ≡ list_result answer }
 {
     match answer {
-        Answer::Units(n) => n as u64,
-        Answer::NotInOrder => 17179869184,
-        Answer::TooShort => 42949672960,
-    }
-}
-
-pub fn read_number(answer: Loaded) -> u32
-    ensures { result ≡ read_refusal answer }
-{
-    match answer {
-        Loaded::Done => 0,
-        Loaded::NotInOrder => 4,
-        Loaded::NotListing => 8,
-        Loaded::TooMany => 9,
-    }
-}
-
-pub fn upkeep_number(answer: Upkeep) -> u32
-    ensures { result ≡ upkeep_number answer }
-{
-    match answer {
-        Upkeep::Done => 0,
-        Upkeep::BadPath => 1,
-        Upkeep::LongPath => 2,
-        Upkeep::NotInOrder => 4,
-        Upkeep::NoEntry => 27,
+        Ok(n) => n as u64,
+        Err(error) => 4294967296 * u64::from(u32::from(error)),
     }
 }

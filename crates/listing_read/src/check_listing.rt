@@ -1,177 +1,131 @@
 // Whether a text is a listing, and of how many entries: document 01, "The listing".
-ghost use Rattle.std.specs.Prelude.{◌≡◌, drop};
+ghost use Rattle.std.specs.Prelude.{◌≡◌, MatchOption, [], eqb, get_or};
 ghost use Rattle.listing_read.specs.listing_rules.Entries.{lines_of, opens_entry};
 ghost use Rattle.cache.specs.order.Order.{distinct};
-ghost use Rattle.listing_read.specs.check_listing.Code.{checked};
-ghost use Rattle.listing_read.specs.check_listing.Code.{is_number_line, is_kind_line, later_line, good_line, hint_step, step_of, counted, is_ended, prefix_lines, apart_from};
+ghost use Rattle.listing_read.specs.check_listing.Code.{checked, is_number_line, is_kind_line, good_line, hint_step, step_of, counted, is_ended, prefix_lines, apart_from, FirstLine};
 
 use listing_write::{
     FAILBACK, HINT, INTERLINK, KIND_LINK, KIND_ROOT, LINE_END, PREFIX, TAKEN, TARGET, TTL,
 };
 
-const OPENING: u16 = 112;
-
-const MOST: u32 = 4294967295;
+// With which the line of a prefix begins; no other line does.
+const OPENING: u16 = b'p' as u16;
 
 const TARGET_LINE: usize = 7;
 
 const LINES: usize = 15;
 
-// What a text is as a listing.
-#[derive(Clone, Copy)]
-pub enum Checked {
-    Bad,
-    // a listing of so many entries
-    Entries(usize),
-}
-
-// What a line leaves of its entry: how many lines it has at least.
-#[derive(Clone, Copy)]
-enum Step {
-    Wrong,
-    Least(usize),
-}
-
 // Whether a line with this key says a number of at most `most`.
+#[tactic(auto, unfolding(crate::specs::check_listing::Code::is_number_line, crate::specs::check_listing::Code::at_most))]
 fn number_within(key: &[u16], line: &[u16], most: u32) -> bool
     ensures { result ≡ is_number_line key.now most line.now }
 {
-    let Some(n) = crate::line::number_line(key, line) else {
-        return false;
-    };
-    n <= most
+    crate::line::number_line(key, line).is_some_and(|n| n <= most)
 }
 
+#[tactic(auto, using(listing_spelling::proofs::unspell::NumberLaws::pointwise_same), unfolding(crate::specs::check_listing::Code::is_kind_line, listing_write::specs::Form::kind_word))]
 fn kind_line(line: &[u16]) -> bool
     ensures { result ≡ is_kind_line line.now }
 {
-    let root = KIND_ROOT;
-    if crate::line::same_units(&root, line) {
-        return true;
-    }
-    let link = KIND_LINK;
-    crate::line::same_units(&link, line)
+    KIND_ROOT.as_slice() == line || KIND_LINK.as_slice() == line
 }
 
-// Whether a line is line j of an entry, from ttl on; hint is tested elsewhere.
-fn later_line(line: &[u16], j: usize) -> bool
-    ensures { result ≡ later_line j line.now }
-{
-    if j == 4 {
-        let ttl = TTL;
-        return number_within(&ttl, line, MOST);
-    }
-    if j == 5 {
-        let taken = TAKEN;
-        return number_within(&taken, line, MOST);
-    }
-    if LINES <= j {
-        return false;
-    }
-    let target = TARGET;
-    crate::line::path_line(&target, line)
-}
-
-// Whether a line is line j of an entry, from 0.
+// Whether a line is line j of an entry, from 0; the hint is tested elsewhere. A match on j: what a line says goes by its place alone.
+#[tactic(auto, unfolding(crate::specs::check_listing::Code::good_line, crate::specs::check_listing::Code::later_line, laws::specs::Choice::choose))]
 fn good_line(line: &[u16], j: usize) -> bool
     ensures { result ≡ good_line j line.now }
 {
-    if j == 0 {
-        let prefix = PREFIX;
-        return crate::line::path_line(&prefix, line);
+    match j {
+        0 => crate::line::path_line(&PREFIX, line),
+        1 => kind_line(line),
+        2 => number_within(&INTERLINK, line, 1),
+        3 => number_within(&FAILBACK, line, 1),
+        4 => number_within(&TTL, line, u32::MAX),
+        5 => number_within(&TAKEN, line, u32::MAX),
+        _ => j < LINES && crate::line::path_line(&TARGET, line),
     }
-    if j == 1 {
-        return kind_line(line);
-    }
-    if j == 2 {
-        let interlink = INTERLINK;
-        return number_within(&interlink, line, 1);
-    }
-    if j == 3 {
-        let failback = FAILBACK;
-        return number_within(&failback, line, 1);
-    }
-    later_line(line, j)
 }
 
 // The hint is one of the targets, so the entry has at least that many lines after the hint's, and one more.
-fn hint_step(line: &[u16]) -> Step
+#[tactic(auto, unfolding(crate::specs::check_listing::Code::hint_step, crate::specs::check_listing::Code::least_for))]
+fn hint_step(line: &[u16]) -> Option<usize>
     ensures { result ≡ hint_step line.now }
 {
-    let key = HINT;
-    let Some(n) = crate::line::number_line(&key, line) else {
-        return Step::Wrong;
-    };
-    Step::Least(TARGET_LINE + 1 + n as usize)
+    crate::line::number_line(&HINT, line).map(|n| TARGET_LINE + 1 + n as usize)
 }
 
-// Line j of an entry that has at least `least` lines.
-fn line_step(line: &[u16], j: usize, least: usize) -> Step
+// Line j of an entry that has at least `least` lines: how many it has at least after it, if the line is right.
+#[tactic(auto, unfolding(crate::specs::check_listing::Code::step_of, laws::specs::Choice::choose))]
+fn line_step(line: &[u16], j: usize, least: usize) -> Option<usize>
     ensures { result ≡ step_of j least line.now }
 {
     if j == 6 {
-        return hint_step(line);
+        hint_step(line)
+    } else {
+        good_line(line, j).then_some(least)
     }
-    if !good_line(line, j) {
-        return Step::Wrong;
-    }
-    Step::Least(least)
 }
 
-// Whether the text ends at `at` or a line of a prefix begins there.
-fn opens_at(text: &[u16], at: usize) -> bool
-    ensures { result ≡ opens_entry (lines_of (drop at text.now)) }
+// The first line of a text, without its end, and the text after it; none where the text is empty.
+fn split_line(text: &[u16]) -> Option<(&[u16], &[u16])>
+    ensures { MatchOption result (lines_of text.now ≡ []) (λ p. FirstLine text.now p.0.now p.1.now) }
 {
-    if text.len() <= at {
-        return true;
+    if text.is_empty() {
+        return None;
     }
-    text[at] == OPENING
+    let end = crate::line::line_end(text, 0);
+    Some((&text[..end], crate::line::part_from(text, end + 1)))
+}
+
+// Whether a line is one of a prefix.
+fn is_prefix(line: &[u16]) -> bool
+    ensures { result ≡ eqb (get_or line.now 0 0) 112 }
+{
+    line.first().is_some_and(|u| *u == OPENING)
+}
+
+// Whether the text ends or a line of a prefix begins.
+#[tactic(auto, using(crate::proofs::check_listing::TextLaws::opens_none, crate::proofs::check_listing::TextLaws::opens_some))]
+fn opens(text: &[u16]) -> bool
+    ensures { result ≡ opens_entry (lines_of text.now) }
+{
+    text.first().is_none_or(|u| *u == OPENING)
 }
 
 // Whether all lines are those of entries, and of how many.
-fn count_entries(text: &[u16]) -> Checked
+fn count_entries(text: &[u16]) -> Option<usize>
     ensures { result ≡ counted (lines_of text.now) }
 {
     let mut count = 0;
     let mut j = 0;
     let mut least = TARGET_LINE + 1;
-    let mut at = 0;
-    while at < text.len() {
-        let end = crate::line::line_end(text, at);
-        let Step::Least(need) = line_step(&text[at..end], j, least) else {
-            return Checked::Bad;
-        };
-        at = end + 1;
-        if !opens_at(text, at) {
-            j += 1;
-            least = need;
-            continue;
+    let mut rest = text;
+    while let Some((line, after)) = split_line(rest) {
+        least = line_step(line, j, least)?;
+        j += 1;
+        rest = after;
+        if opens(rest) {
+            if j < least {
+                return None;
+            }
+            count += 1;
+            j = 0;
+            least = TARGET_LINE + 1;
         }
-        if j + 1 < need {
-            return Checked::Bad;
-        }
-        count += 1;
-        j = 0;
-        least = TARGET_LINE + 1;
     }
-    Checked::Entries(count)
+    Some(count)
 }
 
-// Whether no line of a prefix from `from` on is the same as this line.
-fn apart_from(text: &[u16], from: usize, line: &[u16]) -> bool
-    ensures { result ≡ apart_from line.now (lines_of (drop from text.now)) }
+// Whether no line of a prefix is the same as this line.
+fn apart_from(text: &[u16], line: &[u16]) -> bool
+    ensures { result ≡ apart_from line.now (lines_of text.now) }
 {
-    let mut at = from;
-    while at < text.len() {
-        let end = crate::line::line_end(text, at);
-        if text[at] != OPENING {
-            at = end + 1;
-            continue;
-        }
-        if unc::names::same_name(line, &text[at..end]) {
+    let mut rest = text;
+    while let Some((other, after)) = split_line(rest) {
+        if is_prefix(other) && unc::names::same_name(line, other) {
             return false;
         }
-        at = end + 1;
+        rest = after;
     }
     true
 }
@@ -180,44 +134,31 @@ fn apart_from(text: &[u16], from: usize, line: &[u16]) -> bool
 fn prefixes_apart(text: &[u16]) -> bool
     ensures { result ≡ distinct (prefix_lines (lines_of text.now)) }
 {
-    let mut at = 0;
-    while at < text.len() {
-        let end = crate::line::line_end(text, at);
-        if text[at] != OPENING {
-            at = end + 1;
-            continue;
-        }
-        if !apart_from(text, end + 1, &text[at..end]) {
+    let mut rest = text;
+    while let Some((line, after)) = split_line(rest) {
+        if is_prefix(line) && !apart_from(after, line) {
             return false;
         }
-        at = end + 1;
+        rest = after;
     }
     true
 }
 
 // Whether the last line is ended.
+#[tactic(auto, using(crate::proofs::check_listing::TextLaws::ended_none, crate::proofs::check_listing::TextLaws::ended_some))]
 fn is_ended(text: &[u16]) -> bool
     ensures { result ≡ is_ended text.now }
 {
-    let n = text.len();
-    if n == 0 {
-        return true;
-    }
-    text[n - 1] == LINE_END
+    text.last().is_none_or(|u| *u == LINE_END)
 }
 
 // Whether a text is a listing, and of how many entries.
-pub fn check_text(text: &[u16]) -> Checked
+pub fn check_text(text: &[u16]) -> Option<usize>
     ensures { result ≡ checked text.now }
 {
     if !is_ended(text) {
-        return Checked::Bad;
+        return None;
     }
-    let Checked::Entries(n) = count_entries(text) else {
-        return Checked::Bad;
-    };
-    if !prefixes_apart(text) {
-        return Checked::Bad;
-    }
-    Checked::Entries(n)
+    let n = count_entries(text)?;
+    prefixes_apart(text).then_some(n)
 }

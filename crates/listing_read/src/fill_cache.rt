@@ -1,5 +1,5 @@
 // A listing read into the places of a referral cache: document 01, "The listing". What is read here has been tested; nothing is tested again.
-ghost use Rattle.std.specs.Prelude.{◌≡◌, true, ◌+◌, ◌-◌, ◌≤◌, ◌<◌, length, take, drop};
+ghost use Rattle.std.specs.Prelude.{◌≡◌, true, ◌≤◌, ◌<◌, length, drop};
 ghost use Rattle.cache.specs.places.Layout.{place_count, room_units};
 ghost use Rattle.cache.specs.places.Code.{changed};
 ghost use Rattle.cache.specs.order.Memory.{referrals, right_size, encode};
@@ -11,18 +11,20 @@ ghost use Rattle.listing_read.specs.listing_rules.Read.{is_listing, placed};
 ghost use Rattle.listing_read.specs.fill_cache.Code.{said_at, NumberAt, NumberRead, PathAt, PathRead, TargetRead, SettingsRead, TargetsRead, EntryRead, LinesAt};
 
 use cache::places::{HEAD, PLACE, ROOM};
+use cache_entry::write_entry::Settings;
+use listing_write::{HINT, PREFIX, TAKEN, TTL};
 
 // The units of "prefix=" and of "target=".
-const PATH_KEY: usize = 7;
+const PATH_KEY: usize = PREFIX.len();
 
 // With which "root" begins, and not "link".
-const ROOT: u16 = 114;
+const ROOT: u16 = b'r' as u16;
 
 // A flag that is set.
-const ONE: u16 = 49;
+const ONE: u16 = b'1' as u16;
 
 // With which the line of a target begins; of those that may stand there no other does.
-const TARGET: u16 = 116;
+const TARGET: u16 = b't' as u16;
 
 // A number that a line says, and where the next line begins.
 #[derive(Clone, Copy)]
@@ -38,26 +40,22 @@ fn number_at(text: &[u16], at: usize, key: usize) -> Read
 {
     let end = crate::line::line_end(text, at);
     let from = at + key;
-    let Some(value) = listing_spelling::unspell::decimal_form(&text[from..end]) else {
-        return Read {
-            value: 0,
-            next: end + 1,
-        };
-    };
+    // the line was tested, so that it says a number: the 0 never comes
+    let value = listing_spelling::unspell::decimal_form(&text[from..end]).unwrap_or(0);
     Read {
         value,
         next: end + 1,
     }
 }
 
-// Text j of place i, as the last text of the place, from the spelling between `from` and `end`.
-fn put_value(text: &[u16], from: usize, end: usize, refs: &mut [u16], i: usize, j: usize)
-    requires { (i < place_count refs.old) × ((j < 9) × ((from ≤ end) × ((end ≤ length text.now) × ((is_spelled (take (end - from) (drop from text.now)) ≡ true) × (length (unspelled (take (end - from) (drop from text.now))) ≤ room_units))))) }
-    ensures { refs.new ≡ changed i (add_text j (unspelled (take (end - from) (drop from text.now)))) refs.old }
+// Text j of place i, as the last text of the place, from its spelling.
+fn put_value(value: &[u16], refs: &mut [u16], i: usize, j: usize)
+    requires { (i < place_count refs.old) × ((j < 9) × ((is_spelled value.now ≡ true) × (length (unspelled value.now) ≤ room_units))) }
+    ensures { refs.new ≡ changed i (add_text j (unspelled value.now)) refs.old }
 {
     let at = i * PLACE;
     let start = at + HEAD + j * ROOM;
-    let stop = listing_spelling::unspell::unspell(&text[from..end], refs, start);
+    let stop = listing_spelling::unspell::unspell(value, refs, start);
     memory::clear_units(refs, stop, start + ROOM - stop);
     memory::put_unit(refs, at + j, (stop - start) as u16);
     cache::places::put_unit(refs, i, cache::places::COUNT, j as u16);
@@ -69,7 +67,7 @@ fn put_path(text: &[u16], at: usize, refs: &mut [u16], i: usize, j: usize) -> us
     ensures { PathRead at text.now i j refs.old refs.new result }
 {
     let end = crate::line::line_end(text, at);
-    put_value(text, at + PATH_KEY, end, refs, i, j);
+    put_value(&text[at + PATH_KEY..end], refs, i, j);
     end + 1
 }
 
@@ -90,10 +88,8 @@ fn put_targets(text: &[u16], at: usize, refs: &mut [u16], i: usize) -> usize
 {
     let mut end = at;
     let mut n = 0;
-    while end < text.len() {
-        if text[end] != TARGET {
-            return end;
-        }
+    // goes by lines, which differ in length: where the next begins is known once this one is read
+    while end < text.len() && text[end] == TARGET {
         end = put_target(text, end, refs, i, n);
         n += 1;
     }
@@ -108,18 +104,17 @@ fn put_settings(text: &[u16], at: usize, refs: &mut [u16], i: usize) -> usize
     let root = text[at + 5] == ROOT;
     let interlink = text[at + 20] == ONE;
     let failback = text[at + 31] == ONE;
-    let ttl = number_at(text, at + 33, 4);
-    let taken = number_at(text, ttl.next, 6);
-    let hint = number_at(text, taken.next, 5);
-    cache_entry::write_entry::put_settings(
-        refs,
-        i,
+    let ttl = number_at(text, at + 33, TTL.len());
+    let taken = number_at(text, ttl.next, TAKEN.len());
+    let hint = number_at(text, taken.next, HINT.len());
+    let settings = Settings {
         root,
         interlink,
         failback,
-        ttl.value,
-        taken.value,
-    );
+        ttl: ttl.value,
+        taken: taken.value,
+    };
+    cache_entry::write_entry::put_settings(refs, i, settings);
     cache::places::put_unit(refs, i, cache::places::HINT, hint.value as u16);
     hint.next
 }
@@ -142,6 +137,7 @@ pub fn fill(text: &[u16], refs: &mut [u16])
 {
     let mut at = 0;
     let mut i = 0;
+    // goes by entries, which differ in length: where the next begins is known once this one is read
     while at < text.len() {
         at = put_entry(text, at, refs, i);
         i += 1;

@@ -2,26 +2,23 @@
 ghost use Rattle.std.specs.Prelude.{◌≡◌, ◌+◌, ◌≤◌, ◌<◌, length};
 ghost use Rattle.listing_spelling.specs.spell.Spelling.{stands, digit_unit, hex_units, spelled_unit, spelled, decimal, Put};
 
-const TILDE: u16 = 126;
+pub(crate) const TILDE: u16 = b'~' as u16;
 
 // Whether a unit stands as it is.
+#[tactic(auto, unfolding(crate::specs::spell::Spelling::stands))]
 pub fn stands(u: u16) -> bool
     ensures { result ≡ stands u }
 {
-    if u < 33 {
-        return false;
-    }
-    u < TILDE
+    33 <= u && u < TILDE
 }
 
+// The unit of a hex digit.
+#[tactic(auto, unfolding(crate::specs::spell::Spelling::digit_unit, laws::specs::Choice::choose))]
 fn digit(d: u16) -> u16
     requires { d < 16 }
     ensures { result ≡ digit_unit d }
 {
-    if d < 10 {
-        return 48 + d;
-    }
-    55 + d
+    if d < 10 { 48 + d } else { 55 + d }
 }
 
 // Four hex digits into a lent buffer from `at` on; answers where they end.
@@ -29,11 +26,12 @@ pub fn put_hex(out: &mut [u16], at: usize, u: u16) -> usize
     requires { at + 4 ≤ length out.old }
     ensures { Put out.old at (hex_units u) out.new result }
 {
-    let a = digit(u / 4096 % 16);
-    let b = digit(u / 256 % 16);
-    let c = digit(u / 16 % 16);
-    let d = digit(u % 16);
-    let units = [a, b, c, d];
+    let units = [
+        digit(u / 4096 % 16),
+        digit(u / 256 % 16),
+        digit(u / 16 % 16),
+        digit(u % 16),
+    ];
     memory::copy_units(out, at, &units);
     at + 4
 }
@@ -44,10 +42,11 @@ fn put_unit(out: &mut [u16], at: usize, u: u16) -> usize
 {
     if stands(u) {
         memory::put_unit(out, at, u);
-        return at + 1;
+        at + 1
+    } else {
+        memory::put_unit(out, at, TILDE);
+        put_hex(out, at + 1, u)
     }
-    memory::put_unit(out, at, TILDE);
-    put_hex(out, at + 1, u)
 }
 
 // A text spelled into a lent buffer from `at` on; answers where it ends.
@@ -56,16 +55,16 @@ pub fn put_spelled(out: &mut [u16], at: usize, s: &[u16]) -> usize
     ensures { Put out.old at (spelled s.now) out.new result }
 {
     let mut end = at;
-    let mut i = 0;
-    while i < s.len() {
-        end = put_unit(out, end, s[i]);
-        i += 1;
+    for u in s {
+        end = put_unit(out, end, *u);
     }
     end
 }
 
+#[tactic(auto, unfolding(crate::specs::spell::Spelling::spelled_unit, crate::specs::spell::Spelling::hex_units, laws::specs::Choice::choose))]
 fn unit_units(u: u16) -> usize
-    ensures { result ≡ length (spelled_unit u) }
+    ensures units { result ≡ length (spelled_unit u) }
+    ensures few { result ≤ 5 }
 {
     if stands(u) { 1 } else { 5 }
 }
@@ -75,13 +74,7 @@ pub fn spelled_units(s: &[u16]) -> usize
     requires { length s.now ≤ 65536 }
     ensures { result ≡ length (spelled s.now) }
 {
-    let mut n = 0;
-    let mut i = 0;
-    while i < s.len() {
-        n += unit_units(s[i]);
-        i += 1;
-    }
-    n
+    s.iter().map(|u| unit_units(*u)).sum()
 }
 
 // A number in decimal into a lent buffer from `at` on; answers where it ends.
@@ -91,19 +84,17 @@ pub fn put_decimal(out: &mut [u16], at: usize, n: u32) -> usize
 {
     if n < 10 {
         memory::put_unit(out, at, 48 + n as u16);
-        return at + 1;
+        at + 1
+    } else {
+        let end = put_decimal(out, at, n / 10);
+        memory::put_unit(out, end, 48 + (n % 10) as u16);
+        end + 1
     }
-    let end = put_decimal(out, at, n / 10);
-    memory::put_unit(out, end, 48 + (n % 10) as u16);
-    end + 1
 }
 
 // How many digits a number has.
 pub fn decimal_units(n: u32) -> usize
     ensures { result ≡ length (decimal n) }
 {
-    if n < 10 {
-        return 1;
-    }
-    decimal_units(n / 10) + 1
+    if n < 10 { 1 } else { decimal_units(n / 10) + 1 }
 }

@@ -1,86 +1,52 @@
 // What spelled texts and numbers say: document 01, "The listing". No other spelling is read.
-ghost use Rattle.std.specs.Prelude.{◌≡◌, true, ◌+◌, ◌-◌, ◌≤◌, ◌<◌, length, drop};
+ghost use Rattle.std.specs.Prelude.{◌≡◌, true, ◌+◌, ◌≤◌, ◌<◌, length};
 ghost use Rattle.laws.specs.Listed.{same_list};
 ghost use Rattle.listing_spelling.specs.spell.Spelling.{decimal, Put};
 ghost use Rattle.listing_spelling.specs.unspell.Reading.{digit_of, hex_of, unspelled, is_spelled, hex_digit};
-ghost use Rattle.listing_spelling.specs.unspell.Code.{spelled_form, hex_digits, is_escape, decimal_form};
+ghost use Rattle.listing_spelling.specs.unspell.Code.{spelled_form, hex_digits, is_escape, small_value, decimal_form};
 
-const TILDE: u16 = 126;
-
-const MOST: u64 = 4294967295;
+use crate::spell::{TILDE, put_decimal, stands};
 
 // Whether a unit is an upper-case hex digit.
+#[tactic(auto, unfolding(crate::specs::unspell::Reading::hex_digit))]
 fn hex_digit(u: u16) -> bool
     ensures { result ≡ hex_digit u }
 {
-    if u < 48 {
-        return false;
-    }
-    if u < 58 {
-        return true;
-    }
-    if u < 65 {
-        return false;
-    }
-    u < 71
+    matches!(u, 48..=57 | 65..=70)
 }
 
-fn hex_digits(s: &[u16], i: usize) -> bool
-    requires { i + 4 ≤ length s.now }
-    ensures { result ≡ hex_digits (drop i s.now) }
+// Whether a text begins with four hex digits.
+fn hex_digits(s: &[u16]) -> bool
+    requires { 4 ≤ length s.now }
+    ensures { result ≡ hex_digits s.now }
 {
-    if !hex_digit(s[i]) {
-        return false;
-    }
-    if !hex_digit(s[i + 1]) {
-        return false;
-    }
-    if !hex_digit(s[i + 2]) {
-        return false;
-    }
-    hex_digit(s[i + 3])
+    s[..4].iter().all(|u| hex_digit(*u))
 }
 
+// The value of a hex digit.
+#[tactic(auto, unfolding(crate::specs::unspell::Reading::digit_of, laws::specs::Choice::choose))]
 fn digit_of(u: u16) -> u32
     ensures value { result ≡ digit_of u }
     ensures small { result < 65536 }
 {
-    if u < 48 {
-        return 0;
-    }
-    if u < 58 {
-        return u as u32 - 48;
-    }
-    u as u32 - 55
+    u32::from(u.saturating_sub(if u < 58 { 48 } else { 55 }))
 }
 
 // The unit that four digits say.
-fn hex_of(s: &[u16], i: usize) -> u32
-    requires { i + 4 ≤ length s.now }
-    ensures { result ≡ hex_of (drop i s.now) }
+#[tactic(auto, unfolding(crate::specs::unspell::Reading::hex_of))]
+fn hex_of(s: &[u16]) -> u32
+    requires { 4 ≤ length s.now }
+    ensures { result ≡ hex_of s.now }
 {
-    let a = digit_of(s[i]);
-    let b = digit_of(s[i + 1]);
-    let c = digit_of(s[i + 2]);
-    let d = digit_of(s[i + 3]);
-    4096 * a + (256 * b + (16 * c + d))
+    4096 * digit_of(s[0]) + (256 * digit_of(s[1]) + (16 * digit_of(s[2]) + digit_of(s[3])))
 }
 
-// Whether the escape of a unit that does not stand as it is stands at `i`.
-fn is_escape(s: &[u16], i: usize) -> bool
-    requires { i < length s.now }
-    ensures { result ≡ is_escape (drop i s.now) }
+// Whether a text begins with the escape of a unit that does not stand as it is.
+#[tactic(auto, using(crate::proofs::unspell::HexLaws::hexes_small), unfolding(crate::specs::unspell::Code::is_escape))]
+fn is_escape(s: &[u16]) -> bool
+    ensures { result ≡ is_escape s.now }
 {
-    if s.len() - i < 5 {
-        return false;
-    }
-    if s[i] != TILDE {
-        return false;
-    }
-    if !hex_digits(s, i + 1) {
-        return false;
-    }
-    !crate::spell::stands(hex_of(s, i + 1) as u16)
+    s.len() >= 5 && s[0] == TILDE && hex_digits(&s[1..]) && !stands(hex_of(&s[1..]) as u16)
 }
 
 // Whether a text is a spelling, and of how many units.
@@ -88,18 +54,16 @@ pub fn spelled_form(s: &[u16]) -> Option<usize>
     ensures { result ≡ spelled_form s.now }
 {
     let mut n = 0;
-    let mut i = 0;
-    while i < s.len() {
-        if crate::spell::stands(s[i]) {
-            n += 1;
-            i += 1;
-            continue;
-        }
-        if !is_escape(s, i) {
+    let mut rest = s;
+    while let Some((u, tail)) = rest.split_first() {
+        rest = if stands(*u) {
+            tail
+        } else if is_escape(rest) {
+            &rest[5..]
+        } else {
             return None;
-        }
+        };
         n += 1;
-        i += 5;
     }
     Some(n)
 }
@@ -110,17 +74,16 @@ pub fn unspell(s: &[u16], out: &mut [u16], at: usize) -> usize
     ensures { Put out.old at (unspelled s.now) out.new result }
 {
     let mut end = at;
-    let mut i = 0;
-    while i < s.len() {
-        if s[i] != TILDE {
-            memory::put_unit(out, end, s[i]);
-            end += 1;
-            i += 1;
-            continue;
+    let mut rest = s;
+    while let Some((u, tail)) = rest.split_first() {
+        if *u == TILDE {
+            memory::put_unit(out, end, hex_of(tail) as u16);
+            rest = &tail[4..];
+        } else {
+            memory::put_unit(out, end, *u);
+            rest = tail;
         }
-        memory::put_unit(out, end, hex_of(s, i + 1) as u16);
         end += 1;
-        i += 5;
     }
     end
 }
@@ -129,48 +92,28 @@ pub fn unspell(s: &[u16], out: &mut [u16], at: usize) -> usize
 fn is_decimal(s: &[u16], n: u32) -> bool
     ensures { result ≡ same_list (decimal n) s.now }
 {
-    let mut v = n;
-    let mut k = s.len();
-    loop {
-        if k == 0 {
-            return false;
-        }
-        if s[k - 1] as u32 != 48 + v % 10 {
-            return false;
-        }
-        if v < 10 {
-            return k == 1;
-        }
-        v = v / 10;
-        k -= 1;
-    }
+    let mut room: [u16; 10] = [0; 10];
+    let end = put_decimal(&mut room, 0, n);
+    &room[..end] == s
 }
 
-fn decimal_digit(u: u16) -> u64
-    ensures { result ≡ u - 48 }
+// The number that digits say, if it has 32 bits.
+fn value_of(s: &[u16]) -> Option<u32>
+    ensures { result ≡ small_value s.now }
 {
-    if u < 48 {
-        return 0;
+    let mut n: u32 = 0;
+    for u in s {
+        n = n
+            .checked_mul(10)?
+            .checked_add(u32::from(u.saturating_sub(48)))?;
     }
-    u as u64 - 48
+    Some(n)
 }
 
 // Whether a text is the decimal of a number of 32 bits, and of which.
+#[tactic(auto, unfolding(crate::specs::unspell::Code::small_value, crate::specs::unspell::Code::decimal_form, crate::specs::unspell::Code::is_decimal, laws::specs::Choice::choose))]
 pub fn decimal_form(s: &[u16]) -> Option<u32>
     ensures { result ≡ decimal_form s.now }
 {
-    let mut v: u64 = 0;
-    let mut i = 0;
-    while i < s.len() {
-        v = 10 * v + decimal_digit(s[i]);
-        if MOST < v {
-            return None;
-        }
-        i += 1;
-    }
-    let n = v as u32;
-    if !is_decimal(s, n) {
-        return None;
-    }
-    Some(n)
+    value_of(s).filter(|n| is_decimal(s, *n))
 }

@@ -7,6 +7,7 @@ use native.Mathlib.Numerals.{add-one}
 use native.Mathlib.Omega.{arith}
 use lib.ListN.{length, drop, length-append, length-take}
 use lib.Dec.{eqb}
+use Rattle.std.specs.Int.{from_bool}
 use Rattle.laws.specs.Choice.{choose}
 use Rattle.laws.specs.Lists.{pasted, part}
 use Rattle.laws.specs.Listed.{listed}
@@ -47,67 +48,26 @@ pub length_ended : (line : List ℕ) → length (ended line) ≡ length line + 1
 unfolding ended
 length_ended line = length-append line (10 ∷ [])
 
-module _ (d : List ℕ) (at : ℕ) (key v : List ℕ) (fits : at + length (ended (key ++ v)) ≤ length d) where
+module _ (d : List ℕ) (at : ℕ) (key v : List ℕ) (fits : at + length (ended (key ++ v)) ≤ length d) {m : List ℕ} (keyed : m ≡ pasted d at key) where
   -- what is left of a line after its key
-  line_keyed : {m : List ℕ} → m ≡ pasted d at key → Left (pasted d at (ended (key ++ v))) (at + length (ended (key ++ v))) m (at + length key) (v ++ (10 ∷ []))
-  line_keyed e = left_next key (v ++ (10 ∷ [])) (left_start d at (ended (key ++ v)) fits) (ended_parts key v) (put_piece e)
+  line_keyed : Left (pasted d at (ended (key ++ v))) (at + length (ended (key ++ v))) m (at + length key) (v ++ (10 ∷ []))
+  line_keyed = left_next key (v ++ (10 ∷ [])) (left_start d at (ended (key ++ v)) fits) (ended_parts key v) (put_piece keyed)
 
-  line_key_fits : at + length key ≤ length d
-  line_key_fits = omega (arith, length_line key v)
+  pub line_value_fits : at + length key + length v ≤ length m
+  line_value_fits = left_fits v (10 ∷ []) line_keyed refl
 
-  line_value_fits : {m : List ℕ} → m ≡ pasted d at key → at + length key + length v ≤ length m
-  line_value_fits e = left_fits v (10 ∷ []) (line_keyed e) refl
+  module _ {o : List ℕ} {r : ℕ} (w : Put m (at + length key) v o r) where
+    line_valued : Left (pasted d at (ended (key ++ v))) (at + length (ended (key ++ v))) o r (10 ∷ [])
+    line_valued = left_next v (10 ∷ []) line_keyed refl w
 
-  line_valued : {m o : List ℕ} {r : ℕ} → m ≡ pasted d at key → Put m (at + length key) v o r
-      → Left (pasted d at (ended (key ++ v))) (at + length (ended (key ++ v))) o r (10 ∷ [])
-  line_valued e w = left_next v (10 ∷ []) (line_keyed e) refl w
+    pub line_end_fits : r < length o
+    line_end_fits = omega (arith, line_valued.fits)
 
-  line_end_fits : {m o : List ℕ} {r : ℕ} → m ≡ pasted d at key → Put m (at + length key) v o r → r + 1 ≤ length o
-  line_end_fits e w = (line_valued e w).fits
+    pub line_put : {x : List ℕ} {e : ℕ} → Put o r (10 ∷ []) x e → Put d at (ended (key ++ v)) x e
+    line_put f = left_done d at (ended (key ++ v)) (left_next (10 ∷ []) [] line_valued refl f) refl refl refl
 
-  line_put : {m o x : List ℕ} {r : ℕ} → m ≡ pasted d at key → Put m (at + length key) v o r → x ≡ pasted o r (10 ∷ []) → Put d at (ended (key ++ v)) x (r + 1)
-  line_put e w f = left_done d at (ended (key ++ v)) (left_next (10 ∷ []) [] (line_valued e w) refl (put_piece f)) refl refl refl
-
-module _ (d : List ℕ) (at : ℕ) (key s : List ℕ) (fits : at + length (ended (path_line key s)) ≤ length d) where
-  pub path_key_fits : at + length key ≤ length d
-  unfolding path_line
-  path_key_fits = line_key_fits d at key (spelled s) fits
-
-  pub path_value_fits : {m : List ℕ} → m ≡ pasted d at key → at + length key + length (spelled s) ≤ length m
-  unfolding path_line
-  path_value_fits e = line_value_fits d at key (spelled s) fits e
-
-  pub path_end_fits : {m o : List ℕ} {r : ℕ} → m ≡ pasted d at key → Put m (at + length key) (spelled s) o r → r + 1 ≤ length o
-  unfolding path_line
-  path_end_fits e w = line_end_fits d at key (spelled s) fits e w
-
-  pub path_put : {m o x : List ℕ} {r : ℕ} → m ≡ pasted d at key → Put m (at + length key) (spelled s) o r → x ≡ pasted o r (10 ∷ []) → Put d at (ended (path_line key s)) x (r + 1)
-  unfolding path_line
-  path_put e w f = line_put d at key (spelled s) fits e w f
-
-module _ (d : List ℕ) (at : ℕ) (key : List ℕ) (n : ℕ) (fits : at + length (ended (number_line key n)) ≤ length d) where
-  pub number_key_fits : at + length key ≤ length d
-  unfolding number_line
-  number_key_fits = line_key_fits d at key (decimal n) fits
-
-  pub number_value_fits : {m : List ℕ} → m ≡ pasted d at key → at + length key + length (decimal n) ≤ length m
-  unfolding number_line
-  number_value_fits e = line_value_fits d at key (decimal n) fits e
-
-  pub number_end_fits : {m o : List ℕ} {r : ℕ} → m ≡ pasted d at key → Put m (at + length key) (decimal n) o r → r + 1 ≤ length o
-  unfolding number_line
-  number_end_fits e w = line_end_fits d at key (decimal n) fits e w
-
-  pub number_put : {m o x : List ℕ} {r : ℕ} → m ≡ pasted d at key → Put m (at + length key) (decimal n) o r → x ≡ pasted o r (10 ∷ []) → Put d at (ended (number_line key n)) x (r + 1)
-  unfolding number_line
-  number_put e w f = line_put d at key (decimal n) fits e w f
-
--- a whole line
-pub whole_line_put : (d : List ℕ) (at : ℕ) (line : List ℕ) {m x : List ℕ} {e : ℕ} → at + length (ended line) ≤ length d → m ≡ pasted d at line → e ≡ at + length line → x ≡ pasted m e (10 ∷ [])
-    → Put d at (ended line) x (e + 1)
-unfolding ended
-whole_line_put d at line h e k f =
-    left_done d at (ended line) (left_next (10 ∷ []) [] (left_next line (10 ∷ []) (left_start d at (ended line) h) refl (record { memory = e; end = k })) refl (put_piece f)) refl refl refl
+pub line_key_fits : (d : List ℕ) (at : ℕ) (key v : List ℕ) → at + length (ended (key ++ v)) ≤ length d → at + length key ≤ length d
+line_key_fits d at key v fits = omega (arith, length_line key v)
 
 -- lines of two lists
 pub lines_append : (a b : List (List ℕ)) → lines_text (a ++ b) ≡ lines_text a ++ lines_text b
@@ -122,13 +82,10 @@ entry_parts e =
     ∙ ap (λ (x : List ℕ). lines_text (setting_lines e) ++ x) (lines_append (count_lines e) (target_lines e.targets))
 
 -- the flags
-pub number_set : (key : List ℕ) (b : Bool) → b ≡ true → number_line key 1 ≡ number_line key (flag_unit b)
+pub flag_from : (b : Bool) → from_bool b ≡ flag_unit b
 unfolding flag_unit choose
-number_set key b h = ap (λ (x : Bool). number_line key (flag_unit x)) (sym h)
-
-pub number_clear : (key : List ℕ) (b : Bool) → b ≡ false → number_line key 0 ≡ number_line key (flag_unit b)
-unfolding flag_unit choose
-number_clear key b h = ap (λ (x : Bool). number_line key (flag_unit x)) (sym h)
+flag_from true = refl
+flag_from false = refl
 
 one_digit : (b : Bool) → length (decimal (flag_unit b)) ≡ 1
 unfolding flag_unit choose decimal decimal_in

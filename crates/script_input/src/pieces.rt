@@ -14,6 +14,7 @@ pub struct Came {
     pub ended: bool,
 }
 
+#[tactic(auto, unfolding(crate::specs::pieces::Pieces::no_line))]
 fn no_line() -> Held
     ensures { result ≡ no_line }
 {
@@ -24,72 +25,70 @@ fn no_line() -> Held
 }
 
 // Before the first byte.
+#[tactic(auto, unfolding(crate::specs::pieces::Pieces::nothing_came))]
 pub fn nothing() -> Came
     ensures { result ≡ nothing_came }
 {
-    let held = no_line();
     Came {
-        held,
+        held: no_line(),
         at: 0,
         input: Input::Line,
         ended: false,
     }
 }
 
+#[tactic(auto, unfolding(crate::specs::pieces::Pieces::going_on))]
 fn going_on(input: Input, held: Held) -> Held
     ensures { result ≡ going_on input held }
 {
     match input {
         Input::Part => held,
-        Input::Line => no_line(),
-        Input::End => no_line(),
+        Input::Line | Input::End => no_line(),
     }
 }
 
+#[tactic(auto, unfolding(crate::specs::pieces::Pieces::last_came, laws::specs::Choice::choose))]
 fn last_came(held: Held, at: usize) -> Came
     ensures { result ≡ last_came held at }
 {
-    if held.kept == 0 {
-        return Came {
-            held,
-            at,
-            input: Input::End,
-            ended: true,
-        };
-    }
+    let input = if held.kept == 0 {
+        Input::End
+    } else {
+        Input::Line
+    };
     Came {
         held,
         at,
-        input: Input::Line,
+        input,
         ended: true,
     }
 }
 
 // Goes on with the line by the bytes of a piece from `last.at` on.
+#[tactic(auto, using(crate::proofs::pieces::PieceLaws::line_within), unfolding(crate::specs::pieces::Pieces::arrives, crate::specs::pieces::Pieces::line_in, crate::specs::pieces::Pieces::up_to, crate::specs::pieces::Pieces::last_came, laws::specs::Choice::choose))]
 pub fn come(units: &[u16], line: &mut [u16], last: Came) -> Came
     ensures { arrived result line.new ≡ arrives units.now line.old (going_on last.input last.held) last.at }
 {
-    let input = last.input;
-    let before = last.held;
-    let held = going_on(input, before);
+    let held = going_on(last.input, last.held);
     let at = last.at;
     if units.len() <= at {
         return last_came(held, at);
     }
     let end = listing_read::line::line_end(units, at);
-    let next = script_lines::line_bytes::hold(&units[at..end], line, held);
+    let held = script_lines::line_bytes::hold(&units[at..end], line, held);
     if end == units.len() {
-        return Came {
-            held: next,
+        Came {
+            held,
             at: end,
             input: Input::Part,
             ended: false,
-        };
-    }
-    Came {
-        held: next,
-        at: end + 1,
-        input: Input::Line,
-        ended: false,
+        }
+    } else {
+        Came {
+            held,
+            at: end + 1,
+            input: Input::Line,
+            ended: false,
+        }
     }
 }

@@ -20,69 +20,49 @@ pub struct Held {
     pub rest: Rest,
 }
 
+// a to f as A to F.
+#[tactic(auto, unfolding(crate::specs::line_bytes::Hexes::upper, laws::specs::Choice::choose))]
 fn upper(u: u16) -> u16
     ensures { result ≡ upper u }
 {
-    if u < 97 {
-        return u;
+    match u {
+        97..=102 => u - 32,
+        _ => u,
     }
-    if u < 103 {
-        return u - 32;
-    }
-    u
 }
 
 // Whether a unit is a hex digit.
+#[tactic(auto, unfolding(crate::specs::line_bytes::Hexes::is_hex, listing_spelling::specs::unspell::Reading::hex_digit))]
 pub fn is_hex(u: u16) -> bool
     ensures { result ≡ is_hex u }
 {
-    let d = upper(u);
-    if d < 48 {
-        return false;
-    }
-    if d < 58 {
-        return true;
-    }
-    if d < 65 {
-        return false;
-    }
-    d < 71
+    matches!(upper(u), 48..=57 | 65..=70)
 }
 
+#[tactic(auto, unfolding(crate::specs::line_bytes::Hexes::is_hex, crate::specs::line_bytes::Hexes::hex_value, listing_spelling::specs::unspell::Reading::hex_digit, listing_spelling::specs::unspell::Reading::digit_of, laws::specs::Choice::choose))]
 fn value(u: u16) -> u8
     requires { is_hex u ≡ true }
     ensures digit { result ≡ hex_value u }
     ensures small { result < 16 }
 {
-    let d = upper(u);
-    if d < 58 {
-        return d as u8 - 48;
-    }
-    d as u8 - 55
+    let d = upper(u) as u8;
+    if d < 58 { d - 48 } else { d - 55 }
 }
 
 // Whether a text has hex digits alone.
 pub fn all_hex(s: &[u16]) -> bool
     ensures { result ≡ every is_hex s.now }
 {
-    let mut i = 0;
-    while i < s.len() {
-        if !is_hex(s[i]) {
-            return false;
-        }
-        i += 1;
-    }
-    true
+    s.iter().all(|u| is_hex(*u))
 }
 
+#[tactic(auto, using(laws::proofs::Every::every_at))]
 fn byte_at(s: &[u16], i: usize) -> u8
     requires { (every is_hex s.now ≡ true) × (i + 2 ≤ length s.now) }
     ensures byte { result ≡ 16 * hex_value (get_or s.now i 0) + hex_value (get_or s.now (i + 1) 0) }
     ensures small { result < 256 }
 {
-    let a = value(s[i]);
-    let b = value(s[i + 1]);
-    16 * a + b
+    16 * value(s[i]) + value(s[i + 1])
 }
 
 // The number of eight digits.
@@ -90,11 +70,7 @@ pub fn number(s: &[u16]) -> u32
     requires { (every is_hex s.now ≡ true) × (length s.now ≡ 8) }
     ensures { result ≡ hex_number s.now }
 {
-    let a = byte_at(s, 0) as u32;
-    let b = byte_at(s, 2) as u32;
-    let c = byte_at(s, 4) as u32;
-    let d = byte_at(s, 6) as u32;
-    16777216 * a + (65536 * b + (256 * c + d))
+    u32::from_be_bytes([byte_at(s, 0), byte_at(s, 2), byte_at(s, 4), byte_at(s, 6)])
 }
 
 // The bytes that pairs of digits say, as many as the buffer holds; answers how many.
@@ -103,39 +79,28 @@ pub fn put_bytes(s: &[u16], out: &mut [u8]) -> usize
     ensures count { result ≡ length (take (length out.old) (hex_bytes s.now)) }
     ensures bytes { out.new ≡ pasted out.old 0 (take (length out.old) (hex_bytes s.now)) }
 {
-    let n = memory::least(out.len(), s.len() / 2);
-    let mut i = 0;
-    while i < n {
-        out[i] = byte_at(s, 2 * i);
-        i += 1;
+    let n = out.len().min(s.len() / 2);
+    for (i, byte) in out[..n].iter_mut().enumerate() {
+        *byte = byte_at(s, 2 * i);
     }
     n
 }
 
+#[tactic(auto, unfolding(crate::specs::line_bytes::Held::next_rest, crate::specs::line_bytes::Held::one_more, laws::specs::Choice::choose))]
 fn next_rest(rest: Rest, u: u16) -> Rest
     ensures { result ≡ next_rest rest u }
 {
-    if !is_hex(u) {
-        return Rest::Other;
-    }
     match rest {
-        Rest::None => Rest::Odd,
-        Rest::Even => Rest::Odd,
-        Rest::Odd => Rest::Even,
-        Rest::Other => Rest::Other,
+        Rest::None | Rest::Even if is_hex(u) => Rest::Odd,
+        Rest::Odd if is_hex(u) => Rest::Even,
+        _ => Rest::Other,
     }
 }
 
 fn rest_with(rest: Rest, s: &[u16]) -> Rest
     ensures { result ≡ rest_from rest s.now }
 {
-    let mut r = rest;
-    let mut i = 0;
-    while i < s.len() {
-        r = next_rest(r, s[i]);
-        i += 1;
-    }
-    r
+    s.iter().fold(rest, |r, u| next_rest(r, *u))
 }
 
 // Bytes as units, as many as the buffer holds; answers how many.
@@ -143,11 +108,9 @@ pub fn widen(src: &[u8], out: &mut [u16]) -> usize
     ensures count { result ≡ length (take (length out.old) src.now) }
     ensures units { out.new ≡ pasted out.old 0 (take (length out.old) src.now) }
 {
-    let n = memory::least(out.len(), src.len());
-    let mut i = 0;
-    while i < n {
-        out[i] = src[i] as u16;
-        i += 1;
+    let n = out.len().min(src.len());
+    for (i, byte) in src[..n].iter().enumerate() {
+        out[i] = u16::from(*byte);
     }
     n
 }
@@ -157,18 +120,16 @@ pub fn hold(part: &[u16], line: &mut [u16], held: Held) -> Held
     ensures held { result ≡ held_after (length line.old) held part.now }
     ensures line { line.new ≡ line_after line.old held part.now }
 {
-    let kept = held.kept;
-    let rest = held.rest;
-    if line.len() <= kept {
+    if line.len() <= held.kept {
         return Held {
-            kept,
-            rest: rest_with(rest, part),
+            rest: rest_with(held.rest, part),
+            ..held
         };
     }
-    let n = memory::least(line.len() - kept, part.len());
-    memory::copy_units(line, kept, &part[..n]);
+    let n = part.len().min(line.len() - held.kept);
+    memory::copy_units(line, held.kept, &part[..n]);
     Held {
-        kept: kept + n,
-        rest: rest_with(rest, &part[n..]),
+        kept: held.kept + n,
+        rest: rest_with(held.rest, &part[n..]),
     }
 }

@@ -1,48 +1,65 @@
 // A question, an end and a refusal as the lines that the program `walk` prints: document 01, "Examples to hold it to".
-ghost use Rattle.std.specs.Prelude.{◌+◌, ◌≤◌, length};
+ghost use Rattle.std.specs.Prelude.{◌≡◌, ◌+◌, ◌≤◌, length};
 ghost use Rattle.listing_spelling.specs.spell.Spelling.{Put};
 ghost use Rattle.listing_write.specs.Form.{ended, lines_text};
 ghost use Rattle.walk_form.specs.packed.Packing.{kind_at};
 ghost use Rattle.script_output.specs.printed.Printed.{ask_line, size_lines, question_lines, end_lines, refused_line};
 
-// The kind by its number: 1 dc, 2 root, 3 link, 4 sysvol, else io.
+use listing_write::{PATH, SIZE, units};
+
+const ASK_DC: [u16; 6] = units![b'a' b's' b'k' b'=' b'd' b'c'];
+
+const ASK_ROOT: [u16; 8] = units![b'a' b's' b'k' b'=' b'r' b'o' b'o' b't'];
+
+const ASK_LINK: [u16; 8] = units![b'a' b's' b'k' b'=' b'l' b'i' b'n' b'k'];
+
+const ASK_SYSVOL: [u16; 10] = units![b'a' b's' b'k' b'=' b's' b'y' b's' b'v' b'o' b'l'];
+
+const ASK_IO: [u16; 6] = units![b'a' b's' b'k' b'=' b'i' b'o'];
+
+const TO: [u16; 3] = units![b't' b'o' b'='];
+
+const NAME: [u16; 5] = units![b'n' b'a' b'm' b'e' b'='];
+
+const END: [u16; 4] = units![b'e' b'n' b'd' b'='];
+
+const MOVES: [u16; 6] = units![b'm' b'o' b'v' b'e' b's' b'='];
+
+const REFUSED: [u16; 8] = units![b'r' b'e' b'f' b'u' b's' b'e' b'd' b'='];
+
+// The kind by its number, as hosts are given it: 1 dc, 2 root, 3 link, 4 sysvol, else io.
+#[tactic(auto, unfolding(crate::specs::printed::Printed::ask_line, crate::specs::printed::Printed::ask_word, walk_form::specs::packed::Packing::kind_at, laws::specs::Choice::choose))]
+fn ask_line(kind: u32) -> &'static [u16]
+    ensures { result.now ≡ ask_line (kind_at kind) }
+{
+    match kind {
+        1 => &ASK_DC,
+        2 => &ASK_ROOT,
+        3 => &ASK_LINK,
+        4 => &ASK_SYSVOL,
+        _ => &ASK_IO,
+    }
+}
+
+// The line that says the kind.
 fn put_ask(out: &mut [u16], at: usize, kind: u32) -> usize
     requires { at + length (ended (ask_line (kind_at kind))) ≤ length out.old }
     ensures { Put out.old at (ended (ask_line (kind_at kind))) out.new result }
 {
-    if kind == 1 {
-        // ask=dc
-        return listing_write::put_line(out, at, &[97, 115, 107, 61, 100, 99]);
-    }
-    if kind == 2 {
-        // ask=root
-        return listing_write::put_line(out, at, &[97, 115, 107, 61, 114, 111, 111, 116]);
-    }
-    if kind == 3 {
-        // ask=link
-        return listing_write::put_line(out, at, &[97, 115, 107, 61, 108, 105, 110, 107]);
-    }
-    if kind == 4 {
-        // ask=sysvol
-        return listing_write::put_line(out, at, &[97, 115, 107, 61, 115, 121, 115, 118, 111, 108]);
-    }
-    // ask=io
-    listing_write::put_line(out, at, &[97, 115, 107, 61, 105, 111])
+    listing_write::put_line(out, at, ask_line(kind))
 }
 
 // The size, but for I/O.
+#[tactic(auto, using(crate::proofs::printed::PrintedLaws::size_line, crate::proofs::printed::PrintedLaws::no_size, crate::proofs::printed::PrintedLaws::nothing_put))]
 fn put_size(out: &mut [u16], at: usize, kind: u32, size: u32) -> usize
     requires { at + length (lines_text (size_lines (kind_at kind) size)) ≤ length out.old }
     ensures { Put out.old at (lines_text (size_lines (kind_at kind) size)) out.new result }
 {
-    if kind < 1 {
-        return at;
+    if matches!(kind, 1..=4) {
+        listing_write::put_number(out, at, &SIZE, size)
+    } else {
+        at
     }
-    if 4 < kind {
-        return at;
-    }
-    // size=
-    listing_write::put_number(out, at, &[115, 105, 122, 101, 61], size)
 }
 
 // A question: the number of its kind, its party, the name asked, and the size.
@@ -58,10 +75,8 @@ pub fn put_question(
     ensures { Put out.old at (question_lines (kind_at kind) party.now name.now size) out.new result }
 {
     let a = put_ask(out, at, kind);
-    // to=
-    let b = listing_write::put_path(out, a, &[116, 111, 61], party);
-    // name=
-    let c = listing_write::put_path(out, b, &[110, 97, 109, 101, 61], name);
+    let b = listing_write::put_path(out, a, &TO, party);
+    let c = listing_write::put_path(out, b, &NAME, name);
     put_size(out, c, kind, size)
 }
 
@@ -77,20 +92,17 @@ pub fn put_end(
     requires { at + length (end_lines number status path.now moves) ≤ length out.old }
     ensures { Put out.old at (end_lines number status path.now moves) out.new result }
 {
-    // end=
-    let a = listing_write::put_number(out, at, &[101, 110, 100, 61], number);
+    let a = listing_write::put_number(out, at, &END, number);
     let b = crate::printed::put_status(out, a, status);
-    // path=
-    let c = listing_write::put_path(out, b, &[112, 97, 116, 104, 61], path);
-    // moves=
-    listing_write::put_number(out, c, &[109, 111, 118, 101, 115, 61], moves)
+    let c = listing_write::put_path(out, b, &PATH, path);
+    listing_write::put_number(out, c, &MOVES, moves)
 }
 
 // A refusal by its number; 0 where the input is not of the form.
+#[tactic(auto, unfolding(crate::specs::printed::Printed::refused_line))]
 pub fn put_refused(out: &mut [u16], at: usize, number: u32) -> usize
     requires { at + length (refused_line number) ≤ length out.old }
     ensures { Put out.old at (refused_line number) out.new result }
 {
-    // refused=
-    listing_write::put_number(out, at, &[114, 101, 102, 117, 115, 101, 100, 61], number)
+    listing_write::put_number(out, at, &REFUSED, number)
 }

@@ -1,12 +1,16 @@
 // The calls of the program `walk`: the call that is due, made, and what is printed after it. Document 01, "Examples to hold it to".
-ghost use Rattle.std.specs.Prelude.{[], ◌≡◌, ◌≤◌, length};
+ghost use Rattle.std.specs.Prelude.{[], ◌≤◌, length};
 ghost use Rattle.walk_calls.specs.calls.Code.{answered};
-ghost use Rattle.script_run.specs.call_due.Calling.{lent_memory, request_room, call_told, start_made, io_made, referral_made, made, CallMade};
+ghost use Rattle.script_run.specs.call_due.Calling.{lent_memory, call_told, start_made, io_made, referral_made, made, CallMade};
 ghost use Rattle.script_run.specs.call_due.Code.{Refused};
 
 use script_lines::lines::{Due, Last, Script};
-use walk_calls::call_end::Outcome;
+use script_output::outcome::PRINTED;
+use walk_calls::call_end::Refusal;
 use walk_form::held::Walk;
+
+// The most bytes that a request has.
+const REQUEST: usize = 516;
 
 // What a call leaves besides the lent memory: what was read, the walk, and how many bytes are printed.
 #[derive(Clone, Copy)]
@@ -16,41 +20,43 @@ pub struct Done {
     pub bytes: usize,
 }
 
-// A buffer for a request.
-fn no_request() -> [u8; 516]
-    ensures bytes { result ≡ request_room }
-    ensures count { 516 ≡ length result }
+// What a call gave back, printed; where it is refused the walk stays.
+fn tell(
+    s: Script,
+    walk: Walk,
+    answer: Result<Walk, Refusal>,
+    refs: &[u16],
+    doms: &[u16],
+    texts: &[u16],
+    out: &mut [u16],
+) -> Done
+    requires { PRINTED ≤ length out.old }
+    ensures { CallMade (call_told s (answered answer walk texts.now [] refs.now doms.now)) result refs.now doms.now texts.now out.old out.new }
 {
-    [0; 516]
-}
-
-// What a call gave back, printed.
-fn tell(s: Script, o: Outcome, refs: &[u16], doms: &[u16], texts: &[u16], out: &mut [u16]) -> Done
-    requires { 4931 ≤ length out.old }
-    ensures { CallMade (call_told s (answered o texts.now [] refs.now doms.now)) result refs.now doms.now texts.now out.old out.new }
-{
-    let verdict = o.verdict;
-    let number = dfsc_memory::refusal_number(verdict);
-    let walk = o.walk;
-    let bytes = script_output::outcome::put_outcome(number, refs, doms, walk, texts, out);
-    if number != 0 {
-        let script = script_lines::lines::with_last(s, Last::Stopped);
-        return Done {
-            script,
-            walk,
-            bytes,
-        };
-    }
-    Done {
-        script: s,
-        walk,
-        bytes,
+    match answer {
+        Ok(walk) => {
+            let bytes = script_output::outcome::put_outcome(0, refs, doms, walk, texts, out);
+            Done {
+                script: s,
+                walk,
+                bytes,
+            }
+        }
+        Err(refusal) => {
+            let number = refusal.into();
+            let bytes = script_output::outcome::put_outcome(number, refs, doms, walk, texts, out);
+            Done {
+                script: script_lines::lines::with_last(s, Last::Stopped),
+                walk,
+                bytes,
+            }
+        }
     }
 }
 
 // The input is not of the form.
 fn refuse(s: Script, walk: Walk, out: &mut [u16]) -> Done
-    requires { 4931 ≤ length out.old }
+    requires { PRINTED ≤ length out.old }
     ensures { Refused s walk result out.old out.new }
 {
     let script = script_lines::lines::with_last(s, Last::Stopped);
@@ -72,16 +78,15 @@ fn start(
     boot: &[u16],
     out: &mut [u16],
 ) -> Done
-    requires { 4931 ≤ length out.old }
+    requires { PRINTED ≤ length out.old }
     ensures { CallMade (start_made s (lent_memory walk refs.now doms.now texts.old path.now boot.now [])) result refs.now doms.now texts.new out.old out.new }
 {
-    let n = memory::least(s.path, path.len());
-    let b = memory::least(s.boot, boot.len());
-    let mut request = no_request();
+    let n = s.path.min(path.len());
+    let b = s.boot.min(boot.len());
+    let mut request = [0; REQUEST];
     let o = walk_calls::calls::start(
         refs,
         doms,
-        walk,
         texts,
         &path[..n],
         &boot[..b],
@@ -90,7 +95,7 @@ fn start(
         s.clock,
         &mut request,
     );
-    tell(s, o, refs, doms, texts, out)
+    tell(s, walk, o, refs, doms, texts, out)
 }
 
 fn answer_io(
@@ -101,12 +106,12 @@ fn answer_io(
     texts: &mut [u16],
     out: &mut [u16],
 ) -> Done
-    requires { 4931 ≤ length out.old }
+    requires { PRINTED ≤ length out.old }
     ensures { CallMade (io_made s (lent_memory walk refs.old doms.now texts.old [] [] [])) result refs.new doms.now texts.new out.old out.new }
 {
-    let mut request = no_request();
+    let mut request = [0; REQUEST];
     let o = walk_calls::calls::answer_io(refs, doms, walk, texts, s.status, s.clock, &mut request);
-    tell(s, o, refs, doms, texts, out)
+    tell(s, walk, o, refs, doms, texts, out)
 }
 
 fn answer_referral(
@@ -118,11 +123,11 @@ fn answer_referral(
     reply: &[u8],
     out: &mut [u16],
 ) -> Done
-    requires { 4931 ≤ length out.old }
+    requires { PRINTED ≤ length out.old }
     ensures { CallMade (referral_made s (lent_memory walk refs.old doms.old texts.old [] [] reply.now)) result refs.new doms.new texts.new out.old out.new }
 {
-    let n = memory::least(s.reply, reply.len());
-    let mut request = no_request();
+    let n = s.reply.min(reply.len());
+    let mut request = [0; REQUEST];
     let o = walk_calls::calls::answer_referral(
         refs,
         doms,
@@ -133,10 +138,11 @@ fn answer_referral(
         s.clock,
         &mut request,
     );
-    tell(s, o, refs, doms, texts, out)
+    tell(s, walk, o, refs, doms, texts, out)
 }
 
 // Makes the call that is due.
+#[tactic(auto, using(crate::proofs::call_due::CallingLaws::due_none, crate::proofs::call_due::CallingLaws::due_refusal), unfolding(crate::specs::call_due::Calling::made, crate::specs::call_due::Calling::start_made, crate::specs::call_due::Calling::io_made, crate::specs::call_due::Calling::referral_made))]
 pub fn make(
     due: Due,
     s: Script,
@@ -149,7 +155,7 @@ pub fn make(
     reply: &[u8],
     out: &mut [u16],
 ) -> Done
-    requires { 4931 ≤ length out.old }
+    requires { PRINTED ≤ length out.old }
     ensures { CallMade (made due s (lent_memory walk refs.old doms.old texts.old path.now boot.now reply.now)) result refs.new doms.new texts.new out.old out.new }
 {
     match due {

@@ -7,57 +7,37 @@ ghost use Rattle.script_run.specs.stream.Stream.{Leaves, NextPiece};
 
 use crate::call_due::Done;
 use script_lines::lines::{Due, Script};
+use script_output::outcome::PRINTED;
 use std::io::{Read, Stdin, Stdout, Write};
 use walk_form::held::Walk;
 
-// Memory for what a call prints.
-fn out_memory() -> [u16; 4931]
-    ensures { 4931 ≡ length result }
-{
-    [0; 4931]
-}
-
-// Memory for its bytes.
-fn byte_memory() -> [u8; 4931]
-    ensures { 4931 ≡ length result }
-{
-    [0; 4931]
-}
+// The bytes of a piece of the input, at most.
+const PIECE: usize = 4096;
 
 // Units that are bytes, as bytes.
 fn narrow(units: &[u16], bytes: &mut [u8])
     requires { (length units.now ≤ length bytes.old) × (every is_byte units.now ≡ true) }
     ensures { bytes.new ≡ pasted bytes.old 0 units.now }
 {
-    let mut i = 0;
-    while i < units.len() {
-        bytes[i] = units[i] as u8;
-        i += 1;
+    for (i, unit) in units.iter().enumerate() {
+        bytes[i] = *unit as u8;
     }
-}
-
-// Memory for the bytes of a piece of the input.
-fn piece_bytes() -> [u8; 4096]
-    ensures { 4096 ≡ length result }
-{
-    [0; 4096]
 }
 
 // Writes what a call prints; a write that fails is not noticed.
 fn write(output: &mut Stdout, units: &[u16])
-    requires { (length units.now ≤ 4931) × (every is_byte units.now ≡ true) }
+    requires { (length units.now ≤ PRINTED) × (every is_byte units.now ≡ true) }
 {
-    let n = units.len();
-    let mut bytes = byte_memory();
+    let mut bytes = [0; PRINTED];
     narrow(units, &mut bytes);
-    let _ = output.write_all(&bytes[..n]);
+    let _ = output.write_all(&bytes[..units.len()]);
 }
 
 // Reads a piece of the input, and answers how many bytes came: none at its end, and none where the read fails.
 fn read(input: &mut Stdin, units: &mut [u16]) -> usize
     ensures { result ≤ length units.new }
 {
-    let mut bytes = piece_bytes();
+    let mut bytes = [0; PIECE];
     let n = input.read(&mut bytes).unwrap_or(0);
     script_lines::line_bytes::widen(&bytes[..n], units)
 }
@@ -70,19 +50,18 @@ pub struct Piece {
 }
 
 // The next piece, where this one has been used up.
+#[tactic(auto, using(crate::proofs::stream::NextLaws::bytes_left, crate::proofs::stream::NextLaws::no_more))]
 pub fn next(input: &mut Stdin, units: &mut [u16], count: usize, at: usize, ended: bool) -> Piece
     requires { count ≤ length units.old }
     ensures { NextPiece count at ended units.old units.new result }
 {
-    if at < count {
-        return Piece { count, at };
-    }
-    if ended {
-        return Piece { count, at };
-    }
-    Piece {
-        count: read(input, units),
-        at: 0,
+    if count <= at && !ended {
+        Piece {
+            count: read(input, units),
+            at: 0,
+        }
+    } else {
+        Piece { count, at }
     }
 }
 
@@ -101,9 +80,8 @@ pub fn call(
 ) -> Done
     ensures { Leaves (made due s (lent_memory walk refs.old doms.old texts.old path.now boot.now reply.now)) result refs.new doms.new texts.new }
 {
-    let mut out = out_memory();
+    let mut out = [0; PRINTED];
     let d = crate::call_due::make(due, s, walk, refs, doms, texts, path, boot, reply, &mut out);
-    let n = d.bytes;
-    write(output, &out[..n]);
+    write(output, &out[..d.bytes]);
     d
 }

@@ -2,97 +2,127 @@
 // `script_input::line_order` what it says and which call is due, and `script_run::stream` reads, makes the call and writes its lines.
 #![tactic(auto)]
 
-ghost use Rattle.std.specs.Prelude.{◌≡◌, length};
+ghost use Rattle.std.specs.Prelude.{◌≤◌, length};
 
-use script_lines::lines::Due;
+use script_input::pieces::Came;
+use script_lines::lines::{Due, Script};
+use std::io::{Stdin, Stdout};
+use walk_form::held::Walk;
 
-// The places of a cache, all free.
-fn cache() -> [u16; 18688]
-    ensures { 18688 ≡ length result }
-{
-    [0; 18688]
+// The units of a cache of eight places.
+const CACHE: usize = 18688;
+
+// The texts of a walk.
+const TEXTS: usize = 768;
+
+// A piece of the input.
+const PIECE: usize = 4096;
+
+// A line, or a text that it spells.
+const LINE: usize = 131072;
+
+// A reply: one byte more than any size asked.
+const REPLY: usize = 57345;
+
+// A walk by the lines of the input: what has come and was read, the walk, and all memory that is lent.
+#[derive(Drop)]
+struct Session {
+    script: Script,
+    walk: Walk,
+    came: Came,
+    piece: [u16; PIECE],
+    // the bytes of the piece
+    count: usize,
+    line: [u16; LINE],
+    refs: [u16; CACHE],
+    doms: [u16; CACHE],
+    texts: [u16; TEXTS],
+    path: [u16; LINE],
+    boot: [u16; LINE],
+    reply: [u8; REPLY],
+    // the piece lies in its memory
+    ghost within: { count ≤ length piece },
 }
 
-// Memory for a line, or for a text that it spells.
-fn long_text() -> [u16; 131072]
-    ensures { 131072 ≡ length result }
-{
-    [0; 131072]
-}
+impl Session {
+    // Takes up what comes next of the input; answers the call that is due before it is read.
+    fn take_up(&mut self, input: &mut Stdin) -> Due {
+        let p = script_run::stream::next(
+            input,
+            &mut self.piece,
+            self.count,
+            self.came.at,
+            self.came.ended,
+        );
+        self.count = p.count;
+        self.came.at = p.at;
+        self.came = script_input::pieces::come(&self.piece[..p.count], &mut self.line, self.came);
+        script_input::line_order::due_before(
+            self.came.input,
+            self.script,
+            &self.line,
+            self.came.held,
+        )
+    }
 
-// Memory for a reply: one byte more than any size asked.
-fn reply_memory() -> [u8; 57345]
-    ensures { 57345 ≡ length result }
-{
-    [0; 57345]
-}
+    // Reads what has come; answers the call that is due then.
+    fn read(&mut self) -> Due {
+        self.script = script_input::line_order::take(
+            self.came.input,
+            self.script,
+            &self.line,
+            self.came.held,
+            &mut self.path,
+            &mut self.boot,
+            &mut self.reply,
+        );
+        script_input::line_order::due_after(self.came.input, self.script)
+    }
 
-// Memory for the texts of a walk.
-fn walk_texts() -> [u16; 768]
-    ensures { 768 ≡ length result }
-{
-    [0; 768]
-}
-
-// Memory for a piece of the input.
-fn piece_memory() -> [u16; 4096]
-    ensures { 4096 ≡ length result }
-{
-    [0; 4096]
+    // Makes the call that is due, and writes what is printed after it.
+    fn call(&mut self, output: &mut Stdout, due: Due) {
+        let d = script_run::stream::call(
+            output,
+            due,
+            self.script,
+            self.walk,
+            &mut self.refs,
+            &mut self.doms,
+            &mut self.texts,
+            &self.path,
+            &self.boot,
+            &self.reply,
+        );
+        self.script = d.script;
+        self.walk = d.walk;
+    }
 }
 
 fn main(rt: HostRuntime) {
     let mut stdin = rt.stdin();
     let mut stdout = rt.stdout();
-    let mut refs = cache();
-    let mut doms = cache();
-    let mut texts = walk_texts();
-    let mut units = piece_memory();
-    let mut line = long_text();
-    let mut path = long_text();
-    let mut boot = long_text();
-    let mut reply = reply_memory();
-    let mut count = 0;
-    let mut came = script_input::pieces::nothing();
-    let mut s = script_lines::lines::begin();
-    let mut walk = dfsc_memory::no_walk();
-    // a turn takes up what comes next, or reads what has come; a call may be due after each
-    let mut unread = false;
+    let mut session = Session {
+        script: script_lines::lines::begin(),
+        walk: dfsc_memory::no_walk(),
+        came: script_input::pieces::nothing(),
+        piece: [0; PIECE],
+        count: 0,
+        line: [0; LINE],
+        refs: [0; CACHE],
+        doms: [0; CACHE],
+        texts: [0; TEXTS],
+        path: [0; LINE],
+        boot: [0; LINE],
+        reply: [0; REPLY],
+    };
     // nothing says that the input ends
-    let mut turns = u64::MAX;
-    while turns > 0 && script_input::line_order::goes_on(s) {
-        let mut due = Due::None;
-        if unread {
-            let input = came.input;
-            let held = came.held;
-            s = script_input::line_order::take(
-                input, s, &line, held, &mut path, &mut boot, &mut reply,
-            );
-            due = script_input::line_order::due_after(input, s);
-        } else {
-            let p = script_run::stream::next(&mut stdin, &mut units, count, came.at, came.ended);
-            count = p.count;
-            came.at = p.at;
-            came = script_input::pieces::come(&units[..count], &mut line, came);
-            let input = came.input;
-            let held = came.held;
-            due = script_input::line_order::due_before(input, s, &line, held);
+    for _ in 0..u64::MAX {
+        if !script_input::line_order::goes_on(session.script) {
+            break;
         }
-        let d = script_run::stream::call(
-            &mut stdout,
-            due,
-            s,
-            walk,
-            &mut refs,
-            &mut doms,
-            &mut texts,
-            &path,
-            &boot,
-            &reply,
-        );
-        s = d.script;
-        walk = d.walk;
-        unread = !unread;
-        turns -= 1;
+        let due = session.take_up(&mut stdin);
+        session.call(&mut stdout, due);
+        let due = session.read();
+        session.call(&mut stdout, due);
     }
 }

@@ -1,5 +1,4 @@
 -- Laws of the lines of an entry: that they pass the tests line by line is that they list an entry that a listing can say.
-use Rattle.std.specs.Prelude.{Option, None, Some}
 use mathlib.Core.Path.{◌≡◌, refl, sym, ap, subst, ◌∙◌}
 use mathlib.Core.Bool.{Bool, true, false, true≢false, ◌&&◌, not}
 use mathlib.Core.List.{List, [], ◌∷◌, ◌++◌, map}
@@ -30,8 +29,7 @@ use Rattle.listing_read.specs.line.Lines.{value_of, number_said}
 use Rattle.listing_read.specs.line.Code.{is_path_line}
 use Rattle.listing_read.specs.listing_rules.Entries.{target_said, entry_said}
 use Rattle.listing_read.proofs.listing_rules.SaidLaws.{Listable}
-use Rattle.listing_read.specs.declared.check_listing.Step.{Step}
-use Rattle.listing_read.specs.declared.check_listing.Step.TheVariants.{Wrong, Least}
+use Rattle.std.specs.Prelude.{Option, Some, None}
 use Rattle.listing_read.specs.check_listing.Code.{at_most, is_number_line, is_kind_line, later_line, good_line, least_for, hint_step, step_of, tested_after, good_lines, good_entry_lines}
 use Rattle.listing_read.proofs.check_listing.StepLaws.{target_line}
 use Rattle.listing_read.proofs.check_listing.SpelledLaws.{units_said}
@@ -147,7 +145,7 @@ kind_good true = refl
 kind_good false = refl
 
 -- the tests of a list of lines, line by line
-chosen : (b : Bool) (n : ℕ) (f : ℕ → Bool) → tested_after (choose b (Least n) Wrong) f ≡ (b && f n)
+chosen : (b : Bool) (n : ℕ) (f : ℕ → Bool) → tested_after (choose b (Some n) None) f ≡ (b && f n)
 unfolding tested_after choose
 chosen true n f = refl
 chosen false n f = refl
@@ -155,7 +153,7 @@ chosen false n f = refl
 lines_cons : (j m : ℕ) (l : List ℕ) (ls : List (List ℕ)) → (j ≡ 6 → ⊥) → good_lines j m (l ∷ ls) ≡ (good_line j l && good_lines (suc j) m ls)
 unfolding good_lines step_of
 lines_cons j m l ls h =
-    ap (λ (x : Step). tested_after x (λ (k : ℕ). good_lines (suc j) k ls)) (choose_no _ _ (ne_eqb j 6 h))
+    ap (λ (x : Option ℕ). tested_after x (λ (k : ℕ). good_lines (suc j) k ls)) (choose_no _ _ (ne_eqb j 6 h))
     ∙ chosen (good_line j l) m (λ (k : ℕ). good_lines (suc j) k ls)
 
 hint_cons : (m : ℕ) (l : List ℕ) (ls : List (List ℕ)) → good_lines 6 m (l ∷ ls) ≡ (is_number_line hint_key 4294967295 l && good_lines 7 (8 + decimal_of (value_of hint_key l)) ls)

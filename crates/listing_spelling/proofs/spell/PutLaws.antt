@@ -3,9 +3,10 @@ use mathlib.Core.Path.{◌≡◌, refl, sym, ap, ◌∙◌}
 use mathlib.Core.List.{List, [], ◌++◌}
 use Prim.Native.Nat.{ℕ, ◌+◌, ◌≤◌}
 use native.Mathlib.Omega.{arith}
-use lib.ListN.{length, length-append}
-use Rattle.laws.specs.Lists.{pasted}
-use Rattle.laws.proofs.Pasting.{pasted_nil, pasted_join, length_pasted}
+use lib.ListN.{length, take, length-append}
+use Rattle.std.proofs.Common.{zero-add}
+use Rattle.laws.specs.Lists.{pasted, part}
+use Rattle.laws.proofs.Pasting.{pasted_nil, pasted_join, length_pasted, part_pasted}
 use Rattle.listing_spelling.specs.spell.Spelling.{Put}
 
 -- what is left of a piece: it goes to d from place n on, and what stands then is the goal, with its end
@@ -59,3 +60,8 @@ put_then d n p q {m} {o} {a} {b} v w h =
 
 pub put_piece : {d : List ℕ} {n : ℕ} {p o : List ℕ} → o ≡ pasted d n p → Put d n p o (n + length p)
 put_piece e = record { memory = e; end = refl }
+
+-- a piece at the start is what a writer's buffer begins with
+pub put_first : {d p o : List ℕ} {r : ℕ} → Put d 0 p o r → length p ≤ length d → take r o ≡ p
+unfolding part
+put_first {d} {p} {o} {r} w h = (λ i. take ((w.end ∙ zero-add (length p)) i) (w.memory i)) ∙ part_pasted d 0 p (omega arith)

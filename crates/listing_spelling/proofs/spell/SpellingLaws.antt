@@ -1,41 +1,31 @@
 -- Laws of spelled texts.
 use mathlib.Core.Path.{◌≡◌, refl, sym, ap, ◌∙◌}
-use mathlib.Core.Bool.{true, false, ◌&&◌, not}
+use mathlib.Core.Bool.{true, false}
 use mathlib.Core.List.{List, [], ◌∷◌, ◌++◌}
 use mathlib.Core.Logic.{◌⊎◌, inl, inr}
-use Rattle.laws.proofs.Orders.{told, lt_or_le}
+use Rattle.laws.proofs.Orders.{told}
 use Prim.Native.Nat.{ℕ, ◌+◌, ◌*◌, ◌/◌, ◌%◌, ◌≤◌, ◌<◌}
 use native.Mathlib.Numerals.{add-one}
 use native.Mathlib.Omega.{arith}
 use lib.ListN.{length, get_or, drop, length-append, drop_of_length-le}
 use lib.Seq.{drop-cons}
-use lib.Dec.{leb, ltb, eqb}
-use borrow.Author.Tests.{ltb-true, ltb-false, le-leb, lt-leb, eq-eqb, ne_eqb}
+use lib.Dec.{ltb}
+use borrow.Author.Tests.{le-leb, lt-leb}
+use Rattle.std.specs.List.{sum_by}
+use Rattle.std.proofs.lemmas.Bool.Decides.{nat_tests}
+use Rattle.std.proofs.lemmas.List.Sums.{sum_by-cons}
 use Rattle.laws.specs.Lists.{pasted}
-use Rattle.laws.proofs.Choices.{choose_yes, choose_no, and_both, and_no_left, and_no_right}
+use Rattle.laws.proofs.Choices.{choose_yes, choose_no}
 use Rattle.listing_spelling.specs.spell.Spelling.{tilde, stands, digit_unit, hex_units, spelled_unit, spelled, Put}
 use Rattle.listing_spelling.proofs.spell.PutLaws.{put_then, put_piece}
 
 pub stands_low : (u : ℕ) → u < 33 → stands u ≡ false
 unfolding stands
-stands_low u h = and_no_left _ (lt-leb 33 u h)
+stands_low u h = grind (arith, nat_tests)
 
 pub stands_rest : (u : ℕ) → 33 ≤ u → ltb u 126 ≡ stands u
 unfolding stands
-stands_rest u h = go (told (ltb u 126))
-  where
-    last : (u < 127) ⊎ (127 ≤ u) → 126 ≤ u → (leb u 126 && not (eqb u 126)) ≡ false
-    last (inl k) l = and_no_right (leb u 126) (ap not (eq-eqb u 126 (omega arith)))
-    last (inr k) l = and_no_left _ (lt-leb u 126 (omega arith))
-
-    no : 126 ≤ u → stands u ≡ false
-    no l = and_no_right (leb 33 u) (last (lt_or_le u 127) l)
-
-    go : (ltb u 126 ≡ true) ⊎ (ltb u 126 ≡ false) → ltb u 126 ≡ stands u
-    go (inl t) =
-        let k = ltb-true u 126 t in
-        t ∙ sym (and_both (le-leb 33 u h) (and_both (le-leb u 126 (omega arith)) (ap not (ne_eqb u 126 (λ e. omega arith)))))
-    go (inr t) = t ∙ sym (no (ltb-false u 126 t))
+stands_rest u h = grind (arith, nat_tests)
 
 pub digit_low : (d : ℕ) → d < 10 → 48 + d ≡ digit_unit d
 unfolding digit_unit
@@ -102,6 +92,12 @@ spelled_cons s i h = rw (drop-cons s i 0 h, add-one i)
 pub spelled_end : (s : List ℕ) (i : ℕ) → length s ≤ i → spelled (drop i s) ≡ []
 unfolding spelled
 spelled_end s i h = rw (drop_of_length-le s h)
+
+-- its length, unit by unit
+pub spelled_sum : (s : List ℕ) → sum_by (λ u. length (spelled_unit u)) s ≡ length (spelled s)
+unfolding spelled
+spelled_sum [] = refl
+spelled_sum (u ∷ s) = omega (arith, sum_by-cons (λ u. length (spelled_unit u)) u s, spelled_sum s, length-append (spelled_unit u) (spelled s))
 
 -- how many units are left
 pub units_more : (s : List ℕ) (i : ℕ) → i < length s → length (spelled (drop i s)) ≡ length (spelled_unit (get_or s i 0)) + length (spelled (drop (i + 1) s))

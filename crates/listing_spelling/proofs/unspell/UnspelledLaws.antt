@@ -4,11 +4,10 @@ use mathlib.Core.Path.{◌≡◌, refl, sym, ap, subst, ◌∙◌}
 use mathlib.Core.Bool.{Bool, true, false, true≢false, ◌&&◌, not}
 use mathlib.Core.List.{List, [], ◌∷◌, ◌++◌}
 use mathlib.Core.Logic.{◌⊎◌, inl, inr}
-use Prim.Native.Nat.{ℕ, ◌+◌, ◌/◌, ◌%◌, ◌≤◌, ◌<◌}
-use native.Mathlib.Numerals.{add-one}
+use Prim.Native.Nat.{ℕ, ◌+◌, ◌-◌, ◌/◌, ◌%◌, ◌≤◌, ◌<◌}
 use native.Mathlib.Omega.{arith}
-use lib.ListN.{length, get_or, drop, length-drop, drop_of_length-le}
-use lib.Seq.{drop-cons, drop-drop}
+use lib.ListN.{length, take, drop, length-drop}
+use lib.Seq.{take_all}
 use lib.Dec.{leb, eqb}
 use borrow.Author.Tests.{eqb-true, eqb-false, le-leb, ltb-true}
 use Rattle.laws.specs.Choice.{choose}
@@ -172,64 +171,64 @@ form_same n t v r e f =
     let k : n + length (unspelled t) ≡ n + 1 + length (unspelled r) = omega (arith, ap length f) in
     λ i. choose (e i) (Some (k i)) None
 
-module _ (s : List ℕ) (i : ℕ) (more : i < length s) where
-  there : drop i s ≡ get_or s i 0 ∷ drop (i + 1) s
-  there = drop-cons s i 0 more ∙ ap (λ (x : ℕ). get_or s i 0 ∷ drop x s) (sym (add-one i))
+pub form_stands : {t s : List ℕ} {u : ℕ} (n : ℕ) → t ≡ u ∷ s → stands u ≡ true → form_from n t ≡ form_from (n + 1) s
+form_stands {t} {s} {u} n e h = ap (form_from n) e ∙ form_same n (u ∷ s) u s (stands_form u s h) (stands_says u s h)
 
-  pub form_stands : (n : ℕ) → stands (get_or s i 0) ≡ true → form_from n (drop i s) ≡ form_from (n + 1) (drop (i + 1) s)
-  form_stands n h = ap (form_from n) there ∙ form_same n (get_or s i 0 ∷ drop (i + 1) s) _ _ (stands_form _ _ h) (stands_says _ _ h)
+past : (t : List ℕ) (e : Escape t) → e.rest ≡ drop 5 t
+past t e = ap (drop 5) (sym e.is)
 
-  past : (e : Escape (drop i s)) → e.rest ≡ drop (i + 5) s
-  past e = ap (drop 5) (sym e.is) ∙ drop-drop 5 i s
+pub form_escape : (t : List ℕ) (n : ℕ) → is_escape t ≡ true → form_from n t ≡ form_from (n + 1) (drop 5 t)
+form_escape t n h =
+    let e = escape_told t h in
+    form_same n t _ _ (escape_form t e) (escape_says t e) ∙ ap (form_from (n + 1)) (past t e)
 
-  pub form_escape : (n : ℕ) → is_escape (drop i s) ≡ true → form_from n (drop i s) ≡ form_from (n + 1) (drop (i + 5) s)
-  form_escape n h =
-      let e = escape_told (drop i s) h in
-      form_same n (drop i s) _ _ (escape_form _ e) (escape_says _ e) ∙ ap (form_from (n + 1)) (past e)
+pub escape_within : (t : List ℕ) → is_escape t ≡ true → 5 ≤ length t
+escape_within t h = escape_long t (escape_told t h)
 
-  pub escape_within : is_escape (drop i s) ≡ true → i + 5 ≤ length s
-  escape_within h = omega (arith, escape_long _ (escape_told (drop i s) h), length-drop i s)
+pub form_bad : {t s : List ℕ} {u : ℕ} (n : ℕ) → t ≡ u ∷ s → stands u ≡ false → is_escape t ≡ false → None ≡ form_from n t
+unfolding form_from
+form_bad {t} {s} {u} n e h k =
+    sym (choose_no _ _ (refuted (is_spelled t) (λ f. true≢false (sym (must_escape u s (ap is_spelled (sym e) ∙ f) h) ∙ (ap is_escape (sym e) ∙ k)))))
 
-  pub form_bad : (n : ℕ) → stands (get_or s i 0) ≡ false → is_escape (drop i s) ≡ false → None ≡ form_from n (drop i s)
-  unfolding form_from
-  form_bad n h k =
-      sym
-      (choose_no _ _
-      (refuted (is_spelled (drop i s))
-      (λ f. true≢false (sym (subst (λ (x : List ℕ). is_escape x ≡ true) (sym there) (must_escape _ _ (subst (λ (x : List ℕ). is_spelled x ≡ true) there f) h)) ∙ k))))
+none : (t : List ℕ) → length t ≡ 0 → t ≡ []
+none [] h = refl
+none (u ∷ t) h = absurd (let z = h in omega arith)
 
-  -- what a spelling says, unit for unit
-  pub plain_says : is_spelled (drop i s) ≡ true → (get_or s i 0 ≡ tilde → ⊥) → (is_spelled (drop (i + 1) s) ≡ true) × (unspelled (drop i s) ≡ (get_or s i 0 ∷ []) ++ unspelled (drop (i + 1) s))
-  plain_says h n =
-      let k : stands (get_or s i 0) ≡ true = refuted_no (stands (get_or s i 0)) (λ f. n (tilde_first _ _ (must_escape _ _ (subst (λ (x : List ℕ). is_spelled x ≡ true) there h) f))) in
-      (sym (stands_form _ _ k) ∙ subst (λ (x : List ℕ). is_spelled x ≡ true) there h, ap unspelled there ∙ stands_says _ _ k)
-
-  pub tilde_escape : is_spelled (drop i s) ≡ true → get_or s i 0 ≡ tilde → is_escape (drop i s) ≡ true
-  tilde_escape h e =
-      subst (λ (x : List ℕ). is_escape x ≡ true) (sym there)
-      (must_escape _ _ (subst (λ (x : List ℕ). is_spelled x ≡ true) there h) (ap stands e ∙ tilde_hides))
-
-  pub tilde_says : is_spelled (drop i s) ≡ true → get_or s i 0 ≡ tilde
-      → (is_spelled (drop (i + 5) s) ≡ true) × (unspelled (drop i s) ≡ (hex_of (drop (i + 1) s) ∷ []) ++ unspelled (drop (i + 5) s))
-  tilde_says h t =
-      let e = escape_told (drop i s) (tilde_escape h t) in
-      (ap is_spelled (sym (past e)) ∙ (sym (escape_form _ e) ∙ h), escape_says _ e ∙ (λ j. hex_of (drop-drop 1 i s j) ∷ unspelled (past e j)))
-
-  pub tilde_fits : is_spelled (drop i s) ≡ true → get_or s i 0 ≡ tilde → (i + 5 ≤ length s) × (hex_of (drop (i + 1) s) < 65536)
-  tilde_fits h t =
-      let e = escape_told (drop i s) (tilde_escape h t) in
-      (omega (arith, escape_long _ e, length-drop i s), subst (λ (x : List ℕ). hex_of x < 65536) (drop-drop 1 i s) (escape_small _ e))
-
-pub form_end : (s : List ℕ) (i n : ℕ) → length s ≤ i → Some n ≡ form_from n (drop i s)
+pub form_end : (t : List ℕ) (n : ℕ) → length t ≡ 0 → Some n ≡ form_from n t
 unfolding form_from is_spelled same_list spelled
-form_end s i n h =
-    let d = drop_of_length-le s h in
-    let u : unspelled (drop i s) ≡ [] = ap unspelled d ∙ says_nothing in
-    let k : n + length (unspelled (drop i s)) ≡ n = omega (arith, ap length u) in
-    sym (choose_yes _ _ (ap (λ (x : List ℕ). same_list (spelled x) (drop i s)) u ∙ ap (same_list []) d) ∙ ap Some k)
+form_end t n h =
+    let k : n + length (unspelled []) ≡ n = omega (arith, ap length says_nothing) in
+    sym (ap (form_from n) (none t h) ∙ (choose_yes _ _ (ap (λ (x : List ℕ). same_list (spelled x) []) says_nothing) ∙ ap Some k))
 
-pub says_end : (s : List ℕ) (i : ℕ) → length s ≤ i → unspelled (drop i s) ≡ []
-says_end s i h = ap unspelled (drop_of_length-le s h) ∙ says_nothing
+-- what a spelling says, unit for unit
+module _ {t s : List ℕ} {u : ℕ} (e : t ≡ u ∷ s) (h : is_spelled t ≡ true) where
+  pub plain_says : (u ≡ tilde → ⊥) → (is_spelled s ≡ true) × (unspelled t ≡ (u ∷ []) ++ unspelled s)
+  plain_says n =
+      let f : is_spelled (u ∷ s) ≡ true = ap is_spelled (sym e) ∙ h in
+      let k : stands u ≡ true = refuted_no (stands u) (λ g. n (tilde_first u s (must_escape u s f g))) in
+      (sym (stands_form u s k) ∙ f, ap unspelled e ∙ stands_says u s k)
+
+  module _ (k : u ≡ tilde) where
+    tilde_escape : Escape t
+    tilde_escape = escape_told t (ap is_escape e ∙ must_escape u s (ap is_spelled (sym e) ∙ h) (ap stands k ∙ tilde_hides))
+
+    tilde_past : tilde_escape.rest ≡ drop 4 s
+    tilde_past = past t tilde_escape ∙ ap (drop 5) e
+
+    pub tilde_says : (is_spelled (drop 4 s) ≡ true) × (unspelled t ≡ (hex_of s ∷ []) ++ unspelled (drop 4 s))
+    tilde_says =
+        (ap is_spelled (sym tilde_past) ∙ (sym (escape_form t tilde_escape) ∙ h), escape_says t tilde_escape ∙ (λ i. hex_of (drop 1 (e i)) ∷ unspelled (tilde_past i)))
+
+    pub tilde_fits : (4 ≤ length s) × (hex_of s < 65536)
+    tilde_fits =
+        (omega (arith, escape_long t tilde_escape, ap length e), let f : hex_of (drop 1 t) ≡ hex_of s = ap (λ (x : List ℕ). hex_of (drop 1 x)) e in omega (arith, escape_small t tilde_escape))
+
+pub says_end : (t : List ℕ) → length t ≡ 0 → unspelled t ≡ []
+says_end t h = ap unspelled (none t h) ∙ says_nothing
+
+-- the part of a text from place k to its end
+pub rest_from : (k : ℕ) (t : List ℕ) → take (length t - k) (drop k t) ≡ drop k t
+rest_from k t = take_all (length t - k) (drop k t) (omega (arith, length-drop k t))
 
 -- there is room for one unit more
 pub left_one : {goal : List ℕ} {stop : ℕ} {d : List ℕ} {n : ℕ} {rest : List ℕ} (v : ℕ) (q : List ℕ) → Left goal stop d n rest → rest ≡ (v ∷ []) ++ q → n < length d

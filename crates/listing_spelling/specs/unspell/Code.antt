@@ -1,5 +1,6 @@
 -- Shapes of the code, proved equal to the rules; nothing here is to be believed.
-use Rattle.std.specs.Prelude.{ℕ, Bool, ◌&&◌, not, List, length, get_or, drop, leb, ltb, eqb, Option, None, Some}
+use Rattle.std.specs.Prelude.{ℕ, Bool, ◌&&◌, not, List, length, get_or, drop, leb, ltb, eqb, Option, Some, None}
+use Rattle.std.specs.Prelude as option
 use Rattle.laws.specs.Choice.{choose}
 use Rattle.laws.specs.Listed.{same_list}
 use Rattle.listing_spelling.specs.spell.Spelling.{tilde, stands, decimal}
@@ -20,6 +21,10 @@ is_escape s = leb 5 (length s) && (eqb (get_or s 0 0) tilde && (hex_digits (drop
 -- whether a text is the decimal of a number of 32 bits
 unfoldable pub is_decimal : List ℕ → Bool
 is_decimal s = ltb (decimal_of s) 4294967296 && same_list (decimal (decimal_of s)) s
+
+-- the number that digits say, if it has 32 bits
+unfoldable pub small_value : List ℕ → Option ℕ
+small_value s = choose (ltb (decimal_of s) 4294967296) (Some (decimal_of s)) option.None
 
 -- and of which
 unfoldable pub decimal_form : List ℕ → Option ℕ

@@ -1,5 +1,5 @@
 use mathlib.Core.Path.{◌≡◌}
-use Prim.Native.Nat.{◌+◌, ◌-◌, ◌≤◌}
+use Prim.Native.Nat.{◌+◌}
 use lib.ListN.{length}
 use Rattle.laws.specs.Lists.{pasted}
 use Rattle.listing_spelling.proofs.spell.PutLaws.{Left}
@@ -8,7 +8,4 @@ use Rattle.listing_write.proofs.FormLaws.{places_left}
 use Rattle.listing_write.proofs.put_listing.Given as goal
 
 abbrev pub invariant-loop-i : goal.invariant-loop-i
-invariant-loop-i l = (l.i ≤ l.count) × ((length l.out ≡ length l.initial.out) × Left (pasted l.initial.out 0 (listed_text l.cache)) (0 + length (listed_text l.cache)) l.out l.end (places_left l.i l.cache))
-
-abbrev pub decreases-loop-i : goal.decreases-loop-i
-decreases-loop-i l = l.count - l.i
+invariant-loop-i l = (length l.out ≡ length l.initial.out) × Left (pasted l.initial.out 0 (listed_text l.cache)) (0 + length (listed_text l.cache)) l.out l.end (places_left l.i l.cache)

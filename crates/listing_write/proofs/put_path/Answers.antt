@@ -1,18 +1,20 @@
-use native.Mathlib.Omega.{arith}
-use Rattle.listing_write.proofs.FormLaws.{path_key_fits, path_value_fits, path_end_fits, path_put}
+use Rattle.listing_spelling.specs.spell.Spelling.{spelled}
+use Rattle.listing_write.specs.Form.{path_line}
+use Rattle.listing_write.proofs.FormLaws.{line_key_fits, line_value_fits, line_end_fits, line_put}
 use Rattle.listing_write.proofs.put_path.Goals as goal
 
 pub copy_units-requires : goal.copy_units-requires
-copy_units-requires c = path_key_fits c.args.out.now c.args.at c.args.key.now c.args.s.now c.requires
+unfolding path_line
+copy_units-requires c = line_key_fits c.args.out.now c.args.at c.args.key.now (spelled c.args.s.now) c.requires
 
 pub put_spelled-end-requires : goal.put_spelled-end-requires
-put_spelled-end-requires c = path_value_fits _ _ _ _ c.requires c.copy_units.ensures
+unfolding path_line
+put_spelled-end-requires c = line_value_fits c.args.out.now c.args.at c.args.key.now (spelled c.args.s.now) c.requires c.copy_units.ensures
 
-pub put_unit-requires : goal.put_unit-requires
-put_unit-requires c = omega (arith, path_end_fits _ _ _ _ c.requires c.copy_units.ensures c.put_spelled-end.ensures)
-
-pub overflow_add-result : goal.overflow_add-result
-overflow_add-result c = omega (arith, path_end_fits _ _ _ _ c.requires c.copy_units.ensures c.put_spelled-end.ensures)
+pub end_line-requires : goal.end_line-requires
+unfolding path_line
+end_line-requires c = line_end_fits c.args.out.now c.args.at c.args.key.now (spelled c.args.s.now) c.requires c.copy_units.ensures c.put_spelled-end.ensures
 
 pub returns : goal.returns
-returns c = path_put _ _ _ _ c.requires c.copy_units.ensures c.put_spelled-end.ensures c.put_unit.ensures
+unfolding path_line
+returns c = line_put c.args.out.now c.args.at c.args.key.now (spelled c.args.s.now) c.requires c.copy_units.ensures c.put_spelled-end.ensures c.end_line.ensures

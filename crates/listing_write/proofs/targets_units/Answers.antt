@@ -12,7 +12,7 @@ pub path_units-n-requires : goal.path_units-n-requires
 path_units-n-requires c = (omega arith, omega (arith, ap length c.text.ensures, length_text (1 + c.loop-j.j) (place_at c.args.i c.args.cache.now)))
 
 pub overflow_add-n : goal.overflow_add-n
-overflow_add-n c = omega (arith, c.list_count-count.ensures, c.path_units-n.ensures, length_spelled c.text.result.now, ap length c.text.ensures, length_text (1 + c.loop-j.j) (place_at c.args.i c.args.cache.now))
+overflow_add-n c = omega (arith, c.list_count-j-end.ensures, c.path_units-n.ensures, length_spelled c.text.result.now, ap length c.text.ensures, length_text (1 + c.loop-j.j) (place_at c.args.i c.args.cache.now))
 
 pub loop-j-preserved : goal.loop-j-preserved
 loop-j-preserved c =
@@ -20,16 +20,10 @@ loop-j-preserved c =
     let j = c.loop-j.j in
     let b = length_text (1 + j) piece in
     let s = length_spelled (text_at (1 + j) piece) in
-    let e = ap (λ x. length (spelled x)) c.text.ensures in (
-      omega arith,
-      (
-        omega (arith, c.path_units-n.ensures),
-        omega (arith, c.path_units-n.ensures, c.loop-j.invariant.1.1, targets_units j piece (omega (arith, c.list_count-count.ensures))),
-      ),
-    )
+    let e = ap (λ x. length (spelled x)) c.text.ensures in
+    (omega (arith, c.path_units-n.ensures), omega (arith, c.path_units-n.ensures, c.loop-j.invariant.1, targets_units j piece (omega (arith, c.list_count-j-end.ensures))))
 
-pub returns : goal.returns
-returns c =
+pub returns-clause-units : goal.returns-clause-units
+returns-clause-units c =
     let piece = place_at c.args.i c.args.cache.now in
-    let e = ap length (targets_start piece) in
-    let f = ap length (targets_end c.loop-j.j piece (omega (arith, c.list_count-count.ensures))) in record { units = omega (arith, c.loop-j.invariant.1.1); few = omega (arith, c.list_count-count.ensures) }
+    omega (arith, c.loop-j.invariant.1, ap length (targets_start piece), ap length (targets_end c.loop-j.j piece (omega (arith, c.list_count-j-end.ensures))))

@@ -1,12 +1,9 @@
 use mathlib.Core.Path.{◌≡◌}
-use Prim.Native.Nat.{◌+◌, ◌*◌, ◌-◌, ◌≤◌}
+use Prim.Native.Nat.{◌+◌, ◌*◌, ◌≤◌}
 use lib.ListN.{length}
 use Rattle.cache.specs.places.Layout.{place_at}
 use Rattle.listing_write.proofs.FormLaws.{targets_left}
 use Rattle.listing_write.proofs.targets_units.Given as goal
 
 abbrev pub invariant-loop-j : goal.invariant-loop-j
-invariant-loop-j l = (l.j ≤ l.count) × ((l.n ≤ 1288 * l.j) × (length (targets_left 0 (place_at l.i l.cache)) ≡ l.n + length (targets_left l.j (place_at l.i l.cache))))
-
-abbrev pub decreases-loop-j : goal.decreases-loop-j
-decreases-loop-j l = l.count - l.j
+invariant-loop-j l = (l.n ≤ 1288 * l.j) × (length (targets_left 0 (place_at l.i l.cache)) ≡ l.n + length (targets_left l.j (place_at l.i l.cache)))

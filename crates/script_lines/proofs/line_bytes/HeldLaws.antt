@@ -1,40 +1,23 @@
 -- Laws of the line that is held.
-use mathlib.Core.Path.{◌≡◌, sym, ap, ◌∙◌}
-use mathlib.Core.Bool.{Bool, true, false}
-use mathlib.Core.List.{List}
-use Prim.Native.Nat.{ℕ, suc, ◌+◌, ◌-◌, ◌≤◌, ◌<◌, min}
+use mathlib.Core.Path.{◌≡◌, refl, sym, ap, ◌∙◌}
+use Rattle.std.proofs.Common.{fold}
+use mathlib.Core.List.{List, [], ◌∷◌}
+use Prim.Native.Nat.{ℕ, ◌+◌, ◌-◌, ◌≤◌, min}
 use native.Mathlib.Nat.{add-zero}
-use native.Mathlib.Numerals.{add-one}
 use native.Mathlib.Omega.{arith}
-use lib.ListN.{length, take, drop, get_or, length-take, drop_of_length-le}
-use lib.Seq.{drop-cons}
+use lib.ListN.{length, take, drop, length-take}
 use Rattle.laws.specs.Lists.{pasted}
-use Rattle.laws.proofs.Choices.{choose_yes, choose_no}
 use Rattle.laws.proofs.Pasting.{pasted_nil}
-use Rattle.script_lines.specs.line_bytes.Hexes.{is_hex}
-use Rattle.script_lines.specs.line_bytes.Held.{one_more, next_rest, rest_from, held_after, line_after}
+use Rattle.script_lines.specs.line_bytes.Held.{next_rest, rest_from, held_after, line_after}
 use Rattle.script_lines.specs.declared.line_bytes.Rest.{Rest}
-use Rattle.script_lines.specs.declared.line_bytes.Rest.TheVariants.{Other}
 use Rattle.script_lines.specs.declared.line_bytes.Held.{Held}
 use Rattle.script_lines.proofs.line_bytes.HexLaws.{take_least, drop_least}
 
--- one byte more of the rest
-module _ (r : Rest) (u : ℕ) {b : Bool} (e : b ≡ is_hex u) where
-  pub rest_other : b ≡ false → Other ≡ next_rest r u
-  unfolding next_rest
-  rest_other h = sym (choose_no _ _ (sym e ∙ h))
-
-  pub rest_digit : b ≡ true → {o : Rest} → o ≡ one_more r → o ≡ next_rest r u
-  unfolding next_rest
-  rest_digit h f = f ∙ sym (choose_yes _ _ (sym e ∙ h))
-
-pub rest_next : (s : List ℕ) (i : ℕ) (r : Rest) {n : Rest} → i < length s → n ≡ next_rest r (get_or s i 0) → rest_from r (drop i s) ≡ rest_from n (drop (i + 1) s)
+-- the rest after a text, byte by byte
+pub rest_of_fold : (r : Rest) (s : List ℕ) → fold next_rest r s ≡ rest_from r s
 unfolding rest_from
-rest_next s i r h e = rw (drop-cons s i 0 h, add-one i) (ap (λ (x : Rest). rest_from x (drop (suc i) s)) (sym e))
-
-pub rest_end : (s : List ℕ) (i : ℕ) (r : Rest) → length s ≤ i → rest_from r (drop i s) ≡ r
-unfolding rest_from
-rest_end s i r h = rw (drop_of_length-le s h)
+rest_of_fold r [] = refl
+rest_of_fold r (u ∷ s) = rest_of_fold (next_rest r u) s
 
 -- a line whose room is full
 module _ (line : List ℕ) (h : Held) (p : List ℕ) (full : length line ≤ h.kept) where
@@ -50,14 +33,14 @@ module _ (line : List ℕ) (h : Held) (p : List ℕ) (full : length line ≤ h.k
   full_line = rw (none) (sym (pasted_nil line h.kept))
 
 -- a line with room for n bytes more of the piece
-module _ (line : List ℕ) (h : Held) (p : List ℕ) (n : ℕ) (e : n ≡ min (length line - h.kept) (length p)) where
+module _ (line : List ℕ) (h : Held) (p : List ℕ) (n : ℕ) (e : n ≡ min (length p) (length line - h.kept)) where
   pub room_held : {r : Rest} → r ≡ rest_from h.rest (drop n p) → record { kept = h.kept + n; rest = r } ≡ held_after (length line) h p
   unfolding held_after
   room_held {r} f =
-      let k : h.kept + n ≡ h.kept + length (take (length line - h.kept) p) = ap (λ (m : ℕ). h.kept + m) (e ∙ sym (length-take (length line - h.kept) p)) in
-      let g : r ≡ rest_from h.rest (drop (length line - h.kept) p) = f ∙ ap (rest_from h.rest) (drop_least (length line - h.kept) p n e) in
+      let k : h.kept + n ≡ h.kept + length (take (length line - h.kept) p) = ap (λ (m : ℕ). h.kept + m) (let z : n ≡ min (length line - h.kept) (length p) = omega arith in z ∙ sym (length-take (length line - h.kept) p)) in
+      let g : r ≡ rest_from h.rest (drop (length line - h.kept) p) = f ∙ ap (rest_from h.rest) (drop_least (length line - h.kept) p n (omega arith)) in
       λ i. record { kept = k i; rest = g i }
 
   pub room_line : {o : List ℕ} → o ≡ pasted line h.kept (take n p) → o ≡ line_after line h p
   unfolding line_after
-  room_line f = f ∙ ap (pasted line h.kept) (take_least (length line - h.kept) p n e)
+  room_line f = f ∙ ap (pasted line h.kept) (take_least (length line - h.kept) p n (omega arith))

@@ -5,24 +5,21 @@ use mathlib.Core.List.{List, ◌++◌}
 use mathlib.Core.Logic.{◌⊎◌, inl, inr}
 use Prim.Native.Nat.{ℕ}
 use lib.Dec.{eqb}
+use Rattle.std.specs.Prelude.{Result, Ok, Err}
 use Rattle.laws.specs.Choice.{choose}
 use Rattle.laws.specs.Lists.{every}
 use Rattle.laws.proofs.Choices.{choose_yes, choose_no}
 use Rattle.laws.proofs.Orders.{told}
 use Rattle.walk_form.specs.declared.held.Walk.{Walk}
-use Rattle.walk_shown.specs.declared.question.Shown.{Shown}
-use Rattle.walk_shown.specs.declared.question.Shown.TheVariants.{Units, NotInOrder, OutOfForm, ShortBuffer, NoEntry}
+use Rattle.walk_shown.specs.declared.question.ShowError.{ShowError}
 use Rattle.script_output.specs.printed.Printed.{refused_line, is_byte}
 use Rattle.script_output.proofs.printed.ByteLaws.{both_all, question_all, end_all, refused_all}
 use Rattle.script_output.specs.outcome.Telling.{if_shown, question_told, end_told, waiting_lines, ended_lines, outcome_lines}
 
-shown_all : (s : Shown) (lines : ℕ → List ℕ) → ((n : ℕ) → every is_byte (lines n) ≡ true) → every is_byte (if_shown s lines) ≡ true
+shown_all : (s : Result ℕ ShowError) (lines : ℕ → List ℕ) → ((n : ℕ) → every is_byte (lines n) ≡ true) → every is_byte (if_shown s lines) ≡ true
 unfolding if_shown every
-shown_all (Units n) lines h = h n
-shown_all NotInOrder lines h = refl
-shown_all OutOfForm lines h = refl
-shown_all ShortBuffer lines h = refl
-shown_all NoEntry lines h = refl
+shown_all (Ok n) lines h = h n
+shown_all (Err e) lines h = refl
 
 waiting_all : (refs doms : List ℕ) (walk : Walk) (texts : List ℕ) → every is_byte (waiting_lines refs doms walk texts) ≡ true
 unfolding waiting_lines question_told

@@ -1,5 +1,4 @@
 -- After a call that was taken just one outcome is printed: the question that waits, or the end.
-use Rattle.std.specs.Prelude.{Option}
 use mathlib.Core.Path.{◌≡◌, refl, sym, ap, ◌∙◌}
 use mathlib.Core.Bool.{Bool, true, false, ◌&&◌}
 use mathlib.Core.List.{List, [], ◌∷◌, ◌++◌, append-nil}
@@ -7,6 +6,7 @@ use mathlib.Core.Logic.{◌⊎◌, inl, inr}
 use Prim.Native.Nat.{ℕ, ◌+◌, ◌≤◌, ◌<◌}
 use native.Mathlib.Omega.{arith}
 use lib.ListN.{length, take, get_or}
+use Rattle.std.specs.Prelude.{Result, Ok, Err, Option}
 use Rattle.laws.specs.Choice.{choose}
 use Rattle.laws.specs.Lists.{pasted, part}
 use Rattle.laws.proofs.Choices.{choose_yes, and_left, and_right}
@@ -31,8 +31,8 @@ use Rattle.walk_form.specs.packed.Packing.{kind_number, kind_at}
 use Rattle.walk_form.specs.held.Walks.{core_in}
 use Rattle.walk_calls.specs.calls.Calls.{rest_at, rest_in}
 use Rattle.walk_shown.specs.question.Shown.{Given, given, shows, shows_some, party_text, question_shown, party_at, end_path, end_shown, name_at, name_call, path_at, path_call, party_call, question_at, question_call, end_at, end_call}
-use Rattle.walk_shown.specs.declared.question.Shown.{Shown}
-use Rattle.walk_shown.specs.declared.question.Shown.TheVariants.{Units, NotInOrder, OutOfForm, ShortBuffer, NoEntry}
+use Rattle.walk_shown.specs.declared.question.ShowError.{ShowError}
+use Rattle.walk_shown.specs.declared.question.ShowError.TheVariants.{OutOfForm}
 use Rattle.walk_shown.proofs.question.ShownLaws.{put_whole}
 use Rattle.script_output.specs.printed.Printed.{question_lines, end_lines}
 use Rattle.script_output.proofs.printed.PrintedLaws.{kind_shown}
@@ -41,18 +41,15 @@ use Rattle.script_output.specs.outcome.One.{PrintsQuestion, PrintsEnd, PrintsOne
 use Rattle.script_output.proofs.outcome.TellingLaws.{room_units_lem}
 use Rattle.script_output.proofs.outcome.PartyLaws.{Texted, party_texted}
 
-none_shown : (s : Shown) → if_shown s (λ n. []) ≡ []
+none_shown : (s : Result ℕ ShowError) → if_shown s (λ n. []) ≡ []
 unfolding if_shown
-none_shown (Units n) = refl
-none_shown NotInOrder = refl
-none_shown OutOfForm = refl
-none_shown ShortBuffer = refl
-none_shown NoEntry = refl
+none_shown (Ok n) = refl
+none_shown (Err e) = refl
 
 -- a walk out of form shows nothing; one that waits shows no path of an end, and one that has ended no name of a question
 one_told : (form : Bool) (r : Rest) (w : Core) (moves : ℕ) (party numbers numbers' : Given)
-    → (question_told party (choose form (name_at w r room) (given OutOfForm room)) numbers ≡ [])
-    ⊎ (end_told (choose form (path_at w moves r room) (given OutOfForm room)) numbers' ≡ [])
+    → (question_told party (choose form (name_at w r room) (given (Err OutOfForm) room)) numbers ≡ [])
+    ⊎ (end_told (choose form (path_at w moves r room) (given (Err OutOfForm) room)) numbers' ≡ [])
 unfolding question_told end_told if_shown name_at path_at choose
 one_told false r w moves party numbers numbers' = inr refl
 one_told true (waits q) w moves party numbers numbers' = inr refl
@@ -78,7 +75,7 @@ module _ (text out : List ℕ) (h : length text ≤ length out) where
   unit_back : (j : ℕ) → j < length text → get_or (pasted out 0 text) j 0 ≡ get_or text j 0
   unit_back j l = let z : 0 + j ≡ j = omega arith in ap (λ (i : ℕ). get_or (pasted out 0 text) i 0) (sym z) ∙ get_d_pasted_in out 0 text (omega arith) j 0 l
 
-  shows_whole : shows text out ≡ given (Units (length text)) (pasted out 0 text)
+  shows_whole : shows text out ≡ given (Ok (length text)) (pasted out 0 text)
   shows_whole = sym (put_whole text out h refl)
 
 module _ (out nums : List ℕ) (k : 3 ≤ length nums) where

@@ -15,7 +15,7 @@ use Rattle.listing_write.proofs.EntryLaws.{put_same}
 use Rattle.walk_steps.specs.declared.steps.Kind.{Kind}
 use Rattle.walk_steps.specs.declared.steps.Kind.TheVariants.{Dc, Root, Link, Sysvol, Io}
 use Rattle.walk_form.specs.packed.Packing.{kind_number, kind_at}
-use Rattle.walk_form.proofs.packed.PackLaws.{kind_dc, kind_root, kind_link, kind_sysvol, kind_io}
+use Rattle.walk_form.proofs.packed.PackLaws.{kind_io}
 use Rattle.listing_write.specs.Keys.{path_key, size_key, status_key}
 use Rattle.script_output.specs.printed.Printed.{to_key, name_key, end_key, moves_key, refused_key, ask_word, ask_line, status_line, size_lines, question_lines, end_lines, refused_line}
 
@@ -24,28 +24,6 @@ unfolding ended status_line
 status_parts n =
     append_assoc status_key (hex_units (n / 65536) ++ hex_units (n % 65536)) (10 ∷ [])
     ∙ ap (λ (x : List ℕ). status_key ++ x) (append_assoc (hex_units (n / 65536)) (hex_units (n % 65536)) (10 ∷ []))
-
--- the kind's word
-module _ {n : ℕ} where
-  pub ask_dc_lem : n ≡ 1 → ended (97 ∷ 115 ∷ 107 ∷ 61 ∷ 100 ∷ 99 ∷ []) ≡ ended (ask_line (kind_at n))
-  unfolding ask_line ask_word
-  ask_dc_lem h = ap (λ (k : Kind). ended (ask_line k)) (kind_dc h)
-
-  pub ask_root : n ≡ 2 → ended (97 ∷ 115 ∷ 107 ∷ 61 ∷ 114 ∷ 111 ∷ 111 ∷ 116 ∷ []) ≡ ended (ask_line (kind_at n))
-  unfolding ask_line ask_word
-  ask_root h = ap (λ (k : Kind). ended (ask_line k)) (kind_root h)
-
-  pub ask_link_lem : n ≡ 3 → ended (97 ∷ 115 ∷ 107 ∷ 61 ∷ 108 ∷ 105 ∷ 110 ∷ 107 ∷ []) ≡ ended (ask_line (kind_at n))
-  unfolding ask_line ask_word
-  ask_link_lem h = ap (λ (k : Kind). ended (ask_line k)) (kind_link h)
-
-  pub ask_sysvol : n ≡ 4 → ended (97 ∷ 115 ∷ 107 ∷ 61 ∷ 115 ∷ 121 ∷ 115 ∷ 118 ∷ 111 ∷ 108 ∷ []) ≡ ended (ask_line (kind_at n))
-  unfolding ask_line ask_word
-  ask_sysvol h = ap (λ (k : Kind). ended (ask_line k)) (kind_sysvol h)
-
-  pub ask_io : (n ≡ 1 → ⊥) → (n ≡ 2 → ⊥) → (n ≡ 3 → ⊥) → (n ≡ 4 → ⊥) → ended (97 ∷ 115 ∷ 107 ∷ 61 ∷ 105 ∷ 111 ∷ []) ≡ ended (ask_line (kind_at n))
-  unfolding ask_line ask_word
-  ask_io a b c d = ap (λ (k : Kind). ended (ask_line k)) (kind_io a b c d)
 
 -- a size is shown for all but I/O
 data Numbered : ℕ → Type 0 where
@@ -91,10 +69,6 @@ pub end_parts : (number status : ℕ) (path : List ℕ) (moves : ℕ)
 unfolding end_lines lines_text
 end_parts number status path moves =
     ap (λ (x : List ℕ). ended (number_line end_key number) ++ (ended (status_line status) ++ (ended (path_line path_key path) ++ x))) (append-nil (ended (number_line moves_key moves)))
-
-pub refused_parts : (number : ℕ) → ended (number_line refused_key number) ≡ refused_line number
-unfolding refused_line
-refused_parts number = refl
 
 -- the number of a kind is read back
 pub kind_shown : (k : Kind) → kind_at (kind_number k) ≡ k

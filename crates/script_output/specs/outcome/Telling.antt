@@ -1,20 +1,16 @@
 -- What is printed after a call, from what a host is shown: document 01, "Examples to hold it to".
-use Rattle.std.specs.Prelude.{ℕ, List, [], ◌++◌, take, get_or, replicate, eqb}
+use Rattle.std.specs.Prelude.{ℕ, List, [], ◌++◌, take, get_or, replicate, eqb, Result, Ok, Err}
 use Rattle.laws.specs.Choice.{choose}
 use Rattle.walk_form.specs.declared.held.Walk.{Walk}
 use Rattle.walk_form.specs.packed.Packing.{kind_at}
 use Rattle.walk_shown.specs.question.Shown.{Given, party_call, name_call, path_call, question_call, end_call}
-use Rattle.walk_shown.specs.declared.question.Shown.{Shown}
-use Rattle.walk_shown.specs.declared.question.Shown.TheVariants.{Units, NotInOrder, OutOfForm, ShortBuffer, NoEntry}
+use Rattle.walk_shown.specs.declared.question.ShowError.{ShowError}
 use Rattle.script_output.specs.printed.Printed.{question_lines, end_lines, refused_line}
 
 -- lines that need what was asked for: none where it was not shown
-unfoldable pub if_shown : Shown → (ℕ → List ℕ) → List ℕ
-if_shown (Units n) lines = lines n
-if_shown NotInOrder lines = []
-if_shown OutOfForm lines = []
-if_shown ShortBuffer lines = []
-if_shown NoEntry lines = []
+unfoldable pub if_shown : Result ℕ ShowError → (ℕ → List ℕ) → List ℕ
+if_shown (Ok n) lines = lines n
+if_shown (Err e) lines = []
 
 -- a question from its party, name and numbers
 unfoldable pub question_told : Given → Given → Given → List ℕ

@@ -7,15 +7,18 @@ use native.Mathlib.Nat.{zero-add}
 use native.Mathlib.Omega.{arith}
 use lib.ListN.{length, take}
 use lib.Dec.{eqb}
-use borrow.Author.Tests.{eq-eqb, ne_eqb}
+use borrow.Author.Tests.{ne_eqb}
+use Rattle.std.specs.Prelude.{Result, Ok, Err}
+use Rattle.std.specs.Result.{result_unwrap_or}
 use Rattle.laws.specs.Choice.{choose}
 use Rattle.laws.specs.Lists.{every, part}
 use Rattle.laws.proofs.Pasting.{part_pasted}
 use Rattle.laws.proofs.Choices.{choose_yes, choose_no}
 use Rattle.script_lines.proofs.line_bytes.HexLaws.{take_least}
 use Rattle.walk_form.specs.declared.held.Walk.{Walk}
-use Rattle.walk_calls.specs.call_end.Code.{left}
-use Rattle.walk_calls.specs.declared.call_end.Outcome.{Outcome}
+use Rattle.walk_calls.specs.call_end.Code.{verdict_of, left}
+use Rattle.walk_calls.specs.declared.call_end.Refusal.{Refusal}
+use Rattle.walk_calls.specs.declared.call_end.Refusal.TheVariants.{BadPath, LongPath, BadSettings, NotInOrder, OutOfForm, ShortBuffer}
 use Rattle.walk_calls.specs.calls.Calls.{Answered, refusal_number, start_call, io_call, referral_call}
 use Rattle.walk_calls.specs.calls.Code.{answered}
 use Rattle.listing_spelling.specs.spell.Spelling.{Put}
@@ -36,26 +39,45 @@ use Rattle.script_run.specs.declared.call_due.Done.{Done}
 use Rattle.script_run.specs.call_due.Calling.{LentMemory, lent_memory, CallLeft, call_left, call_told, request_room, start_made, io_made, referral_made, made, CallMade}
 use Rattle.script_run.specs.call_due.Code.{Refused}
 
+-- a refusal's number is not 0
+refused_some : (e : Refusal) → refusal_number (Err e) ≡ 0 → ⊥
+unfolding refusal_number
+refused_some BadPath h = omega arith
+refused_some LongPath h = omega arith
+refused_some BadSettings h = omega arith
+refused_some NotInOrder h = omega arith
+refused_some OutOfForm h = omega arith
+refused_some ShortBuffer h = omega arith
+
 -- what a call gave back
-module _ (s : Script) (o : Outcome) (refs doms texts d m : List ℕ) {k b : ℕ} (e : k ≡ refusal_number o.verdict) (p : Put d 0 (outcome_lines k refs doms o.walk texts) m b) where
-  told_by : (t : Script) → t ≡ choose (eqb (refusal_number o.verdict) 0) s (after Stopped s)
-      → CallMade (call_told s (answered o texts [] refs doms)) (record { script = t; walk = o.walk; bytes = b }) refs doms texts d m
-  unfolding call_told
-  told_by t h = record {
-    left = λ i. call_left (h i) o.walk refs doms texts (outcome_lines (refusal_number o.verdict) refs doms o.walk texts);
-    printed = put_same (ap (λ (x : ℕ). outcome_lines x refs doms o.walk texts) e) p;
-  }
+module _ (s : Script) (w : Walk) (refs doms texts d m : List ℕ) {b : ℕ} where
+  module _ (o : Result Walk Refusal) {k : ℕ} (e : k ≡ refusal_number (verdict_of o)) (p : Put d 0 (outcome_lines k refs doms (result_unwrap_or o w) texts) m b) where
+    told_by : (t : Script) → t ≡ choose (eqb (refusal_number (verdict_of o)) 0) s (after Stopped s)
+        → CallMade (call_told s (answered o w texts [] refs doms)) (record { script = t; walk = result_unwrap_or o w; bytes = b }) refs doms texts d m
+    unfolding call_told
+    told_by t h = record {
+      left = λ i. call_left (h i) (result_unwrap_or o w) refs doms texts (outcome_lines (refusal_number (verdict_of o)) refs doms (result_unwrap_or o w) texts);
+      printed = put_same (ap (λ (x : ℕ). outcome_lines x refs doms (result_unwrap_or o w) texts) e) p;
+    }
 
-  pub told_taken : k ≡ 0 → CallMade (call_told s (answered o texts [] refs doms)) (record { script = s; walk = o.walk; bytes = b }) refs doms texts d m
-  told_taken h = told_by s (sym (choose_yes _ _ (eq-eqb _ 0 (sym e ∙ h))))
+  module _ {a : Result Walk Refusal} where
+    pub told_taken : (v : Walk) → a ≡ Ok v → Put d 0 (outcome_lines 0 refs doms v texts) m b
+        → CallMade (call_told s (answered a w texts [] refs doms)) (record { script = s; walk = v; bytes = b }) refs doms texts d m
+    unfolding refusal_number
+    told_taken v h p =
+        subst (λ (r : Result Walk Refusal). CallMade (call_told s (answered r w texts [] refs doms)) (record { script = s; walk = v; bytes = b }) refs doms texts d m) (sym h)
+        (told_by (Ok v) {k = 0} refl p s (sym (choose_yes _ _ refl)))
 
-  pub told_refused : (k ≡ 0 → ⊥) → {t : Script} → t ≡ after Stopped s → CallMade (call_told s (answered o texts [] refs doms)) (record { script = t; walk = o.walk; bytes = b }) refs doms texts d m
-  told_refused h {t} w = told_by t (w ∙ sym (choose_no _ _ (ne_eqb _ 0 (λ z. h (e ∙ z)))))
+    pub told_refused : (e : Refusal) → a ≡ Err e → {k : ℕ} → k ≡ refusal_number (Err e) → Put d 0 (outcome_lines k refs doms w texts) m b → {t : Script} → t ≡ after Stopped s
+        → CallMade (call_told s (answered a w texts [] refs doms)) (record { script = t; walk = w; bytes = b }) refs doms texts d m
+    told_refused e h k p {t} g =
+        subst (λ (r : Result Walk Refusal). CallMade (call_told s (answered r w texts [] refs doms)) (record { script = t; walk = w; bytes = b }) refs doms texts d m) (sym h)
+        (told_by (Err e) k p t (g ∙ sym (choose_no _ _ (ne_eqb _ 0 (refused_some e)))))
 
 -- the bytes of a request are not printed
-told_answer : (s : Script) {o : Outcome} {texts out refs doms : List ℕ} {a : Answered} → answered o texts out refs doms ≡ a → call_told s (answered o texts [] refs doms) ≡ call_told s a
+told_answer : (s : Script) (o : Result Walk Refusal) (w : Walk) {texts out refs doms : List ℕ} {a : Answered} → answered o w texts out refs doms ≡ a → call_told s (answered o w texts [] refs doms) ≡ call_told s a
 unfolding call_told
-told_answer s e = ap (call_told s) e
+told_answer s o w e = ap (call_told s) e
 
 module _ {r : Done} {refs doms texts d m : List ℕ} where
   made_as : {x y : CallLeft} → x ≡ y → CallMade x r refs doms texts d m → CallMade y r refs doms texts d m
@@ -63,43 +85,26 @@ module _ {r : Done} {refs doms texts d m : List ℕ} where
 
   -- the buffer q that was lent for the request is as the definition has it
   module _ (s : Script) {q : List ℕ} (w : q ≡ request_room) where
-    pub start_made_lem : (walk : Walk) (before path boot : List ℕ) {o : Outcome} {out : List ℕ} {p b : ℕ} → p ≡ min s.path (length path) → b ≡ min s.boot (length boot)
-        → left o texts out ≡ start_call refs doms before walk (take p path) (take b boot) s.limit s.size s.clock q
-        → CallMade (call_told s (answered o texts [] refs doms)) r refs doms texts d m → CallMade (start_made s (lent_memory walk refs doms before path boot [])) r refs doms texts d m
+    pub start_made_lem : (walk : Walk) (before path boot : List ℕ) (o : Result Walk Refusal) {out : List ℕ} {p b : ℕ} → p ≡ min s.path (length path) → b ≡ min s.boot (length boot)
+        → left o walk texts out ≡ start_call refs doms before walk (take p path) (take b boot) s.limit s.size s.clock q
+        → CallMade (call_told s (answered o walk texts [] refs doms)) r refs doms texts d m → CallMade (start_made s (lent_memory walk refs doms before path boot [])) r refs doms texts d m
     unfolding start_made
-    start_made_lem walk before path boot {o} {out} {p} {b} hp hb e =
+    start_made_lem walk before path boot o {out} {p} {b} hp hb e =
         made_as
-        (told_answer s
+        (told_answer s _ walk
         (λ i. record { left = (e ∙ (λ j. start_call refs doms before walk (take_least s.path path p hp j) (take_least s.boot boot b hb j) s.limit s.size s.clock (w j))) i; refs = refs; doms = doms }))
 
-    pub io_made_lem : (walk : Walk) (refs₀ texts₀ : List ℕ) {o : Outcome} {out : List ℕ} → answered o texts out refs doms ≡ io_call refs₀ doms texts₀ walk s.status s.clock q
-        → CallMade (call_told s (answered o texts [] refs doms)) r refs doms texts d m → CallMade (io_made s (lent_memory walk refs₀ doms texts₀ [] [] [])) r refs doms texts d m
+    pub io_made_lem : (walk : Walk) (refs₀ texts₀ : List ℕ) (o : Result Walk Refusal) {out : List ℕ} → answered o walk texts out refs doms ≡ io_call refs₀ doms texts₀ walk s.status s.clock q
+        → CallMade (call_told s (answered o walk texts [] refs doms)) r refs doms texts d m → CallMade (io_made s (lent_memory walk refs₀ doms texts₀ [] [] [])) r refs doms texts d m
     unfolding io_made
-    io_made_lem walk refs₀ texts₀ e = made_as (told_answer s (e ∙ ap (io_call refs₀ doms texts₀ walk s.status s.clock) w))
+    io_made_lem walk refs₀ texts₀ o e = made_as (told_answer s _ walk (e ∙ ap (io_call refs₀ doms texts₀ walk s.status s.clock) w))
 
-    pub referral_made_lem : (walk : Walk) (refs₀ doms₀ texts₀ reply : List ℕ) {o : Outcome} {out : List ℕ} {k : ℕ} → k ≡ min s.reply (length reply)
-        → answered o texts out refs doms ≡ referral_call refs₀ doms₀ texts₀ walk s.status (take k reply) s.clock q
-        → CallMade (call_told s (answered o texts [] refs doms)) r refs doms texts d m → CallMade (referral_made s (lent_memory walk refs₀ doms₀ texts₀ [] [] reply)) r refs doms texts d m
+    pub referral_made_lem : (walk : Walk) (refs₀ doms₀ texts₀ reply : List ℕ) (o : Result Walk Refusal) {out : List ℕ} {k : ℕ} → k ≡ min s.reply (length reply)
+        → answered o walk texts out refs doms ≡ referral_call refs₀ doms₀ texts₀ walk s.status (take k reply) s.clock q
+        → CallMade (call_told s (answered o walk texts [] refs doms)) r refs doms texts d m → CallMade (referral_made s (lent_memory walk refs₀ doms₀ texts₀ [] [] reply)) r refs doms texts d m
     unfolding referral_made
-    referral_made_lem walk refs₀ doms₀ texts₀ reply {o} {out} {k} hk e =
-        made_as (told_answer s (e ∙ (λ j. referral_call refs₀ doms₀ texts₀ walk s.status (take_least s.reply reply k hk j) s.clock (w j))))
-
-  -- the call that is due
-  module _ (s : Script) {e : Due} where
-    pub due_start : e ≡ due.Start → (walk : Walk) (texts₀ path boot reply : List ℕ) → CallMade (start_made s (lent_memory walk refs doms texts₀ path boot [])) r refs doms texts d m
-        → CallMade (made e s (lent_memory walk refs doms texts₀ path boot reply)) r refs doms texts d m
-    unfolding made start_made
-    due_start h walk texts₀ path boot reply = made_as (ap (λ (x : Due). made x s (lent_memory walk refs doms texts₀ path boot reply)) (sym h))
-
-    pub due_io : e ≡ due.Io → (walk : Walk) (refs₀ texts₀ path boot reply : List ℕ) → CallMade (io_made s (lent_memory walk refs₀ doms texts₀ [] [] [])) r refs doms texts d m
-        → CallMade (made e s (lent_memory walk refs₀ doms texts₀ path boot reply)) r refs doms texts d m
-    unfolding made io_made
-    due_io h walk refs₀ texts₀ path boot reply = made_as (ap (λ (x : Due). made x s (lent_memory walk refs₀ doms texts₀ path boot reply)) (sym h))
-
-    pub due_referral : e ≡ due.Referral → (walk : Walk) (refs₀ doms₀ texts₀ path boot reply : List ℕ) → CallMade (referral_made s (lent_memory walk refs₀ doms₀ texts₀ [] [] reply)) r refs doms texts d m
-        → CallMade (made e s (lent_memory walk refs₀ doms₀ texts₀ path boot reply)) r refs doms texts d m
-    unfolding made referral_made
-    due_referral h walk refs₀ doms₀ texts₀ path boot reply = made_as (ap (λ (x : Due). made x s (lent_memory walk refs₀ doms₀ texts₀ path boot reply)) (sym h))
+    referral_made_lem walk refs₀ doms₀ texts₀ reply o {out} {k} hk e =
+        made_as (told_answer s _ walk (e ∙ (λ j. referral_call refs₀ doms₀ texts₀ walk s.status (take_least s.reply reply k hk j) s.clock (w j))))
 
 -- no call is due, or a refusal
 module _ (s : Script) {e : Due} (walk : Walk) (refs doms texts path boot reply d : List ℕ) where

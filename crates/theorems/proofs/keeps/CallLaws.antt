@@ -1,5 +1,4 @@
 -- What the calls keep.
-use Rattle.std.specs.Prelude.{Option, None, Some}
 use mathlib.Core.Path.{subst, ◌≡◌, refl, sym, ap, ◌∙◌}
 use mathlib.Core.Bool.{Bool, true, false, ◌&&◌}
 use mathlib.Core.List.{List}
@@ -8,6 +7,7 @@ use native.Mathlib.Omega.{arith}
 use lib.ListN.{length}
 use lib.Dec.{leb, eqb}
 use borrow.Author.Tests.{leb-true}
+use Rattle.std.specs.Prelude.{Ok, Err, Option, None, Some}
 use Rattle.laws.proofs.Choices.{choose_yes}
 use Rattle.unc.specs.names.Names.{good_name}
 use Rattle.unc.specs.names.Paths.{good_path, normalised, path_units}
@@ -20,8 +20,8 @@ use Rattle.walk_form.specs.declared.held.Walk.{Walk}
 use Rattle.walk_form.specs.held.Walks.{core_in}
 use Rattle.walk_calls.specs.call_end.Closing.{Left, refused, closes}
 use Rattle.walk_calls.specs.calls.Calls.{refusal_number, start_rest, start_call, refused_answer, rest_in, referral_event, io_event, answers, answer_call, referral_call, io_call}
-use Rattle.walk_calls.specs.declared.call_end.Verdict.{Verdict}
-use Rattle.walk_calls.specs.declared.call_end.Verdict.TheVariants.{Taken, BadPath, LongPath, BadSettings, NotInOrder, OutOfForm, ShortBuffer}
+use Rattle.walk_calls.specs.call_end.Closing.{Verdict}
+use Rattle.walk_calls.specs.declared.call_end.Refusal.TheVariants.{BadPath, LongPath, BadSettings, NotInOrder, OutOfForm, ShortBuffer}
 use Rattle.theorems.specs.keeps.Code.{Proper}
 use Rattle.theorems.specs.keeps.Keeps.{StartKeeps, AnswerKeeps, CallsKeep}
 use Rattle.theorems.specs.keeps.Named.{referral_names, io_names, domain_names, Elsewhere}
@@ -32,7 +32,7 @@ use Rattle.theorems.proofs.keeps.EventLaws.{path_counted, started_proper, referr
 use Rattle.theorems.proofs.keeps.BackLaws.{caches_good, caches_order, caches_back, form_proper, proper_form, settings_parts, form_settings}
 
 -- a verdict with a refusal's number is not "taken"
-refusal : (v : Verdict) → 1 ≤ refusal_number v → v ≡ Taken → ⊥
+refusal : (v : Verdict) → 1 ≤ refusal_number v → v ≡ Ok tt → ⊥
 unfolding refusal_number
 refusal v h e = let z : refusal_number v ≡ 0 = ap refusal_number e in omega arith
 
@@ -48,7 +48,7 @@ module _ (walk : Walk) (texts out : List ℕ) where
   closes_keeps limit boot x l b p =
       picked (StartKeeps walk texts out) (rest_fits (length out) x) _ _
       (λ t. record { keeps_form = λ e. proper_form limit boot x p l b; identity = λ e. absurd (e refl) })
-      (λ t. refused_keeps ShortBuffer (omega arith))
+      (λ t. refused_keeps (Err ShortBuffer) (omega arith))
 
 -- `start`
 pub start_keeps : (refs doms texts : List ℕ) (walk : Walk) (path boot : List ℕ) (limit size clock : ℕ) (out : List ℕ)
@@ -62,11 +62,11 @@ start_keeps refs doms texts walk path boot limit size clock out =
     picked Keeps (leb (length (normalised path)) path_units) _ _
     (λ l.
     picked Keeps (good_settings limit size boot) _ _
-    (λ s. picked Keeps (eqb (length texts) 768) _ _ (λ t. rested o g l s) (λ t. refused_keeps walk texts out OutOfForm (omega arith)))
-    (λ s. refused_keeps walk texts out BadSettings (omega arith)))
-    (λ l. refused_keeps walk texts out LongPath (omega arith)))
-    (λ g. refused_keeps walk texts out BadPath (omega arith)))
-    (λ o. refused_keeps walk texts out NotInOrder (omega arith))
+    (λ s. picked Keeps (eqb (length texts) 768) _ _ (λ t. rested o g l s) (λ t. refused_keeps walk texts out (Err OutOfForm) (omega arith)))
+    (λ s. refused_keeps walk texts out (Err BadSettings) (omega arith)))
+    (λ l. refused_keeps walk texts out (Err LongPath) (omega arith)))
+    (λ g. refused_keeps walk texts out (Err BadPath) (omega arith)))
+    (λ o. refused_keeps walk texts out (Err NotInOrder) (omega arith))
   where
     Keeps : Left → Type 0
     Keeps x = StartKeeps walk texts out x
@@ -95,13 +95,13 @@ module _ (f g : ℕ → Bool) (refs doms texts : List ℕ) (walk : Walk) (out : 
         closes_keeps walk texts out walk.limit (boot_in walk texts) (turned (walk.limit - walk.moves) clock t) s.0 s.1 (turned_proper (walk.limit - walk.moves) clock t k)
 
     taken : (t : Turn) → rest_fits (length out) (turned (walk.limit - walk.moves) clock t) ≡ true
-        → (closes walk.limit (boot_in walk texts) (turned (walk.limit - walk.moves) clock t) walk texts out).verdict ≡ Taken
+        → (closes walk.limit (boot_in walk texts) (turned (walk.limit - walk.moves) clock t) walk texts out).verdict ≡ Ok tt
     unfolding closes
     taken t h = ap (λ (x : Left). x.verdict) (choose_yes _ _ h)
 
     answers_keep : (event : Option Turn) → ((t : Turn) → event ≡ Some t → Kept t) → AnswerKeeps f g walk texts out refs doms (answers event clock walk texts out refs doms)
     unfolding answers refusal_number
-    answers_keep None k = turned_away OutOfForm (omega arith)
+    answers_keep None k = turned_away (Err OutOfForm) (omega arith)
     answers_keep (Some t) k =
         picked (AnswerKeeps f g walk texts out refs doms) (rest_fits (length out) (turned (walk.limit - walk.moves) clock t)) _ _
         (λ h. record {
@@ -110,7 +110,7 @@ module _ (f g : ℕ → Bool) (refs doms texts : List ℕ) (walk : Walk) (out : 
           order = caches_order t.caches (k t refl).good.caches ∙ sym o;
           elsewhere = subst (Elsewhere f g (caches_of refs doms)) (sym (caches_back t.caches (k t refl).good.caches)) (k t refl).elsewhere;
         })
-        (λ h. turned_away ShortBuffer (omega arith))
+        (λ h. turned_away (Err ShortBuffer) (omega arith))
 
   answer_keeps : (event : Option Turn) (clock : ℕ)
       → ((in_order referrals refs && in_order domains doms) ≡ true → in_form walk texts ≡ true → (t : Turn) → event ≡ Some t → Kept t)
@@ -120,8 +120,8 @@ module _ (f g : ℕ → Bool) (refs doms texts : List ℕ) (walk : Walk) (out : 
       picked (AnswerKeeps f g walk texts out refs doms) (in_order referrals refs && in_order domains doms) _ _
       (λ o.
       picked (AnswerKeeps f g walk texts out refs doms) (in_form walk texts) _ _ (λ h. answers_keep clock o h event (k o h))
-      (λ h. turned_away OutOfForm (omega arith)))
-      (λ o. turned_away NotInOrder (omega arith))
+      (λ h. turned_away (Err OutOfForm) (omega arith)))
+      (λ o. turned_away (Err NotInOrder) (omega arith))
 
 module _ (refs doms texts : List ℕ) (walk : Walk) where
   c : Caches

@@ -1,5 +1,4 @@
 -- An answer that fails leaves both caches as they were.
-use Rattle.std.specs.Prelude.{Option, None, Some}
 use mathlib.Core.Path.{◌≡◌, refl, sym, ap, ◌∙◌}
 use mathlib.Core.Bool.{true, false, ◌&&◌}
 use mathlib.Core.List.{List}
@@ -8,6 +7,7 @@ use Prim.Native.Nat.{ℕ, ◌-◌}
 use native.Mathlib.Omega.{arith}
 use lib.ListN.{length}
 use lib.Dec.{leb, eqb}
+use Rattle.std.specs.Prelude.{Err, Option, None, Some}
 use Rattle.laws.proofs.Choices.{choose_yes, choose_no, and_left, and_right}
 use Rattle.laws.proofs.Orders.{told}
 use Rattle.laws.proofs.Tests.{not_both}
@@ -21,8 +21,8 @@ use Rattle.walk_form.specs.held.Walks.{has_tried, in_form}
 use Rattle.walk_form.specs.declared.held.Walk.{Walk}
 use Rattle.walk_form.specs.held.Walks.{core_in}
 use Rattle.walk_calls.specs.calls.Calls.{refused_answer, rest_in, referral_event, io_event, answers, answer_call, referral_call, io_call}
-use Rattle.walk_calls.specs.declared.call_end.Verdict.{Verdict}
-use Rattle.walk_calls.specs.declared.call_end.Verdict.TheVariants.{NotInOrder, OutOfForm, ShortBuffer}
+use Rattle.walk_calls.specs.call_end.Closing.{Verdict}
+use Rattle.walk_calls.specs.declared.call_end.Refusal.TheVariants.{NotInOrder, OutOfForm, ShortBuffer}
 use Rattle.theorems.specs.keeps.Failures.{Unchanged, FailuresKeep}
 use Rattle.theorems.proofs.keeps.CalledLaws.{picked}
 
@@ -77,21 +77,21 @@ module _ (refs doms texts : List ℕ) (walk : Walk) (out : List ℕ) (clock : �
   answers_stay : (event : Option Turn) → (in_order referrals refs && in_order domains doms) ≡ true → ((t : Turn) → event ≡ Some t → t.caches ≡ caches_of refs doms)
       → Unchanged refs doms (answers event clock walk texts out refs doms)
   unfolding answers caches_of
-  answers_stay None o k = away OutOfForm
+  answers_stay None o k = away (Err OutOfForm)
   answers_stay (Some t) o k =
       picked (Unchanged refs doms) (rest_fits (length out) (turned (walk.limit - walk.moves) clock t)) _ _
       (λ h. record {
         refs_stay = ap (λ (c : Caches). encode referrals c.referrals) (k t refl) ∙ encode_decode referrals refs (and_left _ _ o);
         doms_stay = ap (λ (c : Caches). encode domains c.domains) (k t refl) ∙ encode_decode domains doms (and_right (in_order referrals refs) _ o);
       })
-      (λ h. away ShortBuffer)
+      (λ h. away (Err ShortBuffer))
 
   answer_stays : (event : Option Turn) → ((t : Turn) → event ≡ Some t → t.caches ≡ caches_of refs doms) → Unchanged refs doms (answer_call event clock walk texts out refs doms)
   unfolding answer_call
   answer_stays event k =
       picked (Unchanged refs doms) (in_order referrals refs && in_order domains doms) _ _
-      (λ o. picked (Unchanged refs doms) (in_form walk texts) _ _ (λ h. answers_stay event o k) (λ h. away OutOfForm))
-      (λ o. away NotInOrder)
+      (λ o. picked (Unchanged refs doms) (in_form walk texts) _ _ (λ h. answers_stay event o k) (λ h. away (Err OutOfForm)))
+      (λ o. away (Err NotInOrder))
 
 pub failures_keep : FailuresKeep
 unfolding referral_call io_call

@@ -1,5 +1,4 @@
 -- What a call that is taken leaves stands: caches in order, a walk in form, and where it waits the entry that its question uses.
-use Rattle.std.specs.Prelude.{Option, None, Some}
 use mathlib.Core.Path.{◌≡◌, refl, sym, ap, ◌∙◌, subst}
 use mathlib.Core.Bool.{true, false, ◌&&◌}
 use mathlib.Core.List.{List}
@@ -8,6 +7,7 @@ use native.Mathlib.Omega.{arith}
 use lib.ListN.{length}
 use lib.Dec.{leb, eqb}
 use borrow.Author.Tests.{leb-true}
+use Rattle.std.specs.Prelude.{Err, Option, None, Some}
 use Rattle.unc.specs.names.Names.{good_name}
 use Rattle.unc.specs.names.Paths.{good_path, normalised, path_units}
 use Rattle.cache.specs.order.Memory.{referrals, domains, encode, in_order}
@@ -19,8 +19,8 @@ use Rattle.walk_form.specs.declared.held.Walk.{Walk}
 use Rattle.walk_form.specs.held.Walks.{core_in}
 use Rattle.walk_calls.specs.call_end.Closing.{Left, refused, closes}
 use Rattle.walk_calls.specs.calls.Calls.{refusal_number, start_rest, start_call, refused_answer, rest_in, referral_event, io_event, answers, answer_call, referral_call, io_call}
-use Rattle.walk_calls.specs.declared.call_end.Verdict.{Verdict}
-use Rattle.walk_calls.specs.declared.call_end.Verdict.TheVariants.{BadPath, LongPath, BadSettings, NotInOrder, OutOfForm, ShortBuffer}
+use Rattle.walk_calls.specs.call_end.Closing.{Verdict}
+use Rattle.walk_calls.specs.declared.call_end.Refusal.TheVariants.{BadPath, LongPath, BadSettings, NotInOrder, OutOfForm, ShortBuffer}
 use Rattle.theorems.specs.keeps.Code.{Proper}
 use Rattle.theorems.specs.keeps.Stands.{Stands, StartStands, AnswerStands, CallsStand}
 use Rattle.theorems.proofs.keeps.CalledLaws.{picked}
@@ -48,7 +48,7 @@ module _ (refs doms : List ℕ) (order : (in_order referrals refs && in_order do
   closes_stands : (walk : Walk) (texts out : List ℕ) → StartStands refs doms (closes limit boot x walk texts out)
   unfolding closes StartStands refusal_number
   closes_stands walk texts out =
-      picked (StartStands refs doms) (rest_fits (length out) x) _ _ (λ t e. rest_stands) (λ t. refused_stands refs doms ShortBuffer walk texts out (omega arith))
+      picked (StartStands refs doms) (rest_fits (length out) x) _ _ (λ t e. rest_stands) (λ t. refused_stands refs doms (Err ShortBuffer) walk texts out (omega arith))
 
 -- `start`
 pub start_stands : (refs doms texts : List ℕ) (walk : Walk) (path boot : List ℕ) (limit size clock : ℕ) (out : List ℕ)
@@ -62,11 +62,11 @@ start_stands refs doms texts walk path boot limit size clock out =
     picked Fit (leb (length (normalised path)) path_units) _ _
     (λ l.
     picked Fit (good_settings limit size boot) _ _
-    (λ s. picked Fit (eqb (length texts) 768) _ _ (λ t. rested o g l s) (λ t. refused_stands refs doms OutOfForm walk texts out (omega arith)))
-    (λ s. refused_stands refs doms BadSettings walk texts out (omega arith)))
-    (λ l. refused_stands refs doms LongPath walk texts out (omega arith)))
-    (λ g. refused_stands refs doms BadPath walk texts out (omega arith)))
-    (λ o. refused_stands refs doms NotInOrder walk texts out (omega arith))
+    (λ s. picked Fit (eqb (length texts) 768) _ _ (λ t. rested o g l s) (λ t. refused_stands refs doms (Err OutOfForm) walk texts out (omega arith)))
+    (λ s. refused_stands refs doms (Err BadSettings) walk texts out (omega arith)))
+    (λ l. refused_stands refs doms (Err LongPath) walk texts out (omega arith)))
+    (λ g. refused_stands refs doms (Err BadPath) walk texts out (omega arith)))
+    (λ o. refused_stands refs doms (Err NotInOrder) walk texts out (omega arith))
   where
     Fit : Left → Type 0
     Fit x = StartStands refs doms x
@@ -104,17 +104,17 @@ module _ (refs doms texts : List ℕ) (walk : Walk) (out : List ℕ) where
 
     answers_stand : (event : Option Turn) → ((t : Turn) → event ≡ Some t → Puts t) → AnswerStands (answers event clock walk texts out refs doms)
     unfolding answers refusal_number AnswerStands StartStands
-    answers_stand None k = turned_away OutOfForm (omega arith)
+    answers_stand None k = turned_away (Err OutOfForm) (omega arith)
     answers_stand (Some t) k =
-        picked AnswerStands (rest_fits (length out) (turned (walk.limit - walk.moves) clock t)) _ _ (λ h. turn_stands t (k t refl)) (λ h. turned_away ShortBuffer (omega arith))
+        picked AnswerStands (rest_fits (length out) (turned (walk.limit - walk.moves) clock t)) _ _ (λ h. turn_stands t (k t refl)) (λ h. turned_away (Err ShortBuffer) (omega arith))
 
   answer_stands : (event : Option Turn) (clock : ℕ) → ((in_order referrals refs && in_order domains doms) ≡ true → in_form walk texts ≡ true → (t : Turn) → event ≡ Some t → Puts t)
       → AnswerStands (answer_call event clock walk texts out refs doms)
   unfolding answer_call refusal_number
   answer_stands event clock k =
       picked AnswerStands (in_order referrals refs && in_order domains doms) _ _
-      (λ o. picked AnswerStands (in_form walk texts) _ _ (λ h. answers_stand clock h event (k o h)) (λ h. turned_away OutOfForm (omega arith)))
-      (λ o. turned_away NotInOrder (omega arith))
+      (λ o. picked AnswerStands (in_form walk texts) _ _ (λ h. answers_stand clock h event (k o h)) (λ h. turned_away (Err OutOfForm) (omega arith)))
+      (λ o. turned_away (Err NotInOrder) (omega arith))
 
 -- `answer_referral`
 pub referral_stands : (refs doms texts : List ℕ) (walk : Walk) (status : ℕ) (reply : List ℕ) (clock : ℕ) (out : List ℕ)

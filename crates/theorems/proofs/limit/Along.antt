@@ -7,7 +7,7 @@ use lib.ListN.{length}
 use Rattle.laws.proofs.Tests.{not_both}
 use Rattle.walk_steps.specs.steps.Steps.{Turn, Core, Rest}
 use Rattle.walk_steps.specs.question_request.Questions.{request_name, name_fits}
-use Rattle.walk_calls.specs.declared.call_end.Verdict.{Verdict}
+use Rattle.walk_calls.specs.call_end.Closing.{Verdict}
 use Rattle.theorems.specs.limit.Unlimited.{Move, Opening, Unlimited, Made, made_in, rests_at, last_move, Rests, Brings, number, comes, Call, refused as call-refused, short, taken, CallsFor}
 use Rattle.theorems.specs.limit.Calls.{Held, Start, Answer, Calls, start, then, answer_clock, answer_out, clock_of, start_opening, answer_opening, Follows, begins, is_refused, is_taken, Comes, to_start, to_answer, CutBy, in_it, before_it, CutBefore, an_earlier}
 use Rattle.theorems.proofs.limit.Once.{rest_once}

@@ -1,5 +1,4 @@
 -- A start and an answer, with a limit, against what they come to for the unlimited walk.
-use Rattle.std.specs.Prelude.{Option, None, Some}
 use mathlib.Core.Path.{◌≡◌, refl, sym, ap, ◌∙◌, subst}
 use mathlib.Core.Bool.{Bool, true, false, ◌&&◌}
 use mathlib.Core.List.{List}
@@ -8,6 +7,7 @@ use Prim.Native.Nat.{ℕ, ◌-◌, ◌≤◌}
 use native.Mathlib.Omega.{arith}
 use lib.ListN.{length}
 use lib.Dec.{leb, eqb}
+use Rattle.std.specs.Prelude.{Ok, Err, Option, None, Some}
 use Rattle.laws.specs.Choice.{choose}
 use Rattle.laws.proofs.Choices.{choose_yes, choose_no, and_left, and_right, and_yes_left}
 use Rattle.laws.proofs.Orders.{told}
@@ -26,8 +26,8 @@ use Rattle.walk_form.specs.declared.held.Walk.{Walk}
 use Rattle.walk_form.specs.held.Walks.{core_in}
 use Rattle.walk_calls.specs.call_end.Closing.{Left, refused, closes}
 use Rattle.walk_calls.specs.calls.Calls.{Answered, start_rest, start_call, answers, answer_call, referral_call, io_call, rest_in}
-use Rattle.walk_calls.specs.declared.call_end.Verdict.{Verdict}
-use Rattle.walk_calls.specs.declared.call_end.Verdict.TheVariants.{Taken, BadPath, LongPath, BadSettings, NotInOrder, OutOfForm, ShortBuffer}
+use Rattle.walk_calls.specs.call_end.Closing.{Verdict}
+use Rattle.walk_calls.specs.declared.call_end.Refusal.TheVariants.{BadPath, LongPath, BadSettings, NotInOrder, OutOfForm, ShortBuffer}
 use Rattle.theorems.specs.limit.Unlimited.{Opening, opens, refuses, rests_at}
 use Rattle.theorems.specs.limit.Calls.{Held, Start, Answer, referral, io, start, run, after_answer, answer_clock, answer_out, observed, start_opening, event_of, event_opening, answer_opening}
 use Rattle.theorems.proofs.limit.Classify.{Fine, Closed, Followed, CutOff, classified, turned_away}
@@ -50,7 +50,7 @@ module _ (l : ℕ) (boot out : List ℕ) (t : Turn) (x : Resting) (b : Back l bo
 
   abbrev good : Answered
   good = record {
-    left = record { verdict = Taken; walk = walk_of l boot x; texts = texts_after boot x; out = out_after x out };
+    left = record { verdict = (Ok tt); walk = walk_of l boot x; texts = texts_after boot x; out = out_after x out };
     refs = refs;
     doms = doms;
   }
@@ -59,7 +59,7 @@ module _ (l : ℕ) (boot out : List ℕ) (t : Turn) (x : Resting) (b : Back l bo
   unfolding closes
   result_good h = ap (λ (y : Left). record { left = y; refs = refs; doms = doms }) (choose_yes _ _ h)
 
-  result_shut : rest_fits (length out) x ≡ false → result.left ≡ refused ShortBuffer walk texts out
+  result_shut : rest_fits (length out) x ≡ false → result.left ≡ refused (Err ShortBuffer) walk texts out
   unfolding closes
   result_shut h = choose_no _ _ h
 
@@ -82,7 +82,7 @@ module _ (l : ℕ) (boot out : List ℕ) (t : Turn) (x : Resting) (b : Back l bo
   }
 
 through : {l : ℕ} {boot out : List ℕ} {t : Turn} {x : Resting} {a b : Answered} → (rest_fits (length out) x ≡ true → b ≡ a)
-    → (rest_fits (length out) x ≡ false → b.left.verdict ≡ ShortBuffer) → Closed l boot out t x a → Closed l boot out t x b
+    → (rest_fits (length out) x ≡ false → b.left.verdict ≡ Err ShortBuffer) → Closed l boot out t x a → Closed l boot out t x b
 through {l} {boot} y n c = record {
   fits = λ h. ap (λ (o : Answered). o.left.verdict) (y h) ∙ c.fits h;
   sees = λ h. ap observed (y h) ∙ c.sees h;
@@ -106,13 +106,13 @@ BackAfter o a =
 
 -- a number that the tests before the steps give
 abbrev early : Verdict → Bool
-early Taken = false
-early BadPath = true
-early LongPath = true
-early BadSettings = true
-early NotInOrder = true
-early OutOfForm = true
-early ShortBuffer = false
+early (Ok tt) = false
+early (Err BadPath) = true
+early (Err LongPath) = true
+early (Err BadSettings) = true
+early (Err NotInOrder) = true
+early (Err OutOfForm) = true
+early (Err ShortBuffer) = false
 
 early_not : {v w : Verdict} → early v ≡ true → early w ≡ false → v ≡ w → ⊥
 early_not e f g = not_both (sym (ap early g) ∙ e) f
@@ -142,15 +142,15 @@ module _ (o : Answered) (a : Answer) (form : in_form o.left.walk o.left.texts �
   answer_no_order : (in_order referrals o.refs && in_order domains o.doms) ≡ false → This (answer_opening (observed o) a)
   unfolding answer_opening observed answer_call
   answer_no_order h =
-      let v : (after_answer o a).left.verdict ≡ NotInOrder = ap (λ (x : Answered). x.left.verdict) (called o a ∙ choose_no _ _ h) in
-      subst This (sym (choose_no (event_opening (event_of (observed o) a)) (refuses NotInOrder) h)) (inl (turned_early _ _ _ _ _ _ NotInOrder v refl))
+      let v : (after_answer o a).left.verdict ≡ Err NotInOrder = ap (λ (x : Answered). x.left.verdict) (called o a ∙ choose_no _ _ h) in
+      subst This (sym (choose_no (event_opening (event_of (observed o) a)) (refuses (Err NotInOrder)) h)) (inl (turned_early _ _ _ _ _ _ (Err NotInOrder) v refl))
 
   answer_none : (in_order referrals o.refs && in_order domains o.doms) ≡ true → event_of (observed o) a ≡ None → This (answer_opening (observed o) a)
   unfolding event_opening answers
   answer_none h e =
-      let v : (after_answer o a).left.verdict ≡ OutOfForm =
+      let v : (after_answer o a).left.verdict ≡ Err OutOfForm =
       ap (λ (x : Answered). x.left.verdict) (in_order_lem h ∙ ap (λ (y : Option Turn). answers y (answer_clock a) walk texts (answer_out a) o.refs o.doms) e) in
-      subst This (sym (opening_order h ∙ ap event_opening e)) (inl (turned_early _ _ _ _ _ _ OutOfForm v refl))
+      subst This (sym (opening_order h ∙ ap event_opening e)) (inl (turned_early _ _ _ _ _ _ (Err OutOfForm) v refl))
 
   answer_some : (in_order referrals o.refs && in_order domains o.doms) ≡ true → (t : Turn) → event_of (observed o) a ≡ Some t → This (answer_opening (observed o) a)
   unfolding event_opening answers
@@ -260,18 +260,18 @@ module _ (l : ℕ) (h : Held) (s : Start) (limit : good_limit l ≡ true) (back 
     where
       go : Told (in_order referrals h.refs && in_order domains h.doms) → Told (good_path s.path) → Told (leb (length (normalised s.path)) path_units)
           → Told (good_size s.size && good_name s.boot) → Told (eqb (length h.texts) 768) → That (start_opening h s)
-      go (inr a) p q r t = away NotInOrder (choose_no _ _ a) (choose_no _ _ a) refl
+      go (inr a) p q r t = away (Err NotInOrder) (choose_no _ _ a) (choose_no _ _ a) refl
       go (inl a) (inr p) q r t =
-          away BadPath (choose_yes _ _ a ∙ choose_no _ _ p) (choose_yes _ _ a ∙ choose_no _ _ p) refl
+          away (Err BadPath) (choose_yes _ _ a ∙ choose_no _ _ p) (choose_yes _ _ a ∙ choose_no _ _ p) refl
       go (inl a) (inl p) (inr q) r t =
-          away LongPath (choose_yes _ _ a ∙ (choose_yes _ _ p ∙ choose_no _ _ q)) (choose_yes _ _ a ∙ (choose_yes _ _ p ∙ choose_no _ _ q))
+          away (Err LongPath) (choose_yes _ _ a ∙ (choose_yes _ _ p ∙ choose_no _ _ q)) (choose_yes _ _ a ∙ (choose_yes _ _ p ∙ choose_no _ _ q))
           refl
       go (inl a) (inl p) (inl q) (inr r) t =
-          away BadSettings (choose_yes _ _ a ∙ (choose_yes _ _ p ∙ (choose_yes _ _ q ∙ choose_no _ _ r)))
+          away (Err BadSettings) (choose_yes _ _ a ∙ (choose_yes _ _ p ∙ (choose_yes _ _ q ∙ choose_no _ _ r)))
           (choose_yes _ _ a ∙ (choose_yes _ _ p ∙ (choose_yes _ _ q ∙ choose_no _ _ (and_yes_left _ limit ∙ r))))
           refl
       go (inl a) (inl p) (inl q) (inl r) (inr t) =
-          away OutOfForm (choose_yes _ _ a ∙ (choose_yes _ _ p ∙ (choose_yes _ _ q ∙ (choose_yes _ _ r ∙ choose_no _ _ t))))
+          away (Err OutOfForm) (choose_yes _ _ a ∙ (choose_yes _ _ p ∙ (choose_yes _ _ q ∙ (choose_yes _ _ r ∙ choose_no _ _ t))))
           (choose_yes _ _ a ∙ (choose_yes _ _ p ∙ (choose_yes _ _ q ∙ (choose_yes _ _ (and_yes_left _ limit ∙ r) ∙ choose_no _ _ t))))
           refl
       go (inl a) (inl p) (inl q) (inl r) (inl t) = start_taken (record { order = a; path = p; short = q; settings = r; texts = t })

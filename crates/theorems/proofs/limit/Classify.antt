@@ -6,14 +6,15 @@ use mathlib.Core.Logic.{◌⊎◌, inl, inr}
 use Prim.Native.Nat.{ℕ, suc, ◌+◌, ◌-◌, ◌≤◌}
 use native.Mathlib.Omega.{arith}
 use lib.ListN.{length, length-append}
+use Rattle.std.specs.Prelude.{Ok, Err}
 use Rattle.laws.proofs.Orders.{told}
 use Rattle.walk_steps.specs.steps.Steps.{Turn, ended, Resting, rests, turned}
 use Rattle.walk_steps.specs.declared.steps.End.TheVariants.{LimitReached}
 use Rattle.walk_steps.specs.question_request.Questions.{request_name, name_fits, rest_fits, with_request}
 use Rattle.walk_form.specs.held.Walks.{in_form, boot_in}
 use Rattle.walk_calls.specs.calls.Calls.{Answered}
-use Rattle.walk_calls.specs.declared.call_end.Verdict.{Verdict}
-use Rattle.walk_calls.specs.declared.call_end.Verdict.TheVariants.{Taken, ShortBuffer}
+use Rattle.walk_calls.specs.call_end.Closing.{Verdict}
+use Rattle.walk_calls.specs.declared.call_end.Refusal.TheVariants.{ShortBuffer}
 use Rattle.theorems.specs.limit.Unlimited.{Move, Opening, opens, refuses, made_in, rests_at, last_move, Rests, CallsForMore, Brings, number, comes, Call, short, taken, refused, CallsFor, Within, rests as within-rests}
 use Rattle.theorems.specs.limit.Calls.{observed, Moved, no_move, to_rest, to_limit, Same, same_number, same_rest}
 use Rattle.theorems.proofs.limit.Goes.{ToRest, Cut, rests_or_cut}
@@ -28,11 +29,11 @@ pub record Fine (l : ℕ) (boot : List ℕ) (o : Answered) : Type 0 where
 
 -- a call whose steps rest so is taken, or refused by 10
 pub record Closed (l : ℕ) (boot out : List ℕ) (t : Turn) (x : Resting) (o : Answered) : Type 0 where
-  pub fits : rest_fits (length out) x ≡ true → o.left.verdict ≡ Taken
+  pub fits : rest_fits (length out) x ≡ true → o.left.verdict ≡ Ok tt
   pub sees : rest_fits (length out) x ≡ true → observed o ≡ rests_at t.caches x.core x.rest (l - x.left)
   pub writes : rest_fits (length out) x ≡ true → o.left.out ≡ with_request (request_name x.core x.rest) out
   pub fine : rest_fits (length out) x ≡ true → Fine l boot o
-  pub shut : rest_fits (length out) x ≡ false → o.left.verdict ≡ ShortBuffer
+  pub shut : rest_fits (length out) x ≡ false → o.left.verdict ≡ Err ShortBuffer
 
 -- a call that comes to rest with l moves called for at most, and one that is cut
 pub record Followed (l clock : ℕ) (boot out : List ℕ) (n : ℕ) (o : Answered) (p : Opening) : Type 0 where
@@ -40,12 +41,12 @@ pub record Followed (l clock : ℕ) (boot out : List ℕ) (n : ℕ) (o : Answere
   pub call : Call clock boot out n p brings
   pub same : Same l clock boot out n o p brings
   pub within : Within clock boot n l p
-  pub fine : o.left.verdict ≡ Taken → Fine l boot o
-  pub early : p ≡ refuses ShortBuffer → ⊥
+  pub fine : o.left.verdict ≡ Ok tt → Fine l boot o
+  pub early : p ≡ refuses (Err ShortBuffer) → ⊥
 
 pub record CutOff (l clock : ℕ) (boot out : List ℕ) (n : ℕ) (o : Answered) (p : Opening) : Type 0 where
   pub calls : CallsFor p clock n (suc l)
-  pub is_taken : o.left.verdict ≡ Taken
+  pub is_taken : o.left.verdict ≡ Ok tt
   pub sees : observed o ≡ rests_at calls.turn.caches calls.core (ended LimitReached 0 []) l
   pub writes : o.left.out ≡ out
   pub moves : Moved l clock boot n o p (made_in calls.turn.caches calls.moves)
@@ -54,7 +55,7 @@ pub record CutOff (l clock : ℕ) (boot out : List ℕ) (n : ℕ) (o : Answered)
 pub opens_same : {t u : Turn} → opens t ≡ opens u → t ≡ u
 opens_same e = cc
 
-pub short_not : {v : Verdict} → v ≡ ShortBuffer → v ≡ Taken → ⊥
+pub short_not : {v : Verdict} → v ≡ Err ShortBuffer → v ≡ Ok tt → ⊥
 short_not e f = let z : ◌≡◌ {A = ℕ} 0 1 = cc in omega arith
 
 pub not_refused : {v : Verdict} (t : Turn) → opens t ≡ refuses v → ⊥
@@ -123,9 +124,9 @@ module _ (l clock : ℕ) (boot out : List ℕ) (n : ℕ) (few : n ≤ l) (t : Tu
 
     followed_short : name_fits (length out) (request_name x.core x.rest) ≡ false → Followed l clock boot out n o (opens t)
     followed_short h =
-        let v : o.left.verdict ≡ ShortBuffer = z.shut (fit_is ∙ h) in
+        let v : o.left.verdict ≡ Err ShortBuffer = z.shut (fit_is ∙ h) in
         record {
-          brings = number ShortBuffer;
+          brings = number (Err ShortBuffer);
           call = short way h;
           same = same_number v (λ e. let y : ◌≡◌ {A = ℕ} 0 1 = cc in omega arith) (no_move (short_not v));
           within = inside;
@@ -180,7 +181,7 @@ module _ (l clock : ℕ) (boot out : List ℕ) (n : ℕ) (few : n ≤ l) (t : Tu
       go (inr x) = inr (cut_off x)
 
 -- a call that is refused before any step
-pub turned_away : (l clock : ℕ) (boot out : List ℕ) (n : ℕ) (o : Answered) (v : Verdict) → o.left.verdict ≡ v → (v ≡ Taken → ⊥) → (v ≡ ShortBuffer → ⊥)
+pub turned_away : (l clock : ℕ) (boot out : List ℕ) (n : ℕ) (o : Answered) (v : Verdict) → o.left.verdict ≡ v → (v ≡ Ok tt → ⊥) → (v ≡ Err ShortBuffer → ⊥)
     → Followed l clock boot out n o (refuses v)
 turned_away l clock boot out n o v e h g = record {
   brings = number v;

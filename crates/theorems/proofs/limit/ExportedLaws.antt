@@ -6,12 +6,14 @@ use Prim.Native.Nat.{ℕ}
 use native.Mathlib.Omega.{arith}
 use lib.ListN.{take, drop}
 use lib.Seq.{take-append_seam, drop-append_seam}
+use Rattle.std.specs.Prelude.{Ok, Err}
 use Rattle.laws.specs.Choice.{choose}
 use Rattle.walk_form.specs.declared.held.Walk.{Walk}
 use Rattle.walk_form.specs.packed.Packing.{packed_walk, unpacked}
 use Rattle.walk_form.proofs.packed.PackLaws.{unpack_pack, length_packed}
-use Rattle.walk_calls.specs.declared.call_end.Verdict.{Verdict}
-use Rattle.walk_calls.specs.declared.call_end.Verdict.TheVariants.{Taken, BadPath, LongPath, BadSettings, NotInOrder, OutOfForm, ShortBuffer}
+use Rattle.walk_calls.specs.call_end.Closing.{Verdict}
+use Rattle.walk_calls.specs.declared.call_end.Refusal.{Refusal}
+use Rattle.walk_calls.specs.declared.call_end.Refusal.TheVariants.{BadPath, LongPath, BadSettings, NotInOrder, OutOfForm, ShortBuffer}
 use Rattle.walk_calls.specs.calls.Calls.{Answered, refusal_number, start_call, referral_call, io_call}
 use Rattle.walk_calls.specs.call_end.Closing.{Left, refused, closes}
 use Rattle.walk_steps.specs.steps.Steps.{Resting}
@@ -32,36 +34,21 @@ module _ (w : Walk) (t : List ℕ) where
   walk_back = ap (λ (u : List ℕ). held_in (unpacked u)) head ∙ ap held_in (unpack_pack w)
 
 -- a number is no "taken"
-not_path : BadPath ≡ Taken → ⊥
-not_path e = let z : ◌≡◌ {A = ℕ} 0 1 = cc in omega arith
-
-not_long : LongPath ≡ Taken → ⊥
-not_long e = let z : ◌≡◌ {A = ℕ} 0 1 = cc in omega arith
-
-not_settings : BadSettings ≡ Taken → ⊥
-not_settings e = let z : ◌≡◌ {A = ℕ} 0 1 = cc in omega arith
-
-not_order : NotInOrder ≡ Taken → ⊥
-not_order e = let z : ◌≡◌ {A = ℕ} 0 1 = cc in omega arith
-
-not_form : OutOfForm ≡ Taken → ⊥
-not_form e = let z : ◌≡◌ {A = ℕ} 0 1 = cc in omega arith
-
-not_short : ShortBuffer ≡ Taken → ⊥
-not_short e = let z : ◌≡◌ {A = ℕ} 0 1 = cc in omega arith
+not_taken : (e : Refusal) → ◌≡◌ {A = Verdict} (Err e) (Ok tt) → ⊥
+not_taken e h = let z : ◌≡◌ {A = ℕ} 0 1 = cc in omega arith
 
 -- the packed form after a call
-head_after_lem : (v : Verdict) (w : Walk) (u : List ℕ) → ((v ≡ Taken → ⊥) → take 32 u ≡ packed_walk w) → head_after (refusal_number v) w u ≡ packed_walk w
+head_after_lem : (v : Verdict) (w : Walk) (u : List ℕ) → ((v ≡ Ok tt → ⊥) → take 32 u ≡ packed_walk w) → head_after (refusal_number v) w u ≡ packed_walk w
 unfolding head_after refusal_number choose
-head_after_lem Taken w u h = refl
-head_after_lem BadPath w u h = h not_path
-head_after_lem LongPath w u h = h not_long
-head_after_lem BadSettings w u h = h not_settings
-head_after_lem NotInOrder w u h = h not_order
-head_after_lem OutOfForm w u h = h not_form
-head_after_lem ShortBuffer w u h = h not_short
+head_after_lem (Ok tt) w u h = refl
+head_after_lem (Err BadPath) w u h = h (not_taken BadPath)
+head_after_lem (Err LongPath) w u h = h (not_taken LongPath)
+head_after_lem (Err BadSettings) w u h = h (not_taken BadSettings)
+head_after_lem (Err NotInOrder) w u h = h (not_taken NotInOrder)
+head_after_lem (Err OutOfForm) w u h = h (not_taken OutOfForm)
+head_after_lem (Err ShortBuffer) w u h = h (not_taken ShortBuffer)
 
-units_left_lem : (u : List ℕ) (o : Answered) → ((o.left.verdict ≡ Taken → ⊥) → take 32 u ≡ packed_walk o.left.walk) → answer_in_units u o ≡ packed_answer o
+units_left_lem : (u : List ℕ) (o : Answered) → ((o.left.verdict ≡ Ok tt → ⊥) → take 32 u ≡ packed_walk o.left.walk) → answer_in_units u o ≡ packed_answer o
 unfolding answer_in_units in_units packed_answer
 units_left_lem u o h =
     ap (λ (p : List ℕ). record { left = units_left (refusal_number o.left.verdict) (p ++ o.left.texts) o.left.out; refs = o.refs; doms = o.doms })
@@ -77,25 +64,25 @@ one_answer o (io status clock out) =
 
 -- a start that is taken leaves nothing of the walk that it was given
 module _ (v w : Walk) (texts out : List ℕ) where
-  passes : (b : Bool) (n : Verdict) {x y : Left} → (n ≡ Taken → ⊥) → (x.verdict ≡ Taken → x ≡ y) → (choose b x (refused n v texts out)).verdict ≡ Taken
+  passes : (b : Bool) (n : Verdict) {x y : Left} → (n ≡ Ok tt → ⊥) → (x.verdict ≡ Ok tt → x ≡ y) → (choose b x (refused n v texts out)).verdict ≡ Ok tt
       → choose b x (refused n v texts out) ≡ choose b y (refused n w texts out)
   unfolding choose
   passes true n h f e = f e
   passes false n h f e = absurd (h e)
 
-  closes_alike : (l : ℕ) (boot : List ℕ) (x : Resting) → (closes l boot x v texts out).verdict ≡ Taken → closes l boot x v texts out ≡ closes l boot x w texts out
+  closes_alike : (l : ℕ) (boot : List ℕ) (x : Resting) → (closes l boot x v texts out).verdict ≡ Ok tt → closes l boot x v texts out ≡ closes l boot x w texts out
   unfolding closes
-  closes_alike l boot x = passes _ ShortBuffer not_short (λ e. refl)
+  closes_alike l boot x = passes _ (Err ShortBuffer) (not_taken ShortBuffer) (λ e. refl)
 
-  starts_alike : (refs doms path boot : List ℕ) (l size clock : ℕ) → (start_call refs doms texts v path boot l size clock out).verdict ≡ Taken
+  starts_alike : (refs doms path boot : List ℕ) (l size clock : ℕ) → (start_call refs doms texts v path boot l size clock out).verdict ≡ Ok tt
       → start_call refs doms texts v path boot l size clock out ≡ start_call refs doms texts w path boot l size clock out
   unfolding start_call
   starts_alike refs doms path boot l size clock =
-      passes _ NotInOrder not_order
-      (passes _ BadPath not_path
-      (passes _ LongPath not_long (passes _ BadSettings not_settings (passes _ OutOfForm not_form (closes_alike l boot _)))))
+      passes _ (Err NotInOrder) (not_taken NotInOrder)
+      (passes _ (Err BadPath) (not_taken BadPath)
+      (passes _ (Err LongPath) (not_taken LongPath) (passes _ (Err BadSettings) (not_taken BadSettings) (passes _ (Err OutOfForm) (not_taken OutOfForm) (closes_alike l boot _)))))
 
-module _ (l : ℕ) (h : Held) (s : Start) (units : List ℕ) (e : texts_in units ≡ h.texts) (v : (run l h s start).left.verdict ≡ Taken) where
+module _ (l : ℕ) (h : Held) (s : Start) (units : List ℕ) (e : texts_in units ≡ h.texts) (v : (run l h s start).left.verdict ≡ Ok tt) where
   first_units : units_run l h s units start ≡ answer_in_units units (run l h s start)
   unfolding units_run run answer_in_units start_units
   first_units =

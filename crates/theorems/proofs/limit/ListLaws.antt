@@ -1,5 +1,4 @@
 -- A walk with a limit along a list of calls, against the unlimited walk.
-use Rattle.std.specs.Prelude.{Option, None, Some}
 use mathlib.Core.Path.{◌≡◌, refl, sym, ap, ◌∙◌, subst}
 use mathlib.Core.Bool.{Bool, true, false, ◌&&◌}
 use mathlib.Core.List.{List, []}
@@ -7,6 +6,7 @@ use mathlib.Core.Logic.{◌⊎◌, inl, inr}
 use Prim.Native.Nat.{ℕ, suc, ◌-◌, ◌≤◌}
 use native.Mathlib.Omega.{arith}
 use borrow.Author.Tests.{leb-true}
+use Rattle.std.specs.Prelude.{Ok, Err, Option, None, Some}
 use Rattle.laws.specs.Choice.{choose}
 use Rattle.laws.proofs.Choices.{choose_yes, choose_no, and_left, and_right}
 use Rattle.laws.proofs.Orders.{told}
@@ -21,8 +21,8 @@ use Rattle.walk_form.specs.held.Walks.{good_limit, in_form, boot_in}
 use Rattle.walk_form.specs.held.Walks.{core_in}
 use Rattle.walk_calls.specs.call_end.Closing.{Left, refused}
 use Rattle.walk_calls.specs.calls.Calls.{Answered, refused_answer, rest_in, referral_event, io_event}
-use Rattle.walk_calls.specs.declared.call_end.Verdict.{Verdict}
-use Rattle.walk_calls.specs.declared.call_end.Verdict.TheVariants.{Taken, ShortBuffer}
+use Rattle.walk_calls.specs.call_end.Closing.{Verdict}
+use Rattle.walk_calls.specs.declared.call_end.Refusal.TheVariants.{ShortBuffer}
 use Rattle.theorems.specs.keeps.Code.{Proper}
 use Rattle.theorems.proofs.keeps.RestLaws.{GoodTurn, turned_proper}
 use Rattle.theorems.proofs.keeps.EventLaws.{path_counted, started_proper, referral_good, io_good}
@@ -73,21 +73,21 @@ either_at l boot o a u f e =
     (answer_either o a f.form (omega (arith, f.few, f.limit)) (back_after o a))))
 
 -- a refused answer changes nothing
-pub answer_identity : (o : Answered) (a : Answer) → ((after_answer o a).left.verdict ≡ Taken → ⊥)
+pub answer_identity : (o : Answered) (a : Answer) → ((after_answer o a).left.verdict ≡ Ok tt → ⊥)
     → after_answer o a ≡ refused_answer (after_answer o a).left.verdict o.left.walk o.left.texts (answer_out a) o.refs o.doms
 unfolding after_answer answer_out
 answer_identity o (referral status reply clock out) n = (referral_keeps o.refs o.doms o.left.texts o.left.walk status reply clock out).identity n
 answer_identity o (io status clock out) n = (io_keeps o.refs o.doms o.left.texts o.left.walk status clock out).identity n
 
-pub seen_kept : (o : Answered) (a : Answer) → ((after_answer o a).left.verdict ≡ Taken → ⊥) → observed (after_answer o a) ≡ observed o
+pub seen_kept : (o : Answered) (a : Answer) → ((after_answer o a).left.verdict ≡ Ok tt → ⊥) → observed (after_answer o a) ≡ observed o
 unfolding observed
 seen_kept o a n = ap observed (answer_identity o a n)
 
-pub fine_kept : (l : ℕ) (boot : List ℕ) (o : Answered) (a : Answer) → ((after_answer o a).left.verdict ≡ Taken → ⊥) → Fine l boot o → Fine l boot (after_answer o a)
+pub fine_kept : (l : ℕ) (boot : List ℕ) (o : Answered) (a : Answer) → ((after_answer o a).left.verdict ≡ Ok tt → ⊥) → Fine l boot o → Fine l boot (after_answer o a)
 fine_kept l boot o a n f =
     subst (Fine l boot) (sym (answer_identity o a n)) (record { form = f.form; limit = f.limit; boot_is = f.boot_is; few = f.few })
 
-pub start_identity : (l : ℕ) (h : Held) (s : Start) → ((run l h s start).left.verdict ≡ Taken → ⊥)
+pub start_identity : (l : ℕ) (h : Held) (s : Start) → ((run l h s start).left.verdict ≡ Ok tt → ⊥)
     → run l h s start ≡ record { left = refused (run l h s start).left.verdict h.walk h.texts s.out; refs = h.refs; doms = h.doms }
 unfolding run
 start_identity l h s n =
@@ -96,21 +96,21 @@ start_identity l h s n =
 
 -- what a call shows, taken apart
 module _ {l clock : ℕ} {boot out : List ℕ} {n : ℕ} {o : Answered} where
-  pub same_comes : {p : Opening} {ms : List Made} {u : Unlimited} → Same l clock boot out n o p (comes ms u) → (o.left.verdict ≡ Taken) × ((observed o ≡ u) × Moved l clock boot n o p ms)
+  pub same_comes : {p : Opening} {ms : List Made} {u : Unlimited} → Same l clock boot out n o p (comes ms u) → (o.left.verdict ≡ Ok tt) × ((observed o ≡ u) × Moved l clock boot n o p ms)
   same_comes (same_rest v e w m) = (v, (e, m))
 
-  pub same_numbered : {p : Opening} {v : Verdict} → Same l clock boot out n o p (number v) → (o.left.verdict ≡ v) × ((v ≡ Taken → ⊥) × Moved l clock boot n o p [])
+  pub same_numbered : {p : Opening} {v : Verdict} → Same l clock boot out n o p (number v) → (o.left.verdict ≡ v) × ((v ≡ Ok tt → ⊥) × Moved l clock boot n o p [])
   same_numbered (same_number e f m) = (e, (f, m))
 
   -- a call that is taken has an event
-  pub taken_opens : {p : Opening} {b : Brings} → Call clock boot out n p b → Same l clock boot out n o p b → o.left.verdict ≡ Taken → (t : Turn) × (p ≡ opens t)
+  pub taken_opens : {p : Opening} {b : Brings} → Call clock boot out n p b → Same l clock boot out n o p b → o.left.verdict ≡ Ok tt → (t : Turn) × (p ≡ opens t)
   taken_opens call-refused c e =
       let z = same_numbered c in absurd (z.1.0 (sym z.0 ∙ e))
   taken_opens (short {t = t} x f) c e = (t, refl)
   taken_opens (taken {t = t} x f) c e = (t, refl)
 
   -- and so has one that is refused by 10
-  pub short_opens : {p : Opening} {b : Brings} → Call clock boot out n p b → Same l clock boot out n o p b → (p ≡ refuses ShortBuffer → ⊥) → o.left.verdict ≡ ShortBuffer → (t : Turn) × (p ≡ opens t)
+  pub short_opens : {p : Opening} {b : Brings} → Call clock boot out n p b → Same l clock boot out n o p b → (p ≡ refuses (Err ShortBuffer) → ⊥) → o.left.verdict ≡ Err ShortBuffer → (t : Turn) × (p ≡ opens t)
   short_opens call-refused c g e =
       let z = same_numbered c in absurd (g (ap refuses (sym z.0 ∙ e)))
   short_opens (short {t = t} x f) c g e = (t, refl)
@@ -214,7 +214,7 @@ module _ (l : ℕ) (good : good_limit l ≡ true) (h : Held) (s : Start) where
   unfolding run
   refused_agrees cs u a g nc c (inl f) =
       let z = same_numbered (subst (Same l (answer_clock a) s.boot (answer_out a) u.count (after_answer (run l h s cs) a) (answer_opening u a)) (one_walk f.call c) f.same) in
-      let n : (after_answer (run l h s cs) a).left.verdict ≡ Taken → ⊥ = λ e. z.1.0 (sym z.0 ∙ e) in
+      let n : (after_answer (run l h s cs) a).left.verdict ≡ Ok tt → ⊥ = λ e. z.1.0 (sym z.0 ∙ e) in
       record { shows = seen_kept (run l h s cs) a n ∙ g.shows; fine = fine_kept l s.boot (run l h s cs) a n g.fine }
   refused_agrees cs u a g nc c (inr k) = absurd (nc k.calls)
 

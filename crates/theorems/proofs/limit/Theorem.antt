@@ -1,5 +1,4 @@
 -- Demand 3, proved: `limit-only-cuts`.
-use Rattle.std.specs.Prelude.{Option, None, Some}
 use mathlib.Core.Path.{◌≡◌, refl, sym, ap, ◌∙◌, subst}
 use mathlib.Core.Bool.{true, false, ◌&&◌}
 use mathlib.Core.List.{List, [], ◌∷◌, ◌++◌, map, append_assoc, map-append}
@@ -8,6 +7,7 @@ use Prim.Native.Nat.{ℕ, suc, ◌+◌, ◌-◌, ◌≤◌, ◌<◌}
 use native.Mathlib.Omega.{arith}
 use lib.ListN.{length, length-append}
 use borrow.Author.Tests.{le-leb, lt-leb, leb-false}
+use Rattle.std.specs.Prelude.{Ok, Err, Option, None, Some}
 use Rattle.laws.proofs.Choices.{and_both, choose_yes, choose_no}
 use Rattle.laws.proofs.Orders.{lt_or_le, told}
 use Rattle.laws.proofs.Tests.{not_both}
@@ -28,8 +28,8 @@ use Rattle.walk_steps.specs.question_request.Questions.{request_name, name_fits,
 use Rattle.walk_form.specs.held.Walks.{good_limit, boot_in}
 use Rattle.walk_calls.specs.call_end.Closing.{refused}
 use Rattle.walk_calls.specs.calls.Calls.{Answered, refusal_number}
-use Rattle.walk_calls.specs.declared.call_end.Verdict.{Verdict}
-use Rattle.walk_calls.specs.declared.call_end.Verdict.TheVariants.{Taken, BadPath, LongPath, BadSettings, NotInOrder, OutOfForm, ShortBuffer}
+use Rattle.walk_calls.specs.call_end.Closing.{Verdict}
+use Rattle.walk_calls.specs.declared.call_end.Refusal.TheVariants.{BadPath, LongPath, BadSettings, NotInOrder, OutOfForm, ShortBuffer}
 use Rattle.theorems.specs.limit.Unlimited.{Move, question, path_after, Opening, opens, refuses, Unlimited, Made, made_in, rests_at, last_move, calls_one, Halts, at_end, is_put, try_long, path_long, Rests, CallsForMore, Brings, number, comes, Call, refused as call-refused, short, taken, CallsFor, Within, refused as within-refused, rests as within-rests, replacement, Makes, here, goes_on}
 use Rattle.theorems.specs.limit.Calls.{shown_move, Held, Start, Answer, referral, io, Calls, start, then, run, after_answer, InList, the_start, an_answer, answer_clock, answer_out, clock_of, out_of, observed, start_opening, answer_opening, opening, count_before, path_before, Follows, Comes, to_start, to_answer, CutBy, in_it, before_it, CutBefore, Moved, no_move, to_rest, to_limit, Same, same_number, same_rest}
 use Rattle.theorems.specs.limit.Limits.{MovesOf, SameIn, EndsIn, WaitsAfter, TooShort, LimitOnlyCuts}
@@ -76,17 +76,17 @@ one_list {n = n} (to_limit x c v e) (to_rest y w f) = absurd (rest_or_cut n y x 
 one_list (to_limit {t = t} x c v e) (to_limit y d w f) = ap (made_in t.caches) (as_many x.made y.made (omega arith)).moves
 
 -- whether a call is taken
-taken_or_not : (v : Verdict) → (v ≡ Taken) ⊎ (v ≡ Taken → ⊥)
+taken_or_not : (v : Verdict) → (v ≡ Ok tt) ⊎ (v ≡ Ok tt → ⊥)
 taken_or_not v = go v refl
   where
-    go : (w : Verdict) → v ≡ w → (v ≡ Taken) ⊎ (v ≡ Taken → ⊥)
-    go Taken e = inl e
-    go BadPath e = inr (λ (f : v ≡ Taken). let z : ◌≡◌ {A = ℕ} 0 1 = cc in omega arith)
-    go LongPath e = inr (λ (f : v ≡ Taken). let z : ◌≡◌ {A = ℕ} 0 1 = cc in omega arith)
-    go BadSettings e = inr (λ (f : v ≡ Taken). let z : ◌≡◌ {A = ℕ} 0 1 = cc in omega arith)
-    go NotInOrder e = inr (λ (f : v ≡ Taken). let z : ◌≡◌ {A = ℕ} 0 1 = cc in omega arith)
-    go OutOfForm e = inr (λ (f : v ≡ Taken). let z : ◌≡◌ {A = ℕ} 0 1 = cc in omega arith)
-    go ShortBuffer e = inr (λ (f : v ≡ Taken). let z : ◌≡◌ {A = ℕ} 0 1 = cc in omega arith)
+    go : (w : Verdict) → v ≡ w → (v ≡ Ok tt) ⊎ (v ≡ Ok tt → ⊥)
+    go (Ok tt) e = inl e
+    go (Err BadPath) e = inr (λ (f : v ≡ Ok tt). let z : ◌≡◌ {A = ℕ} 0 1 = cc in omega arith)
+    go (Err LongPath) e = inr (λ (f : v ≡ Ok tt). let z : ◌≡◌ {A = ℕ} 0 1 = cc in omega arith)
+    go (Err BadSettings) e = inr (λ (f : v ≡ Ok tt). let z : ◌≡◌ {A = ℕ} 0 1 = cc in omega arith)
+    go (Err NotInOrder) e = inr (λ (f : v ≡ Ok tt). let z : ◌≡◌ {A = ℕ} 0 1 = cc in omega arith)
+    go (Err OutOfForm) e = inr (λ (f : v ≡ Ok tt). let z : ◌≡◌ {A = ℕ} 0 1 = cc in omega arith)
+    go (Err ShortBuffer) e = inr (λ (f : v ≡ Ok tt). let z : ◌≡◌ {A = ℕ} 0 1 = cc in omega arith)
 
 -- a request that does not fit
 record LongName (w : Core) (r : Rest) (room : ℕ) : Type 0 where
@@ -116,8 +116,8 @@ record Ten (clock : ℕ) (boot out : List ℕ) (p : Opening) : Type 0 where
   way : Rests turn clock boot moves core rest
   long : LongName core rest (length out)
 
-ten_call : {l clock : ℕ} {boot out : List ℕ} {n : ℕ} {o : Answered} {p : Opening} {b : Brings} → Call clock boot out n p b → Same l clock boot out n o p b → (p ≡ refuses ShortBuffer → ⊥)
-    → o.left.verdict ≡ ShortBuffer → Ten clock boot out p
+ten_call : {l clock : ℕ} {boot out : List ℕ} {n : ℕ} {o : Answered} {p : Opening} {b : Brings} → Call clock boot out n p b → Same l clock boot out n o p b → (p ≡ refuses (Err ShortBuffer) → ⊥)
+    → o.left.verdict ≡ Err ShortBuffer → Ten clock boot out p
 ten_call call-refused c g e =
     let z = same_numbered c in absurd (g (ap refuses (sym z.0 ∙ e)))
 ten_call {out = out} (short {t = t} {ms = ms} {w = w} {r = r} x f) c g e =
@@ -126,7 +126,7 @@ ten_call (taken x f) c g e = absurd (short_not e (same_comes c).0)
 
 -- no call that comes to rest shows end 24
 never_24 : {l clock : ℕ} {boot out : List ℕ} {n : ℕ} {o : Answered} {p : Opening} {b : Brings} {status : ℕ} {tried : List ℕ} → Call clock boot out n p b → Same l clock boot out n o p b
-    → ((t : Turn) → p ≡ opens t → NoLimit t.called) → o.left.verdict ≡ Taken → (observed o).rest ≡ ended LimitReached status tried → ⊥
+    → ((t : Turn) → p ≡ opens t → NoLimit t.called) → o.left.verdict ≡ Ok tt → (observed o).rest ≡ ended LimitReached status tried → ⊥
 unfolding rests_at
 never_24 call-refused c g v e =
     let z = same_numbered c in z.1.0 (sym z.0 ∙ v)
@@ -160,7 +160,7 @@ few_calls (asks q) i j h = omega arith
 few_calls (replaces p) i j h = omega arith
 
 longer_call : {m clock : ℕ} {boot out : List ℕ} {n k : ℕ} {o : Answered} {p : Opening} {b : Brings} → Call clock boot out n p b → Same m clock boot out n o p b → (x : CallsFor p clock n k)
-    → (o.left.verdict ≡ ShortBuffer) ⊎ ((ns : List Made) × (Begins (made_in x.turn.caches x.moves) ns × Moved m clock boot n o p ns))
+    → (o.left.verdict ≡ Err ShortBuffer) ⊎ ((ns : List Made) × (Begins (made_in x.turn.caches x.moves) ns × Moved m clock boot n o p ns))
 longer_call call-refused c x = absurd (not_refused x.turn (sym x.opening))
 longer_call (short y f) c x = inl (same_numbered c).0
 longer_call {boot = boot} (taken {t = t} {ms = ms} {w = w} {r = r} y f) c x =
@@ -204,7 +204,7 @@ no_halt_at {p = p} (path_long {p = o} g) e f =
     let z : o ≡ p = cc in omega (arith, ap length z)
 
 -- the sentences that the definitions say
-started_list : {l : ℕ} {h : Held} {s : Start} (cs : Calls) (a : Answer) → InList l h s (then cs a) → (run l h s start).left.verdict ≡ Taken
+started_list : {l : ℕ} {h : Held} {s : Start} (cs : Calls) (a : Answer) → InList l h s (then cs a) → (run l h s start).left.verdict ≡ Ok tt
 started_list cs a (an_answer e) = e
 
 gets : (l : ℕ) (h : Held) (s : Start) (cs : Calls) (a : Answer) → run l h s (then cs a) ≡ after_answer (run l h s cs) a
@@ -285,12 +285,12 @@ module _ (l : ℕ) (good : good_limit l ≡ true) (h : Held) (s : Start) where
       go (inr k) = absurd (nc k.calls)
 
   cut : {cs : Calls} {p : Opening} {n : ℕ} → Meets h s l cs p n → (k : CallsFor p (clock_of s cs) n (suc l))
-      → ((run l h s cs).left.verdict ≡ Taken) × ((observed (run l h s cs) ≡ rests_at k.turn.caches k.core (ended LimitReached 0 []) l)
+      → ((run l h s cs).left.verdict ≡ Ok tt) × ((observed (run l h s cs) ≡ rests_at k.turn.caches k.core (ended LimitReached 0 []) l)
       × MovesOf l h s cs (made_in k.turn.caches k.moves))
   cut {cs} {p} {n} c k = go (comes_either l good h s c)
     where
       go : Either l (clock_of s cs) s.boot (out_of s cs) n (run l h s cs) p
-          → ((run l h s cs).left.verdict ≡ Taken) × ((observed (run l h s cs) ≡ rests_at k.turn.caches k.core (ended LimitReached 0 []) l)
+          → ((run l h s cs).left.verdict ≡ Ok tt) × ((observed (run l h s cs) ≡ rests_at k.turn.caches k.core (ended LimitReached 0 []) l)
           × MovesOf l h s cs (made_in k.turn.caches k.moves))
       go (inl f) = absurd (never_both f.within k)
       go (inr f) =
@@ -308,14 +308,14 @@ module _ (l : ℕ) (good : good_limit l ≡ true) (h : Held) (s : Start) where
     fine : Fine l s.boot (run l h s cs)
     over : (observed (run l h s cs)).rest ≡ ended LimitReached 0 []
 
-  dead_call : (cs : Calls) (a : Answer) → Dead cs → ((run l h s (then cs a)).left.verdict ≡ Taken → ⊥) × ((run l h s (then cs a)).left.verdict ≡ ShortBuffer → ⊥)
+  dead_call : (cs : Calls) (a : Answer) → Dead cs → ((run l h s (then cs a)).left.verdict ≡ Ok tt → ⊥) × ((run l h s (then cs a)).left.verdict ≡ Err ShortBuffer → ⊥)
   unfolding run
   dead_call cs a d = go (later l good h s cs (observed (run l h s cs)) a (record { shows = refl; fine = d.fine }))
     where
       shut : (t : Turn) → answer_opening (observed (run l h s cs)) a ≡ opens t → ⊥
       shut t e = no_opening (observed (run l h s cs)) a (event_ended (observed (run l h s cs)) a d.over) t e
 
-      go : Later l good h s cs (observed (run l h s cs)) a → ((after_answer (run l h s cs) a).left.verdict ≡ Taken → ⊥) × ((after_answer (run l h s cs) a).left.verdict ≡ ShortBuffer → ⊥)
+      go : Later l good h s cs (observed (run l h s cs)) a → ((after_answer (run l h s cs) a).left.verdict ≡ Ok tt → ⊥) × ((after_answer (run l h s cs) a).left.verdict ≡ Err ShortBuffer → ⊥)
       go (inl f) = (
         λ e. let z = taken_opens f.call f.same e in shut z.0 z.1,
         λ e. let z = short_opens f.call f.same f.early e in shut z.0 z.1,
@@ -337,7 +337,7 @@ module _ (l : ℕ) (good : good_limit l ≡ true) (h : Held) (s : Start) where
   dead_cut cs u a k = record { fine = k.fine; over = ap (λ (v : Unlimited). v.rest) k.sees }
 
   begun : (b : Brings) → Call s.clock s.boot s.out 0 (start_opening h s) b → Same l s.clock s.boot s.out 0 (run l h s start) (start_opening h s) b
-      → (CallsFor (start_opening h s) s.clock 0 (suc l) → ⊥) → (run l h s start).left.verdict ≡ Taken → (u : Unlimited) × Tracks h s l start u
+      → (CallsFor (start_opening h s) s.clock 0 (suc l) → ⊥) → (run l h s start).left.verdict ≡ Ok tt → (u : Unlimited) × Tracks h s l start u
   begun (number v) c m nc e =
       let z = same_numbered m in absurd (z.1.0 (sym z.0 ∙ e))
   begun (comes ms u) c m nc e = (u, tracks_start nc c)
@@ -350,7 +350,7 @@ module _ (l : ℕ) (good : good_limit l ≡ true) (h : Held) (s : Start) where
   abbrev Alive : Calls → Type 0
   Alive cs = ((u : Unlimited) × Tracks h s l cs u) ⊎ Dead cs
 
-  alive_start : (run l h s start).left.verdict ≡ Taken → Either l s.clock s.boot s.out 0 (run l h s start) (start_opening h s) → Alive start
+  alive_start : (run l h s start).left.verdict ≡ Ok tt → Either l s.clock s.boot s.out 0 (run l h s start) (start_opening h s) → Alive start
   alive_start e (inl f) = inl (begun f.brings f.call f.same (never_both f.within) e)
   alive_start e (inr k) = inr (dead_start k)
 
@@ -362,12 +362,12 @@ module _ (l : ℕ) (good : good_limit l ≡ true) (h : Held) (s : Start) where
   alive_then cs a (inl f) = alive_next cs f.0 a f.1 (later l good h s cs f.0 a (agrees l good h s f.1))
   alive_then cs a (inr d) = inr (dead_then cs a d)
 
-  alive : (run l h s start).left.verdict ≡ Taken → (cs : Calls) → Alive cs
+  alive : (run l h s start).left.verdict ≡ Ok tt → (cs : Calls) → Alive cs
   alive e start = alive_start e (at_start l good h s)
   alive e (then cs a) = alive_then cs a (alive e cs)
 
   -- the walk holds its limit and its bootstrap DC
-  fine_after : (cs : Calls) → (run l h s start).left.verdict ≡ Taken → Fine l s.boot (run l h s cs)
+  fine_after : (cs : Calls) → (run l h s start).left.verdict ≡ Ok tt → Fine l s.boot (run l h s cs)
   fine_after cs e = go (alive e cs)
     where
       go : Alive cs → Fine l s.boot (run l h s cs)
@@ -397,7 +397,7 @@ module _ (l : ℕ) (good : good_limit l ≡ true) (h : Held) (s : Start) where
   turn_core (then cs a) t e =
       let k = event_same (observed (run l h s cs)) a t (answer_goes_on (observed (run l h s cs)) a t e) in (k.path, k.size)
 
-  stands : (cs : Calls) → (run l h s cs).left.verdict ≡ Taken → Stands (run l h s cs).refs (run l h s cs).doms (run l h s cs).left.walk (run l h s cs).left.texts
+  stands : (cs : Calls) → (run l h s cs).left.verdict ≡ Ok tt → Stands (run l h s cs).refs (run l h s cs).doms (run l h s cs).left.walk (run l h s cs).left.texts
   unfolding run StartStands AnswerStands refusal_number
   stands start v = start_stands h.refs h.doms h.texts h.walk s.path s.boot l s.size s.clock s.out (ap refusal_number v)
   stands (then cs a) v = answered_stands (run l h s cs) a (ap refusal_number v)
@@ -406,7 +406,7 @@ module _ (l : ℕ) (good : good_limit l ≡ true) (h : Held) (s : Start) where
   abbrev Somewhere : Calls → Type 0
   Somewhere cs = ((u : Unlimited) × Tracks h s l cs u) ⊎ CutBy l h s cs
 
-  first_somewhere : (run l h s start).left.verdict ≡ Taken → Either l s.clock s.boot s.out 0 (run l h s start) (start_opening h s) → Somewhere start
+  first_somewhere : (run l h s start).left.verdict ≡ Ok tt → Either l s.clock s.boot s.out 0 (run l h s start) (start_opening h s) → Somewhere start
   unfolding clock_of
   first_somewhere e (inl f) = inl (begun f.brings f.call f.same (never_both f.within) e)
   first_somewhere e (inr k) = inr (in_it to_start k.calls)
@@ -420,11 +420,11 @@ module _ (l : ℕ) (good : good_limit l ≡ true) (h : Held) (s : Start) where
   then_somewhere cs a (inl f) = next_somewhere cs f.0 a f.1 (later l good h s cs f.0 a (agrees l good h s f.1))
   then_somewhere cs a (inr k) = inr (before_it k)
 
-  somewhere : (run l h s start).left.verdict ≡ Taken → (cs : Calls) → Somewhere cs
+  somewhere : (run l h s start).left.verdict ≡ Ok tt → (cs : Calls) → Somewhere cs
   somewhere e start = first_somewhere e (at_start l good h s)
   somewhere e (then cs a) = then_somewhere cs a (somewhere e cs)
 
-  every_call : (run l h s start).left.verdict ≡ Taken → (cs : Calls) → ((u : Unlimited) × (Follows h s cs u × (CutBy l h s cs → ⊥))) ⊎ CutBy l h s cs
+  every_call : (run l h s start).left.verdict ≡ Ok tt → (cs : Calls) → ((u : Unlimited) × (Follows h s cs u × (CutBy l h s cs → ⊥))) ⊎ CutBy l h s cs
   every_call e cs = go (somewhere e cs)
     where
       go : Somewhere cs → ((u : Unlimited) × (Follows h s cs u × (CutBy l h s cs → ⊥))) ⊎ CutBy l h s cs
@@ -433,7 +433,7 @@ module _ (l : ℕ) (good : good_limit l ≡ true) (h : Held) (s : Start) where
 
   -- the unlimited walk comes to the last call of a list, or the walk was cut before it
   abbrev ComesTo : Calls → Type 0
-  ComesTo cs = ((p : Opening) × ((n : ℕ) × Meets h s l cs p n)) ⊎ (((run l h s cs).left.verdict ≡ Taken → ⊥) × ((run l h s cs).left.verdict ≡ ShortBuffer → ⊥))
+  ComesTo cs = ((p : Opening) × ((n : ℕ) × Meets h s l cs p n)) ⊎ (((run l h s cs).left.verdict ≡ Ok tt → ⊥) × ((run l h s cs).left.verdict ≡ Err ShortBuffer → ⊥))
 
   comes_then : (cs : Calls) (a : Answer) → Alive cs → ComesTo (then cs a)
   comes_then cs a (inl f) = inl (answer_opening f.0 a, (f.0.count, meets_answer f.1))
@@ -443,7 +443,7 @@ module _ (l : ℕ) (good : good_limit l ≡ true) (h : Held) (s : Start) where
   comes_to cs the_start = inl (start_opening h s, (0, meets_start))
   comes_to cs (an_answer {cs = ds} {a = a} e) = comes_then ds a (alive e ds)
 
-  ten_then : (cs : Calls) → InList l h s cs → (run l h s cs).left.verdict ≡ ShortBuffer → TooShort l h s cs
+  ten_then : (cs : Calls) → InList l h s cs → (run l h s cs).left.verdict ≡ Err ShortBuffer → TooShort l h s cs
   ten_then cs i e = go (comes_to cs i)
     where
       tell : {p : Opening} {n : ℕ} → Meets h s l cs p n → Either l (clock_of s cs) s.boot (out_of s cs) n (run l h s cs) p → TooShort l h s cs
@@ -470,14 +470,14 @@ module _ (l : ℕ) (good : good_limit l ≡ true) (h : Held) (s : Start) where
       go (inl c) = tell c.1.1 (comes_either l good h s c.1.1)
       go (inr d) = absurd (d.1 e)
 
-  ten_only : (cs : Calls) → TooShort l h s cs → (run l h s cs).left.verdict ≡ ShortBuffer
+  ten_only : (cs : Calls) → TooShort l h s cs → (run l h s cs).left.verdict ≡ Err ShortBuffer
   unfolding name_fits
   ten_only cs x =
       let u = until (meets x.comes_to (λ k. x.uncut (earlier_cut k))) (λ k. x.uncut (in_it x.comes_to k)) in
       let f : name_fits (length (out_of s cs)) (request_name x.core (waits x.question)) ≡ false =
       ap (name_fits (length (out_of s cs))) x.named ∙ lt-leb (length (request x.name)) (length (out_of s cs)) x.long in
-      let c : Call (clock_of s cs) s.boot (out_of s cs) x.count x.opening (number ShortBuffer) =
-      subst (λ (p : Opening). Call (clock_of s cs) s.boot (out_of s cs) x.count p (number ShortBuffer)) (sym x.opened) (short x.rests f) in
+      let c : Call (clock_of s cs) s.boot (out_of s cs) x.count x.opening (number (Err ShortBuffer)) =
+      subst (λ (p : Opening). Call (clock_of s cs) s.boot (out_of s cs) x.count p (number (Err ShortBuffer))) (sym x.opened) (short x.rests f) in
       (same_numbered (subst (SameIn l h s cs) (one_walk u.1.0 c) u.1.1)).0
 
   moves_of : (cs : Calls) → InList l h s cs → (ms : List Made) × MovesOf l h s cs ms
@@ -497,11 +497,11 @@ module _ (l : ℕ) (good : good_limit l ≡ true) (h : Held) (s : Start) where
       go (inl c) = tell c.1.1 (comes_either l good h s c.1.1)
       go (inr d) = ([], no_move d.0)
 
-  taken_boot : (cs : Calls) → InList l h s cs → (run l h s cs).left.verdict ≡ Taken → boot_in (run l h s cs).left.walk (run l h s cs).left.texts ≡ s.boot
+  taken_boot : (cs : Calls) → InList l h s cs → (run l h s cs).left.verdict ≡ Ok tt → boot_in (run l h s cs).left.walk (run l h s cs).left.texts ≡ s.boot
   taken_boot start i v = (fine_after start v).boot_is
   taken_boot (then cs a) (an_answer b) v = (fine_after (then cs a) b).boot_is
 
-  caches_after : (cs : Calls) {ms : List Made} → InList l h s cs → (run l h s cs).left.verdict ≡ Taken → MovesOf l h s cs ms
+  caches_after : (cs : Calls) {ms : List Made} → InList l h s cs → (run l h s cs).left.verdict ≡ Ok tt → MovesOf l h s cs ms
       → (moves : List Move) × (ms ≡ map (λ m. record { move = m; caches = caches_of (run l h s cs).refs (run l h s cs).doms }) moves)
   unfolding made_in
   caches_after cs i v m =
@@ -509,7 +509,7 @@ module _ (l : ℕ) (good : good_limit l ≡ true) (h : Held) (s : Start) where
       let moves = z.replacements ++ last_move z.turn.caches s.boot (observed (run l h s cs)).core (observed (run l h s cs)).rest in
       (moves, z.list ∙ ap (λ (c : Caches). made_in c moves) (turn_caches cs z.turn i z.opened z.refs_are z.doms_are))
 
-  last_shown : (cs : Calls) {ms : List Made} {q : Question} → InList l h s cs → (run l h s cs).left.verdict ≡ Taken → (observed (run l h s cs)).rest ≡ waits q → MovesOf l h s cs ms
+  last_shown : (cs : Calls) {ms : List Made} {q : Question} → InList l h s cs → (run l h s cs).left.verdict ≡ Ok tt → (observed (run l h s cs)).rest ≡ waits q → MovesOf l h s cs ms
       → (first : List Made) × (ms ≡ first ++ (record { move = shown_move (run l h s cs) q; caches = caches_of (run l h s cs).refs (run l h s cs).doms } ∷ []))
   unfolding shown_move observed last_move question_shown party_text made_in
   last_shown cs {ms} {q} i v e m =
@@ -528,40 +528,40 @@ module _ (l : ℕ) (good : good_limit l ≡ true) (h : Held) (s : Start) where
             ∙ (λ j. made_in z.turn.caches z.replacements ++ (record { move = question q.kind q.party (party j) (name_asked w q) q.size; caches = c j } ∷ [])))),
       )
 
-  path_left : (cs : Calls) {ms : List Made} → InList l h s cs → (run l h s cs).left.verdict ≡ Taken → MovesOf l h s cs ms
+  path_left : (cs : Calls) {ms : List Made} → InList l h s cs → (run l h s cs).left.verdict ≡ Ok tt → MovesOf l h s cs ms
       → (observed (run l h s cs)).core.path ≡ path_after (path_before l h s cs) ms
   path_left cs {ms} i v m =
       let z = way m v in
       path_moved_lem z ∙ ap (λ (p : List ℕ). path_after p ms) (turn_core cs z.turn z.opened).0
 
   -- the size stays what the start was given
-  size_left : (cs : Calls) → InList l h s cs → (run l h s cs).left.verdict ≡ Taken → (observed (run l h s cs)).core.size ≡ size_before cs
+  size_left : (cs : Calls) → InList l h s cs → (run l h s cs).left.verdict ≡ Ok tt → (observed (run l h s cs)).core.size ≡ size_before cs
   size_left cs i v =
       let z = way (moves_of cs i).1 v in
       size_moved z ∙ (turn_core cs z.turn z.opened).1
 
-  size_kept : (cs : Calls) → (run l h s start).left.verdict ≡ Taken → (observed (run l h s cs)).core.size ≡ s.size
+  size_kept : (cs : Calls) → (run l h s start).left.verdict ≡ Ok tt → (observed (run l h s cs)).core.size ≡ s.size
   unfolding size_before run
   size_kept start e = size_left start the_start e
   size_kept (then cs a) e = go (taken_or_not (run l h s (then cs a)).left.verdict) (size_kept cs e)
     where
-      go : ((run l h s (then cs a)).left.verdict ≡ Taken) ⊎ ((run l h s (then cs a)).left.verdict ≡ Taken → ⊥) → (observed (run l h s cs)).core.size ≡ s.size
+      go : ((run l h s (then cs a)).left.verdict ≡ Ok tt) ⊎ ((run l h s (then cs a)).left.verdict ≡ Ok tt → ⊥) → (observed (run l h s cs)).core.size ≡ s.size
           → (observed (run l h s (then cs a))).core.size ≡ s.size
       go (inl v) f = size_left (then cs a) (an_answer e) v ∙ f
       go (inr n) f = ap (λ (u : Unlimited). u.core.size) (seen_kept (run l h s cs) a n) ∙ f
 
-  settings_kept : (cs : Calls) → (run l h s start).left.verdict ≡ Taken
+  settings_kept : (cs : Calls) → (run l h s start).left.verdict ≡ Ok tt
       → ((run l h s cs).left.walk.limit ≡ l) × (((run l h s cs).left.walk.size ≡ s.size) × (boot_in (run l h s cs).left.walk (run l h s cs).left.texts ≡ s.boot))
   unfolding observed core_in
   settings_kept cs e = let f = fine_after cs e in (f.limit, (size_kept cs e, f.boot_is))
 
-  start_kept : ((run l h s start).left.verdict ≡ Taken → ⊥)
+  start_kept : ((run l h s start).left.verdict ≡ Ok tt → ⊥)
       → ((run l h s start).left.walk ≡ h.walk) × (((run l h s start).left.texts ≡ h.texts) × ((run l h s start).left.out ≡ s.out))
   start_kept n =
       let e = start_identity l h s n in
       (ap (λ (o : Answered). o.left.walk) e, (ap (λ (o : Answered). o.left.texts) e, ap (λ (o : Answered). o.left.out) e))
 
-  answer_kept : (cs : Calls) (a : Answer) → ((run l h s (then cs a)).left.verdict ≡ Taken → ⊥)
+  answer_kept : (cs : Calls) (a : Answer) → ((run l h s (then cs a)).left.verdict ≡ Ok tt → ⊥)
       → ((run l h s (then cs a)).left.walk ≡ (run l h s cs).left.walk) × (((run l h s (then cs a)).left.texts ≡ (run l h s cs).left.texts)
       × (((run l h s (then cs a)).refs ≡ (run l h s cs).refs) × (((run l h s (then cs a)).doms ≡ (run l h s cs).doms)
       × ((run l h s (then cs a)).left.out ≡ out_of s (then cs a)))))
@@ -598,7 +598,7 @@ module _ (l : ℕ) (good : good_limit l ≡ true) (h : Held) (s : Start) where
       let c = reached cs i e in (c.0, (c.1.0, (meets_comes c.1.1.0, (meets_uncut c.1.1.0, c.1.1.1))))
 
   -- the buffer stays where a call is refused, and where the walk ends in it
-  out_refused : (cs : Calls) → ((run l h s cs).left.verdict ≡ Taken → ⊥) → (run l h s cs).left.out ≡ out_of s cs
+  out_refused : (cs : Calls) → ((run l h s cs).left.verdict ≡ Ok tt → ⊥) → (run l h s cs).left.out ≡ out_of s cs
   unfolding out_of
   out_refused start n = (start_kept n).1.1
   out_refused (then cs a) n = (answer_kept cs a n).1.1.1.1
@@ -618,7 +618,7 @@ module _ (l : ℕ) (good : good_limit l ≡ true) (h : Held) (s : Start) where
       go (inl c) = tell (comes_either l good h s c.1.1)
       go (inr d) = absurd (d.0 x.0)
 
-  buffer_stays : (cs : Calls) → InList l h s cs → ((run l h s cs).left.verdict ≡ Taken → ⊥) ⊎ ((e : End) × EndsIn l h s cs e) → (run l h s cs).left.out ≡ out_of s cs
+  buffer_stays : (cs : Calls) → InList l h s cs → ((run l h s cs).left.verdict ≡ Ok tt → ⊥) ⊎ ((e : End) × EndsIn l h s cs e) → (run l h s cs).left.out ≡ out_of s cs
   buffer_stays cs i (inl n) = out_refused cs n
   buffer_stays cs i (inr x) = out_ended cs i x.1
 
@@ -645,8 +645,8 @@ module _ (l m : ℕ) (low : good_limit l ≡ true) (high : good_limit m ≡ true
     moves : List Made
     low_moves : MovesOf l h s cs moves
     high_moves : MovesOf m h s cs moves
-    sees : (run l h s cs).left.verdict ≡ Taken → observed (run m h s cs) ≡ observed (run l h s cs)
-    writes : (run l h s cs).left.verdict ≡ Taken → (run m h s cs).left.out ≡ (run l h s cs).left.out
+    sees : (run l h s cs).left.verdict ≡ Ok tt → observed (run m h s cs) ≡ observed (run l h s cs)
+    writes : (run l h s cs).left.verdict ≡ Ok tt → (run m h s cs).left.out ≡ (run l h s cs).left.out
 
   both : (cs : Calls) {b : Brings} → SameIn l h s cs b → SameIn m h s cs b → Alike cs
   both cs (same_number a f x) (same_number b g y) =
@@ -660,12 +660,12 @@ module _ (l m : ℕ) (low : good_limit l ≡ true) (high : good_limit m ≡ true
       let y = until m high h s (comes_further c) (λ k. nc (earlier (comes_few l low h s c) le k)) in
       both cs x.1.1 (subst (SameIn m h s cs) (one_walk y.1.0 x.1.0) y.1.1)
 
-  start_alike : Alike start → ((run l h s start).left.verdict ≡ Taken → ⊥) → run m h s start ≡ run l h s start
+  start_alike : Alike start → ((run l h s start).left.verdict ≡ Ok tt → ⊥) → run m h s start ≡ run l h s start
   start_alike a n =
       start_identity m h s (λ e. n (sym a.verdict ∙ e))
       ∙ ((λ j. record { left = refused (a.verdict j) h.walk h.texts s.out; refs = h.refs; doms = h.doms }) ∙ sym (start_identity l h s n))
 
-  start_refused : ((run l h s start).left.verdict ≡ Taken → ⊥) → run m h s start ≡ run l h s start
+  start_refused : ((run l h s start).left.verdict ≡ Ok tt → ⊥) → run m h s start ≡ run l h s start
   unfolding clock_of
   start_refused n = go (at_start l low h s)
     where
@@ -674,7 +674,7 @@ module _ (l m : ℕ) (low : good_limit l ≡ true) (high : good_limit m ≡ true
       go (inr k) = absurd (n k.is_taken)
 
   -- what is in the buffer where a call is refused
-  kept_out : (run l h s start).left.verdict ≡ Taken → (cs : Calls) → Alike cs → ((run l h s cs).left.verdict ≡ Taken → ⊥) → (run m h s cs).left.out ≡ (run l h s cs).left.out
+  kept_out : (run l h s start).left.verdict ≡ Ok tt → (cs : Calls) → Alike cs → ((run l h s cs).left.verdict ≡ Ok tt → ⊥) → (run m h s cs).left.out ≡ (run l h s cs).left.out
   kept_out e start a n = absurd (n e)
   kept_out e (then cs b) a n =
       (answer_kept m high h s cs b (λ f. n (sym a.verdict ∙ f))).1.1.1.1 ∙ sym (answer_kept l low h s cs b n).1.1.1.1
@@ -684,10 +684,10 @@ module _ (l m : ℕ) (low : good_limit l ≡ true) (high : good_limit m ≡ true
       ((run m h s cs).left.verdict ≡ (run l h s cs).left.verdict) × ((observed (run m h s cs) ≡ observed (run l h s cs))
       × (((run m h s cs).left.out ≡ (run l h s cs).left.out) × ((ms : List Made) × (MovesOf l h s cs ms × MovesOf m h s cs ms))))
 
-  together : (run l h s start).left.verdict ≡ Taken → (cs : Calls) → WaitsAfter l h s cs → Together cs
+  together : (run l h s start).left.verdict ≡ Ok tt → (cs : Calls) → WaitsAfter l h s cs → Together cs
   together e cs w = go (alive l low h s e cs)
     where
-      out : Alike cs → ((run l h s cs).left.verdict ≡ Taken) ⊎ ((run l h s cs).left.verdict ≡ Taken → ⊥) → (run m h s cs).left.out ≡ (run l h s cs).left.out
+      out : Alike cs → ((run l h s cs).left.verdict ≡ Ok tt) ⊎ ((run l h s cs).left.verdict ≡ Ok tt → ⊥) → (run m h s cs).left.out ≡ (run l h s cs).left.out
       out a (inl t) = a.writes t
       out a (inr n) = kept_out e cs a n
 
@@ -704,30 +704,30 @@ module _ (l m : ℕ) (low : good_limit l ≡ true) (high : good_limit m ≡ true
       go (inr d) = absurd (let z : ◌≡◌ {A = ℕ} 0 1 = cc (d.over, w.1) in omega arith)
 
   ends_alike : (cs : Calls) {e : End} → InList l h s cs → (e ≡ LimitReached → ⊥) → EndsIn l h s cs e
-      → ((run m h s cs).left.verdict ≡ Taken) × ((observed (run m h s cs) ≡ observed (run l h s cs))
+      → ((run m h s cs).left.verdict ≡ Ok tt) × ((observed (run m h s cs) ≡ observed (run l h s cs))
       × ((ms : List Made) × (MovesOf l h s cs ms × MovesOf m h s cs ms)))
   ends_alike cs {e} i n x = go (comes_to l low h s cs i)
     where
       told_of : Alike cs
-          → ((run m h s cs).left.verdict ≡ Taken) × ((observed (run m h s cs) ≡ observed (run l h s cs))
+          → ((run m h s cs).left.verdict ≡ Ok tt) × ((observed (run m h s cs) ≡ observed (run l h s cs))
           × ((ms : List Made) × (MovesOf l h s cs ms × MovesOf m h s cs ms)))
       told_of a = (a.verdict ∙ x.0, (a.sees x.0, (a.moves, (a.low_moves, a.high_moves))))
 
       tell : {p : Opening} {k : ℕ} → Meets h s l cs p k → Either l (clock_of s cs) s.boot (out_of s cs) k (run l h s cs) p
-          → ((run m h s cs).left.verdict ≡ Taken) × ((observed (run m h s cs) ≡ observed (run l h s cs))
+          → ((run m h s cs).left.verdict ≡ Ok tt) × ((observed (run m h s cs) ≡ observed (run l h s cs))
           × ((ms : List Made) × (MovesOf l h s cs ms × MovesOf m h s cs ms)))
       tell c (inl f) = told_of (alike cs c (never_both f.within))
       tell c (inr k) = absurd (n (cut_end (observed (run l h s cs)) _ _ _ k.sees x.1.1.1))
 
       go : ComesTo l low h s cs
-          → ((run m h s cs).left.verdict ≡ Taken) × ((observed (run m h s cs) ≡ observed (run l h s cs))
+          → ((run m h s cs).left.verdict ≡ Ok tt) × ((observed (run m h s cs) ≡ observed (run l h s cs))
           × ((ms : List Made) × (MovesOf l h s cs ms × MovesOf m h s cs ms)))
       go (inl c) = tell c.1.1 (comes_either l low h s c.1.1)
       go (inr d) = absurd (d.0 x.0)
 
   abbrev FirstTheSame : Calls → Type 0
   FirstTheSame cs =
-      ((run m h s cs).left.verdict ≡ ShortBuffer) ⊎ ((ms : List Made) × ((more : List Made) × (MovesOf l h s cs ms × MovesOf m h s cs (ms ++ more))))
+      ((run m h s cs).left.verdict ≡ Err ShortBuffer) ⊎ ((ms : List Made) × ((more : List Made) × (MovesOf l h s cs ms × MovesOf m h s cs (ms ++ more))))
 
   first_the_same : (cs : Calls) → InList l h s cs → EndsIn l h s cs LimitReached → FirstTheSame cs
   first_the_same cs i x = go (reached l low h s cs i x)
@@ -737,7 +737,7 @@ module _ (l m : ℕ) (low : good_limit l ≡ true) (high : good_limit m ≡ true
       long c {ms} {ns} a b y = inr (ms, (b.more, (a, subst (MovesOf m h s cs) b.is (to_list m high h s c y))))
 
       begun_with : {p : Opening} {n : ℕ} → Meets h s m cs p n → (k : CallsFor p (clock_of s cs) n (suc l)) → MovesOf l h s cs (made_in k.turn.caches k.moves)
-          → ((run m h s cs).left.verdict ≡ ShortBuffer)
+          → ((run m h s cs).left.verdict ≡ Err ShortBuffer)
           ⊎ ((ns : List Made) × (Begins (made_in k.turn.caches k.moves) ns × Moved m (clock_of s cs) s.boot n (run m h s cs) p ns)) → FirstTheSame cs
       begun_with c k a (inl e) = inl e
       begun_with c k a (inr z) = long c a z.1.0 z.1.1

@@ -2,11 +2,11 @@
 use mathlib.Core.Path.{◌≡◌, refl, sym, ap, ◌∙◌, subst}
 use mathlib.Core.List.{List, [], ◌++◌, append-nil}
 use Prim.Native.Nat.{ℕ}
+use Rattle.std.specs.Prelude.{Ok}
 use Rattle.cache.specs.order.Memory.{referrals, domains, encode}
 use Rattle.walk_steps.specs.steps.Steps.{Core, Called, Turn, ended}
 use Rattle.walk_steps.specs.declared.steps.End.TheVariants.{LimitReached}
 use Rattle.walk_calls.specs.calls.Calls.{Answered}
-use Rattle.walk_calls.specs.declared.call_end.Verdict.TheVariants.{Taken}
 use Rattle.theorems.specs.limit.Unlimited.{Move, Made, made_in, Opening, opens, Unlimited, rests_at, last_move, Makes, path_after}
 use Rattle.theorems.specs.limit.Calls.{observed, Moved, no_move, to_rest, to_limit}
 use Rattle.theorems.proofs.limit.Cores.{made_path, made_size}
@@ -22,7 +22,7 @@ pub record Way (clock : ℕ) (boot : List ℕ) (o : Answered) (p : Opening) (ms 
   pub refs_are : (observed o).refs ≡ encode referrals turn.caches.referrals
   pub doms_are : (observed o).doms ≡ encode domains turn.caches.domains
 
-pub way : {l clock : ℕ} {boot : List ℕ} {n : ℕ} {o : Answered} {p : Opening} {ms : List Made} → Moved l clock boot n o p ms → o.left.verdict ≡ Taken → Way clock boot o p ms
+pub way : {l clock : ℕ} {boot : List ℕ} {n : ℕ} {o : Answered} {p : Opening} {ms : List Made} → Moved l clock boot n o p ms → o.left.verdict ≡ Ok tt → Way clock boot o p ms
 unfolding rests_at last_move
 way (no_move a) v = absurd (a v)
 way {clock = clock} {boot = boot} {o = o} (to_rest {t = t} {w = w} {r = r} x u f) v =

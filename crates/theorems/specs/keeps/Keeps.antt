@@ -1,24 +1,23 @@
 -- What the calls of a host keep.
-use Rattle.std.specs.Prelude.{ℕ, ◌≡◌, Bool, true, ◌&&◌, List}
+use Rattle.std.specs.Prelude.{ℕ, ◌≡◌, Bool, true, ◌&&◌, List, Ok}
 use Rattle.cache.specs.order.Memory.{referrals, domains, in_order}
 use Rattle.walk_steps.specs.steps.Held.{caches_of}
 use Rattle.walk_form.specs.held.Walks.{in_form, core_in}
 use Rattle.walk_form.specs.declared.held.Walk.{Walk}
 use Rattle.walk_calls.specs.call_end.Closing.{Left, refused}
 use Rattle.walk_calls.specs.calls.Calls.{start_call, Answered, refused_answer, rest_in, referral_call, io_call}
-use Rattle.walk_calls.specs.declared.call_end.Verdict.TheVariants.{Taken}
 use Rattle.theorems.specs.keeps.Named.{referral_names, io_names, domain_names, Elsewhere}
 
 -- What a start keeps: the walk that comes back is in form, and a refused call is the identity.
 pub record StartKeeps (walk : Walk) (texts out : List ℕ) (x : Left) : Type 0 where
-  pub keeps_form : x.verdict ≡ Taken → in_form x.walk x.texts ≡ true
-  pub identity : (x.verdict ≡ Taken → ⊥) → x ≡ refused x.verdict walk texts out
+  pub keeps_form : x.verdict ≡ Ok tt → in_form x.walk x.texts ≡ true
+  pub identity : (x.verdict ≡ Ok tt → ⊥) → x ≡ refused x.verdict walk texts out
 
 -- What an answer keeps: the same; caches in order stay in order (others are refused, so that what comes back is in order exactly where what was
 -- given is); and every cache entry that the answer does not name stays as it was.
 pub record AnswerKeeps (names_referral names_domain : ℕ → Bool) (walk : Walk) (texts out refs doms : List ℕ) (x : Answered) : Type 0 where
-  pub keeps_form : x.left.verdict ≡ Taken → in_form x.left.walk x.left.texts ≡ true
-  pub identity : (x.left.verdict ≡ Taken → ⊥) → x ≡ refused_answer x.left.verdict walk texts out refs doms
+  pub keeps_form : x.left.verdict ≡ Ok tt → in_form x.left.walk x.left.texts ≡ true
+  pub identity : (x.left.verdict ≡ Ok tt → ⊥) → x ≡ refused_answer x.left.verdict walk texts out refs doms
   pub order : (in_order referrals x.refs && in_order domains x.doms) ≡ (in_order referrals refs && in_order domains doms)
   pub elsewhere : Elsewhere names_referral names_domain (caches_of refs doms) (caches_of x.refs x.doms)
 

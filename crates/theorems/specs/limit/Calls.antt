@@ -1,6 +1,6 @@
 -- The list of calls: "one start, from any caches, then referral answers and I/O answers"; what each gives a walk with a limit, on the lent memory, and
 -- what it is to the unlimited walk.
-use Rattle.std.specs.Prelude.{ℕ, suc, ◌+◌, ◌≡◌, false, ◌&&◌, List, [], length, eqb, leb, Option, None, Some}
+use Rattle.std.specs.Prelude.{ℕ, suc, ◌+◌, ◌≡◌, false, ◌&&◌, List, [], length, eqb, leb, Ok, Err, Option, None, Some}
 use Rattle.laws.specs.Choice.{choose}
 use Rattle.unc.specs.names.Names.{good_name}
 use Rattle.unc.specs.names.Paths.{good_path, normalised, path_units}
@@ -15,8 +15,8 @@ use Rattle.walk_form.specs.held.Walks.{boot_in}
 use Rattle.walk_shown.specs.question.Shown.{QuestionShown, question_shown}
 use Rattle.walk_form.specs.held.Walks.{core_in}
 use Rattle.walk_calls.specs.calls.Calls.{Answered, start_call, referral_call, io_call, rest_in, referral_event, io_event}
-use Rattle.walk_calls.specs.declared.call_end.Verdict.{Verdict}
-use Rattle.walk_calls.specs.declared.call_end.Verdict.TheVariants.{Taken, BadPath, LongPath, BadSettings, NotInOrder, OutOfForm}
+use Rattle.walk_calls.specs.call_end.Closing.{Verdict}
+use Rattle.walk_calls.specs.declared.call_end.Refusal.TheVariants.{BadPath, LongPath, BadSettings, NotInOrder, OutOfForm}
 use Rattle.theorems.specs.limit.Unlimited.{Opening, refuses, opens, Unlimited, Move, question, Made, Rests, CallsForMore, Brings, Call, number, comes, CallsFor, rests_at, made_in}
 
 -- the lent memory of a walk: the walk, its texts, both caches
@@ -59,7 +59,7 @@ run l h s (then cs a) = after_answer (run l h s cs) a
 -- "a refused start ends the list"
 pub data InList (l : ℕ) (h : Held) (s : Start) : Calls → Type 0 where
   the_start : InList l h s start
-  an_answer : {cs : Calls} {a : Answer} → (run l h s start).left.verdict ≡ Taken → InList l h s (then cs a)
+  an_answer : {cs : Calls} {a : Answer} → (run l h s start).left.verdict ≡ Ok tt → InList l h s (then cs a)
 
 -- the clock and the buffer of the last call
 unfoldable pub answer_clock : Answer → ℕ
@@ -104,11 +104,11 @@ start_opening h s =
     (choose (good_size s.size && good_name s.boot)
     (choose (eqb (length h.texts) 768)
     (opens (started (caches_of h.refs h.doms) (core_of (normalised s.path) s.size false) s.clock))
-    (refuses OutOfForm))
-    (refuses BadSettings))
-    (refuses LongPath))
-    (refuses BadPath))
-    (refuses NotInOrder)
+    (refuses (Err OutOfForm)))
+    (refuses (Err BadSettings)))
+    (refuses (Err LongPath)))
+    (refuses (Err BadPath)))
+    (refuses (Err NotInOrder))
 
 -- An answer to it: 4, and 5 where it has ended or waits for an answer of the other kind.
 unfoldable pub event_of : Unlimited → Answer → Option Turn
@@ -116,12 +116,12 @@ event_of u (referral status reply clock out) = referral_event (caches_of u.refs 
 event_of u (io status clock out) = io_event (caches_of u.refs u.doms) u.core u.rest status
 
 unfoldable pub event_opening : Option Turn → Opening
-event_opening None = refuses OutOfForm
+event_opening None = refuses (Err OutOfForm)
 event_opening (Some t) = opens t
 
 unfoldable pub answer_opening : Unlimited → Answer → Opening
 answer_opening u a =
-    choose (in_order referrals u.refs && in_order domains u.doms) (event_opening (event_of u a)) (refuses NotInOrder)
+    choose (in_order referrals u.refs && in_order domains u.doms) (event_opening (event_of u a)) (refuses (Err NotInOrder))
 
 -- The unlimited walk after all calls of a list. Its count is first 0, and it knows no limit.
 pub data Follows (h : Held) (s : Start) : Calls → Unlimited → Type 0 where
@@ -161,14 +161,14 @@ path_before l h s (then cs a) = (observed (run l h s cs)).core.path
 -- The moves of a call of a walk with a limit, each with the caches after it: a list by the steps from what the call was given to what it leaves. A refused
 -- call makes none; a call that is cut has made the moves up to the limit.
 pub data Moved (l clock : ℕ) (boot : List ℕ) (count : ℕ) (o : Answered) : Opening → List Made → Type 0 where
-  no_move : {p : Opening} → (o.left.verdict ≡ Taken → ⊥) → Moved l clock boot count o p []
-  to_rest : {t : Turn} {ms : List Move} {w : Core} {r : Rest} → Rests t clock boot ms w r → o.left.verdict ≡ Taken
+  no_move : {p : Opening} → (o.left.verdict ≡ Ok tt → ⊥) → Moved l clock boot count o p []
+  to_rest : {t : Turn} {ms : List Move} {w : Core} {r : Rest} → Rests t clock boot ms w r → o.left.verdict ≡ Ok tt
       → observed o ≡ rests_at t.caches w r (count + length ms) → Moved l clock boot count o (opens t) (made_in t.caches ms)
-  to_limit : {t : Turn} {ms : List Move} {w : Core} → CallsForMore t clock ms w → count + length ms ≡ l → o.left.verdict ≡ Taken
+  to_limit : {t : Turn} {ms : List Move} {w : Core} → CallsForMore t clock ms w → count + length ms ≡ l → o.left.verdict ≡ Ok tt
       → observed o ≡ rests_at t.caches w (ended LimitReached 0 []) l → Moved l clock boot count o (opens t) (made_in t.caches ms)
 
 -- A call shows what the unlimited walk does in it: the same number, or the same moves, question or end, count and caches, and the question's request in the buffer.
 pub data Same (l clock : ℕ) (boot out : List ℕ) (count : ℕ) (o : Answered) (p : Opening) : Brings → Type 0 where
-  same_number : {v : Verdict} → o.left.verdict ≡ v → (v ≡ Taken → ⊥) → Moved l clock boot count o p [] → Same l clock boot out count o p (number v)
-  same_rest : {ms : List Made} {u : Unlimited} → o.left.verdict ≡ Taken → observed o ≡ u
+  same_number : {v : Verdict} → o.left.verdict ≡ v → (v ≡ Ok tt → ⊥) → Moved l clock boot count o p [] → Same l clock boot out count o p (number v)
+  same_rest : {ms : List Made} {u : Unlimited} → o.left.verdict ≡ Ok tt → observed o ≡ u
       → o.left.out ≡ with_request (request_name u.core u.rest) out → Moved l clock boot count o p ms → Same l clock boot out count o p (comes ms u)

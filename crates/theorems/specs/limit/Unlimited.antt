@@ -1,6 +1,6 @@
 -- The unlimited walk: the steps, taken without a limit. It has no fuel and no end 24; where interlinks lead round for ever it does not come to
 -- rest, so it is a relation.
-use Rattle.std.specs.Prelude.{ℕ, ◌+◌, ◌≤◌, ◌<◌, ◌≡◌, true, false, List, [], ◌∷◌, ◌++◌, map, length, Option}
+use Rattle.std.specs.Prelude.{ℕ, ◌+◌, ◌≤◌, ◌<◌, ◌≡◌, true, false, List, [], ◌∷◌, ◌++◌, map, length, Err, Option}
 use Rattle.unc.specs.names.Paths.{path_units}
 use Rattle.cache.specs.order.Memory.{referrals, domains, encode}
 use Rattle.walk_steps.specs.steps.Steps.{Caches, Core, Question, Called, stops, asks, replaces, Turn, Rest, waits, ended, with_path, with_hit, hit_at, step2, name_asked}
@@ -9,8 +9,8 @@ use Rattle.walk_steps.specs.declared.steps.End.{End}
 use Rattle.walk_steps.specs.declared.steps.End.TheVariants.{TooLong}
 use Rattle.walk_steps.specs.question_request.Questions.{request_name, name_fits}
 use Rattle.walk_shown.specs.question.Shown.{party_of}
-use Rattle.walk_calls.specs.declared.call_end.Verdict.{Verdict}
-use Rattle.walk_calls.specs.declared.call_end.Verdict.TheVariants.{ShortBuffer}
+use Rattle.walk_calls.specs.call_end.Closing.{Verdict}
+use Rattle.walk_calls.specs.declared.call_end.Refusal.TheVariants.{ShortBuffer}
 
 -- "A move is a question put (kind, party, name, size) or a step 11 replacement (new path)." A party is its place and its text.
 pub data Move : Type 0 where
@@ -99,7 +99,7 @@ pub data Brings : Type 0 where
 pub data Call (clock : ℕ) (boot out : List ℕ) (count : ℕ) : Opening → Brings → Type 0 where
   refused : {v : Verdict} → Call clock boot out count (refuses v) (number v)
   short : {t : Turn} {ms : List Move} {w : Core} {r : Rest} → Rests t clock boot ms w r → name_fits (length out) (request_name w r) ≡ false
-      → Call clock boot out count (opens t) (number ShortBuffer)
+      → Call clock boot out count (opens t) (number (Err ShortBuffer))
   taken : {t : Turn} {ms : List Move} {w : Core} {r : Rest} → Rests t clock boot ms w r → name_fits (length out) (request_name w r) ≡ true
       → Call clock boot out count (opens t) (comes (made_in t.caches ms) (rests_at t.caches w r (count + length ms)))
 

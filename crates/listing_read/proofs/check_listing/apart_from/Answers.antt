@@ -1,37 +1,19 @@
-use mathlib.Core.Path.{refl, sym, ◌∙◌}
-use native.Mathlib.Omega.{arith}
-use Rattle.listing_read.proofs.check_listing.TextLaws.{end_fits, apart_other, apart_same, apart_next, apart_end}
+use mathlib.Core.Path.{sym, ◌∙◌}
+use Rattle.listing_read.proofs.check_listing.TextLaws.{apart_other, apart_same, apart_next, apart_end}
+use borrow.Author.Rules.{rules}
 use Rattle.listing_read.proofs.check_listing.apart_from.Goals as goal
-
-pub loop-at-init : goal.loop-at-init
-loop-at-init c = refl
-
-pub overflow_add-at : goal.overflow_add-at
-overflow_add-at c = omega (arith, end_fits c.args.text.now c.loop-at.at c.line_end-end.result (omega arith) c.line_end-end.ensures)
-
-pub loop-at-smaller-then-text-at-ne-OPENING : goal.loop-at-smaller-then-text-at-ne-OPENING
-loop-at-smaller-then-text-at-ne-OPENING c = omega (arith, end_fits c.args.text.now c.loop-at.at c.line_end-end.result (omega arith) c.line_end-end.ensures)
-
-pub loop-at-preserved-then-text-at-ne-OPENING : goal.loop-at-preserved-then-text-at-ne-OPENING
-loop-at-preserved-then-text-at-ne-OPENING c = c.loop-at.invariant ∙ apart_other c.args.text.now c.loop-at.at c.line_end-end.result (omega arith) c.line_end-end.ensures c.args.line.now c.if-text-at-ne-OPENING.true
-
-pub offset_bounds-text-at-in-loop-at : goal.offset_bounds-text-at-in-loop-at
-offset_bounds-text-at-in-loop-at c = omega (arith, end_fits c.args.text.now c.loop-at.at c.line_end-end.result (omega arith) c.line_end-end.ensures)
-
-pub slice_bounds-same_name-end : goal.slice_bounds-same_name-end
-slice_bounds-same_name-end c = end_fits c.args.text.now c.loop-at.at c.line_end-end.result (omega arith) c.line_end-end.ensures
+use Rattle.listing_read.proofs.check_listing.apart_from.Goals.{else-is_prefix-via-then-is_prefix+else-same_name, else-is_prefix-via-else-is_prefix}
 
 pub returns-then-same_name : goal.returns-then-same_name
-returns-then-same_name c = apart_same c.args.text.now c.loop-at.at c.line_end-end.result (omega arith) c.line_end-end.ensures c.args.line.now c.if-text-at-ne-OPENING.false c.same_name.ensures c.if-same_name.true ∙ sym c.loop-at.invariant
+returns-then-same_name c = apart_same c.in-Some.ensures c.args.line.now c.is_prefix.ensures c.if-is_prefix.true c.same_name.ensures c.if-same_name.true ∙ sym c.loop-other.invariant
 
-pub overflow_add-at-in-loop-at : goal.overflow_add-at-in-loop-at
-overflow_add-at-in-loop-at c = omega (arith, end_fits c.args.text.now c.loop-at.at c.line_end-end.result (omega arith) c.line_end-end.ensures)
-
-pub loop-at-smaller : goal.loop-at-smaller
-loop-at-smaller c = omega (arith, end_fits c.args.text.now c.loop-at.at c.line_end-end.result (omega arith) c.line_end-end.ensures)
-
-pub loop-at-preserved : goal.loop-at-preserved
-loop-at-preserved c = c.loop-at.invariant ∙ apart_next c.args.text.now c.loop-at.at c.line_end-end.result (omega arith) c.line_end-end.ensures c.args.line.now c.if-text-at-ne-OPENING.false c.same_name.ensures c.if-same_name.false
+pub loop-other-preserved : goal.loop-other-preserved
+loop-other-preserved c =
+    c.loop-other.invariant
+    ∙ elim c.else-is_prefix.branch [
+      | else-is_prefix-via-then-is_prefix+else-same_name w ↦ apart_next c.in-Some.ensures c.args.line.now c.is_prefix.ensures w.if-is_prefix.true w.same_name.ensures w.if-same_name.false
+      | else-is_prefix-via-else-is_prefix w ↦ apart_other c.in-Some.ensures c.args.line.now c.is_prefix.ensures w.if-is_prefix.false
+    ]
 
 pub returns : goal.returns
-returns c = apart_end c.args.text.now c.loop-at.at c.args.line.now c.loop-at-test.false ∙ sym c.loop-at.invariant
+returns c = apart_end c.loop-other.rest.now (search rules) c.args.line.now ∙ sym c.loop-other.invariant

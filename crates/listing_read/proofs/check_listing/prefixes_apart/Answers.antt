@@ -1,37 +1,19 @@
-use mathlib.Core.Path.{refl, sym, ◌∙◌}
-use native.Mathlib.Omega.{arith}
-use Rattle.listing_read.proofs.check_listing.TextLaws.{end_fits, distinct_other, distinct_same, distinct_next, distinct_end}
+use mathlib.Core.Path.{sym, ◌∙◌}
+use Rattle.listing_read.proofs.check_listing.TextLaws.{distinct_other, distinct_same, distinct_next, distinct_end}
+use borrow.Author.Rules.{rules}
 use Rattle.listing_read.proofs.check_listing.prefixes_apart.Goals as goal
-
-pub loop-at-init : goal.loop-at-init
-loop-at-init c = refl
-
-pub overflow_add-at : goal.overflow_add-at
-overflow_add-at c = omega (arith, end_fits c.args.text.now c.loop-at.at c.line_end-end.result (omega arith) c.line_end-end.ensures)
-
-pub loop-at-smaller-then-text-at-ne-OPENING : goal.loop-at-smaller-then-text-at-ne-OPENING
-loop-at-smaller-then-text-at-ne-OPENING c = omega (arith, end_fits c.args.text.now c.loop-at.at c.line_end-end.result (omega arith) c.line_end-end.ensures)
-
-pub loop-at-preserved-then-text-at-ne-OPENING : goal.loop-at-preserved-then-text-at-ne-OPENING
-loop-at-preserved-then-text-at-ne-OPENING c = c.loop-at.invariant ∙ distinct_other c.args.text.now c.loop-at.at c.line_end-end.result (omega arith) c.line_end-end.ensures c.if-text-at-ne-OPENING.true
-
-pub overflow_add-end : goal.overflow_add-end
-overflow_add-end c = omega (arith, end_fits c.args.text.now c.loop-at.at c.line_end-end.result (omega arith) c.line_end-end.ensures)
-
-pub slice_bounds-apart_from-end : goal.slice_bounds-apart_from-end
-slice_bounds-apart_from-end c = end_fits c.args.text.now c.loop-at.at c.line_end-end.result (omega arith) c.line_end-end.ensures
+use Rattle.listing_read.proofs.check_listing.prefixes_apart.Goals.{else-is_prefix-via-then-is_prefix+else-not-apart_from, else-is_prefix-via-else-is_prefix}
 
 pub returns-then-not-apart_from : goal.returns-then-not-apart_from
-returns-then-not-apart_from c = distinct_same c.args.text.now c.loop-at.at c.line_end-end.result (omega arith) c.line_end-end.ensures c.if-text-at-ne-OPENING.false c.apart_from.ensures c.if-not-apart_from.true ∙ sym c.loop-at.invariant
+returns-then-not-apart_from c = distinct_same c.in-Some.ensures c.is_prefix.ensures c.if-is_prefix.true c.apart_from.ensures c.if-not-apart_from.true ∙ sym c.loop-line.invariant
 
-pub overflow_add-at-in-loop-at : goal.overflow_add-at-in-loop-at
-overflow_add-at-in-loop-at c = omega (arith, end_fits c.args.text.now c.loop-at.at c.line_end-end.result (omega arith) c.line_end-end.ensures)
-
-pub loop-at-smaller : goal.loop-at-smaller
-loop-at-smaller c = omega (arith, end_fits c.args.text.now c.loop-at.at c.line_end-end.result (omega arith) c.line_end-end.ensures)
-
-pub loop-at-preserved : goal.loop-at-preserved
-loop-at-preserved c = c.loop-at.invariant ∙ distinct_next c.args.text.now c.loop-at.at c.line_end-end.result (omega arith) c.line_end-end.ensures c.if-text-at-ne-OPENING.false c.apart_from.ensures c.if-not-apart_from.false
+pub loop-line-preserved : goal.loop-line-preserved
+loop-line-preserved c =
+    c.loop-line.invariant
+    ∙ elim c.else-is_prefix.branch [
+      | else-is_prefix-via-then-is_prefix+else-not-apart_from w ↦ distinct_next c.in-Some.ensures c.is_prefix.ensures w.if-is_prefix.true w.apart_from.ensures w.if-not-apart_from.false
+      | else-is_prefix-via-else-is_prefix w ↦ distinct_other c.in-Some.ensures c.is_prefix.ensures w.if-is_prefix.false
+    ]
 
 pub returns : goal.returns
-returns c = distinct_end c.args.text.now c.loop-at.at c.loop-at-test.false ∙ sym c.loop-at.invariant
+returns c = distinct_end c.loop-line.rest.now (search rules) ∙ sym c.loop-line.invariant

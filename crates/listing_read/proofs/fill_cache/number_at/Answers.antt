@@ -4,7 +4,7 @@ use native.Mathlib.Omega.{arith}
 use lib.ListN.{drop}
 use Rattle.listing_spelling.specs.unspell.Code.{decimal_form}
 use Rattle.listing_read.specs.fill_cache.Code.{value_at}
-use Rattle.listing_read.proofs.fill_cache.LineLaws.{value_slice, line_inside, number_known, number_some}
+use Rattle.listing_read.proofs.fill_cache.LineLaws.{value_slice, line_inside, number_known}
 use Rattle.listing_read.proofs.fill_cache.number_at.Goals as goal
 
 pub offset_bounds-text-from : goal.offset_bounds-text-from
@@ -16,21 +16,8 @@ slice_bounds-decimal_form-end c = omega (arith, c.line_end-end.ensures, line_ins
 pub overflow_add-result : goal.overflow_add-result
 overflow_add-result c = omega (arith, c.line_end-end.ensures, line_inside c.args.text.now c.args.at c.requires.ended)
 
-pub returns-in_default : goal.returns-in_default
-returns-in_default c =
-    absurd
-    (number_some (value_at c.args.key (drop c.args.at c.args.text.now)) c.requires.good
-    (c.decimal_form.ensures ∙ ap decimal_form (value_slice c.args.text.now c.args.at c.args.key c.line_end-end.ensures c.requires.keyed))
-    c.in_default.is)
-
-pub overflow_add-result-2 : goal.overflow_add-result-2
-overflow_add-result-2 c = omega (arith, c.line_end-end.ensures, line_inside c.args.text.now c.args.at c.requires.ended)
-
 pub returns : goal.returns
 returns c =
-    record {
-      value = number_known (value_at c.args.key (drop c.args.at c.args.text.now)) c.requires.good
-          (c.decimal_form.ensures ∙ ap decimal_form (value_slice c.args.text.now c.args.at c.args.key c.line_end-end.ensures c.requires.keyed))
-          c.in-Some.is;
-      next = ap (λ (x : ℕ). x + 1) c.line_end-end.ensures;
-    }
+    let s = value_at c.args.key (drop c.args.at c.args.text.now) in
+    let f = c.decimal_form.ensures ∙ ap decimal_form (value_slice c.args.text.now c.args.at c.args.key c.line_end-end.ensures c.requires.keyed) in
+    record { value = c.unwrap_or-value.ensures ∙ number_known s c.requires.good f; next = ap (λ (x : ℕ). x + 1) c.line_end-end.ensures }

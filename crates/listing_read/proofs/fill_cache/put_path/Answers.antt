@@ -17,7 +17,7 @@ put_value-requires c =
     let l = line_inside c.args.text.now c.args.at p.ended in
     let e = c.line_end-end.ensures in
     let k = p.keyed in
-    (search rules, (search rules, (omega arith, (omega arith, (ap is_spelled s ∙ p.good, omega (arith, p.short, ap (λ (x : List ℕ). length (unspelled x)) s))))))
+    (search rules, (search rules, (ap is_spelled s ∙ p.good, omega (arith, p.short, ap (λ (x : List ℕ). length (unspelled x)) s))))
 
 pub overflow_add-result : goal.overflow_add-result
 overflow_add-result c = omega (arith, c.line_end-end.ensures, line_inside c.args.text.now c.args.at c.requires.1.1.ended)

@@ -7,12 +7,12 @@ use Rattle.listing_read.proofs.fill_cache.put_targets.Goals as goal
 pub loop-end-init : goal.loop-end-init
 loop-end-init c = (search rules, (refl, (c.requires.1, refl)))
 
-pub returns-then-text-end-ne-TARGET : goal.returns-then-text-end-ne-TARGET
-returns-then-text-end-ne-TARGET c = targets_done c.args.text.now c.args.i c.loop-end.end c.loop-end.n c.loop-end.invariant.1.1.0 c.args.refs.now c.loop-end.refs (omega arith) c.loop-end.invariant.1.1.1 (left_none c.args.text.now c.args.i c.loop-end.end c.loop-end.n c.loop-end.invariant.1.1.0 c.if-text-end-ne-TARGET.true)
+pub returns-else-text-end-eq-TARGET : goal.returns-else-text-end-eq-TARGET
+returns-else-text-end-eq-TARGET c = targets_done c.args.text.now c.args.i c.loop-end.end c.loop-end.n c.loop-end.invariant.1.1.0 c.args.refs.now c.loop-end.refs (omega arith) c.loop-end.invariant.1.1.1 (left_none c.args.text.now c.args.i c.loop-end.end c.loop-end.n c.loop-end.invariant.1.1.0 c.if-text-end-eq-TARGET.false)
 
 pub put_target-end-requires : goal.put_target-end-requires
 put_target-end-requires c =
-    let l = more_left c.args.text.now c.args.i c.loop-end.end c.loop-end.n c.loop-end.invariant.1.1.0 c.if-text-end-ne-TARGET.false in
+    let l = more_left c.args.text.now c.args.i c.loop-end.end c.loop-end.n c.loop-end.invariant.1.1.0 c.if-text-end-eq-TARGET.true in
     let f = targets_few c.args.text.now c.args.i c.loop-end.end c.loop-end.n c.loop-end.invariant.1.1.0 in
     (omega arith, (omega arith, target_there c.args.text.now c.args.i c.loop-end.end c.loop-end.n c.loop-end.invariant.1.1.0 l))
 
@@ -20,11 +20,11 @@ pub overflow_add-n : goal.overflow_add-n
 overflow_add-n c = omega (arith, targets_few c.args.text.now c.args.i c.loop-end.end c.loop-end.n c.loop-end.invariant.1.1.0)
 
 pub loop-end-smaller : goal.loop-end-smaller
-loop-end-smaller c = omega (arith, more_left c.args.text.now c.args.i c.loop-end.end c.loop-end.n c.loop-end.invariant.1.1.0 c.if-text-end-ne-TARGET.false)
+loop-end-smaller c = omega (arith, more_left c.args.text.now c.args.i c.loop-end.end c.loop-end.n c.loop-end.invariant.1.1.0 c.if-text-end-eq-TARGET.true)
 
 pub loop-end-preserved : goal.loop-end-preserved
 loop-end-preserved c =
-    let l = more_left c.args.text.now c.args.i c.loop-end.end c.loop-end.n c.loop-end.invariant.1.1.0 c.if-text-end-ne-TARGET.false in (
+    let l = more_left c.args.text.now c.args.i c.loop-end.end c.loop-end.n c.loop-end.invariant.1.1.0 c.if-text-end-eq-TARGET.true in (
       omega arith,
       (
         omega arith,
@@ -35,5 +35,5 @@ loop-end-preserved c =
       ),
     )
 
-pub returns : goal.returns
-returns c = targets_done c.args.text.now c.args.i c.loop-end.end c.loop-end.n c.loop-end.invariant.1.1.0 c.args.refs.now c.loop-end.refs (omega arith) c.loop-end.invariant.1.1.1 (left_past c.args.text.now c.args.i c.loop-end.end c.loop-end.n c.loop-end.invariant.1.1.0 (omega arith))
+pub returns-after-loop-end : goal.returns-after-loop-end
+returns-after-loop-end c = targets_done c.args.text.now c.args.i c.loop-end.end c.loop-end.n c.loop-end.invariant.1.1.0 c.args.refs.now c.loop-end.refs (omega arith) c.loop-end.invariant.1.1.1 (left_past c.args.text.now c.args.i c.loop-end.end c.loop-end.n c.loop-end.invariant.1.1.0 (omega arith))

@@ -1,12 +1,10 @@
 use native.Mathlib.Omega.{arith}
-use lib.ListN.{take, drop}
-use Prim.Native.Nat.{◌-◌}
 use Rattle.listing_spelling.specs.unspell.Reading.{unspelled}
 use Rattle.listing_read.proofs.fill_cache.PutLaws.{value_put}
 use Rattle.listing_read.proofs.fill_cache.put_value.Goals as goal
 
 pub unspell-stop-requires : goal.unspell-stop-requires
-unspell-stop-requires c = (c.requires.1.1.1.1.0, omega arith)
+unspell-stop-requires c = (c.requires.1.1.0, omega arith)
 
 pub overflow_sub-start : goal.overflow_sub-start
 overflow_sub-start c = omega (arith, c.unspell-stop.ensures, c.requires)
@@ -20,5 +18,5 @@ overflow_cast-stop c = omega (arith, c.unspell-stop.ensures, c.requires)
 pub returns : goal.returns
 returns c =
     let a = c.args in
-    value_put a.refs.now a.i (omega arith) a.j (unspelled (take (a.end - a.from) (drop a.from a.text.now))) (omega arith) (omega (arith, c.requires))
+    value_put a.refs.now a.i (omega arith) a.j (unspelled a.value.now) (omega arith) (omega (arith, c.requires))
     c.unspell-stop.ensures c.clear_units.ensures c.put_unit.ensures c.put_unit-2.ensures

@@ -16,17 +16,17 @@ returns-in_default c =
 
 pub returns-then-refs-count : goal.returns-then-refs-count
 returns-then-refs-count c =
-    let w = text_good c.args.text.now c.check_text.ensures c.in-Entries.is in
+    let w = text_good c.args.text.now c.check_text.ensures c.in-Some.is in
     let whole = too_many c.args.text.now c.args.refs.now (sym c.right_size.ensures ∙ c.if-not-right_size.false) w.0 (omega (arith, w.1)) in
     record { number = whole.0; cache = whole.1 }
 
 pub fill-requires : goal.fill-requires
 fill-requires c =
-    let w = text_good c.args.text.now c.check_text.ensures c.in-Entries.is in
+    let w = text_good c.args.text.now c.check_text.ensures c.in-Some.is in
     (sym c.right_size.ensures ∙ c.if-not-right_size.false, (w.0, omega (arith, w.1)))
 
 pub returns : goal.returns
 returns c =
-    let w = text_good c.args.text.now c.check_text.ensures c.in-Entries.is in
+    let w = text_good c.args.text.now c.check_text.ensures c.in-Some.is in
     let whole = was_read c.args.text.now c.args.refs.now (sym c.right_size.ensures ∙ c.if-not-right_size.false) w.0 (omega (arith, w.1)) c.fill.ensures in
     record { number = whole.0; cache = whole.1 }

@@ -1,31 +1,35 @@
-use mathlib.Core.Path.{sym, ◌∙◌}
+use mathlib.Core.Path.{◌≡◌, sym, ap, ◌∙◌}
 use native.Mathlib.Omega.{arith}
-use Rattle.listing_spelling.proofs.unspell.UnspelledLaws.{form_start, form_stands, form_escape, form_bad, form_end, escape_within}
+use lib.ListN.{length, drop, length-drop}
+use Rattle.listing_spelling.proofs.unspell.UnspelledLaws.{form_start, form_stands, form_escape, form_bad, form_end, escape_within, rest_from}
 use borrow.Author.Rules.{rules}
 use Rattle.listing_spelling.proofs.unspell.spelled_form.Goals as goal
+use Rattle.listing_spelling.proofs.unspell.spelled_form.Goals.{then-stands, else-stands+then-is_escape}
 
-pub loop-i-init : goal.loop-i-init
-loop-i-init c = (search rules, (search rules, form_start _))
+pub loop-u-init : goal.loop-u-init
+loop-u-init c = (omega arith, form_start _)
 
-pub loop-i-preserved-then-stands : goal.loop-i-preserved-then-stands
-loop-i-preserved-then-stands c =
-    (omega arith, (omega arith, c.loop-i.invariant.1.1 ∙ form_stands c.args.s.now c.loop-i.i (omega arith) c.loop-i.n (sym c.stands.ensures ∙ c.if-stands.true)))
+pub slice_bounds-rest-count : goal.slice_bounds-rest-count
+slice_bounds-rest-count c = escape_within _ (sym c.is_escape.ensures ∙ c.if-is_escape.true)
 
-pub returns-then-not-is_escape : goal.returns-then-not-is_escape
-returns-then-not-is_escape c =
-    form_bad c.args.s.now c.loop-i.i (omega arith) c.loop-i.n (sym c.stands.ensures ∙ c.if-stands.false) (sym c.is_escape.ensures ∙ c.if-not-is_escape.true)
-    ∙ sym c.loop-i.invariant.1.1
+pub slice_bounds-rest-start : goal.slice_bounds-rest-start
+slice_bounds-rest-start c = let h = escape_within _ (sym c.is_escape.ensures ∙ c.if-is_escape.true) in search rules
 
-pub overflow_add-i-in-loop-i : goal.overflow_add-i-in-loop-i
-overflow_add-i-in-loop-i c = omega (arith, escape_within c.args.s.now c.loop-i.i (omega arith) (sym c.is_escape.ensures ∙ c.if-not-is_escape.false))
+pub returns-else-is_escape : goal.returns-else-is_escape
+returns-else-is_escape c =
+    form_bad c.loop-u.n c.in-Some.ensures.cases.0 (sym c.stands.ensures ∙ c.if-stands.false) (sym c.is_escape.ensures ∙ c.if-is_escape.false) ∙ sym c.loop-u.invariant.1
 
-pub loop-i-smaller : goal.loop-i-smaller
-loop-i-smaller c = omega (arith, escape_within c.args.s.now c.loop-i.i (omega arith) (sym c.is_escape.ensures ∙ c.if-not-is_escape.false))
-
-pub loop-i-preserved : goal.loop-i-preserved
-loop-i-preserved c =
-    let h = sym c.is_escape.ensures ∙ c.if-not-is_escape.false in
-    (omega (arith, escape_within c.args.s.now c.loop-i.i (omega arith) h), (omega arith, c.loop-i.invariant.1.1 ∙ form_escape c.args.s.now c.loop-i.i (omega arith) c.loop-i.n h))
+pub loop-u-preserved : goal.loop-u-preserved
+loop-u-preserved c =
+    let l = c.loop-u in
+    let e = c.in-Some.ensures.cases.0 in
+    elim c.if-stands.branch [
+      | then-stands w ↦ rw w.rest-is (omega (arith, ap length e), l.invariant.1 ∙ form_stands l.n e (sym c.stands.ensures ∙ w.if-stands.true))
+      | else-stands+then-is_escape w ↦
+          let h = sym w.is_escape.ensures ∙ w.if-is_escape.true in
+          let f : c.if-stands.rest.now ≡ drop 5 l.rest.now = ap (λ r. r.now) w.rest-is ∙ rest_from 5 l.rest.now in
+          rw f (omega (arith, escape_within _ h, length-drop 5 l.rest.now), l.invariant.1 ∙ form_escape l.rest.now l.n h)
+    ]
 
 pub returns : goal.returns
-returns c = form_end c.args.s.now c.loop-i.i c.loop-i.n (omega arith) ∙ sym c.loop-i.invariant.1.1
+returns c = form_end c.loop-u.rest.now c.loop-u.n (search rules) ∙ sym c.loop-u.invariant.1

@@ -1,17 +1,9 @@
-use Rattle.script_lines.proofs.line_bytes.HexLaws.{all_next, all_stop, all_end}
-use mathlib.Core.Path.{refl, sym, ◌∙◌}
-use native.Mathlib.Omega.{arith}
-use borrow.Author.Rules.{rules}
+use Rattle.script_lines.specs.line_bytes.Hexes.{is_hex}
+use Rattle.script_lines.proofs.line_bytes.HexLaws.{every_of_all}
+use Rattle.std.proofs.Common.{rules, tests, ◌∙◌}
+use Rattle.std.proofs.lemmas.Iterator.{YieldsList-from_slice}
+use Rattle.std.proofs.lemmas.Iterator.Search.{all_from_yields_List}
 use Rattle.script_lines.proofs.line_bytes.all_hex.Goals as goal
 
-pub loop-i-init : goal.loop-i-init
-loop-i-init c = (search rules, refl)
-
-pub returns-then-not-is_hex : goal.returns-then-not-is_hex
-returns-then-not-is_hex c = sym (c.loop-i.invariant.1 ∙ all_stop c.args.s.now c.loop-i.i (omega arith) c.is_hex.ensures c.if-not-is_hex.true)
-
-pub loop-i-preserved : goal.loop-i-preserved
-loop-i-preserved c = (omega arith, c.loop-i.invariant.1 ∙ all_next c.args.s.now c.loop-i.i (omega arith) c.is_hex.ensures c.if-not-is_hex.false)
-
 pub returns : goal.returns
-returns c = sym (c.loop-i.invariant.1 ∙ all_end c.args.s.now c.loop-i.i (omega arith))
+returns c = all_from_yields_List is_hex _ _ _ c.all.ensures.ran (YieldsList-from_slice c.args.s.now cc) (λ x b q k. search (rules, tests)) ∙ every_of_all is_hex c.args.s.now

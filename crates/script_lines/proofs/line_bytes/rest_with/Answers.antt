@@ -1,14 +1,9 @@
-use Rattle.script_lines.proofs.line_bytes.HeldLaws.{rest_next, rest_end}
-use mathlib.Core.Path.{refl, sym, ◌∙◌}
-use native.Mathlib.Omega.{arith}
-use borrow.Author.Rules.{rules}
+use Rattle.script_lines.specs.line_bytes.Held.{next_rest}
+use Rattle.script_lines.proofs.line_bytes.HeldLaws.{rest_of_fold}
+use Rattle.std.proofs.Common.{rules, ◌∙◌}
+use Rattle.std.proofs.lemmas.Iterator.{YieldsList-from_slice}
+use Rattle.std.proofs.lemmas.Iterator.Consumers.{fold_from_yields_List}
 use Rattle.script_lines.proofs.line_bytes.rest_with.Goals as goal
 
-pub loop-i-init : goal.loop-i-init
-loop-i-init c = (search rules, refl)
-
-pub loop-i-preserved : goal.loop-i-preserved
-loop-i-preserved c = (omega arith, c.loop-i.invariant.1 ∙ rest_next c.args.s.now c.loop-i.i c.loop-i.r (omega arith) c.next_rest-r.ensures)
-
 pub returns : goal.returns
-returns c = sym (c.loop-i.invariant.1 ∙ rest_end c.args.s.now c.loop-i.i c.loop-i.r (omega arith))
+returns c = fold_from_yields_List _ next_rest _ _ c.fold.ensures.ran (YieldsList-from_slice c.args.s.now cc) (λ a x b q k. search rules) ∙ rest_of_fold c.args.rest c.args.s.now

@@ -1,9 +1,8 @@
 use Rattle.script_run.proofs.call_due.CallingLaws.{told_taken, told_refused}
-use native.Mathlib.Omega.{arith}
 use Rattle.script_run.proofs.call_due.tell.Goals as goal
 
-pub returns-then-number-ne0 : goal.returns-then-number-ne0
-returns-then-number-ne0 c = told_refused c.args.s c.args.o _ _ _ _ _ c.refusal_number-number.ensures c.put_outcome-bytes.ensures c.if-number-ne0.true c.with_last-script.ensures
+pub returns-in-Ok : goal.returns-in-Ok
+returns-in-Ok c = told_taken c.args.s c.args.walk _ _ _ _ _ _ c.in-Ok.is c.put_outcome-bytes.ensures
 
-pub returns : goal.returns
-returns c = told_taken c.args.s c.args.o _ _ _ _ _ c.refusal_number-number.ensures c.put_outcome-bytes.ensures (omega arith)
+pub returns-in-Err : goal.returns-in-Err
+returns-in-Err c = told_refused c.args.s c.args.walk _ _ _ _ _ _ c.in-Err.is c.into-number.ensures c.put_outcome-bytes-in-Err.ensures c.with_last.ensures

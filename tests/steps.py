@@ -125,8 +125,7 @@ for m,f in MODS:
         if al in seen: al=f"{x}'{len(seen)}"
         seen.add(al)
         uses+=f"use {m}.{{{x}}}\n" if al==x else f"use {m}.{{{x} as {al}}}\n"; names.append(al)
-hdr="""use Rattle.std.specs.Prelude.{ℕ, ◌-◌, Bool, true, false, ◌&&◌, List, [], ◌∷◌, length, get_or, eqb, leb, ◌≡◌}
-use Rattle.std.proofs.Math.Option.{Option, none, some}
+hdr="""use Rattle.std.specs.Prelude.{ℕ, ◌-◌, Bool, true, false, ◌&&◌, List, [], ◌∷◌, length, get_or, eqb, leb, ◌≡◌, Option, None, Some}
 use mathlib.Core.Path.{refl}
 use Rattle.reply_read.specs.referral.Replies as replies
 use Rattle.unc.specs.names.Paths.{Target}
@@ -164,12 +163,12 @@ abbrev pub nowhere : Core
 nowhere = record { path = []; size = 0; hit = false }
 
 abbrev pub target_to : ℕ → Option Referral → List ℕ
-target_to j none = []
-target_to j (some e) = target_path j e
+target_to j None = []
+target_to j (Some e) = target_path j e
 
 abbrev pub dc_to : ℕ → Option Domain → List ℕ
-dc_to j none = []
-dc_to j (some d) = dc_name j d
+dc_to j None = []
+dc_to j (Some d) = dc_name j d
 
 abbrev pub pick : Bool → List ℕ → List ℕ → List ℕ
 pick true a b = a

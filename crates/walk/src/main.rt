@@ -24,9 +24,9 @@ const LINE: usize = 131072;
 // A reply: one byte more than any size asked.
 const REPLY: usize = 57345;
 
-// A walk by the lines of the input: what has come and was read, the walk, and all memory that is lent.
+// The host of one walk, by the lines of the input: what has come and was read, the walk, and all memory that it lends. Arrays with their counts in `count` and `script`: memory is fixed, no heap.
 #[derive(Drop)]
-struct Session {
+struct Host {
     script: Script,
     walk: Walk,
     came: Came,
@@ -44,7 +44,7 @@ struct Session {
     ghost within: { count ≤ length piece },
 }
 
-impl Session {
+impl Host {
     // Takes up what comes next of the input; answers the call that is due before it is read.
     fn take_up(&mut self, input: &mut Stdin) -> Due {
         let p = script_run::stream::next(
@@ -101,7 +101,7 @@ impl Session {
 fn main(rt: HostRuntime) {
     let mut stdin = rt.stdin();
     let mut stdout = rt.stdout();
-    let mut session = Session {
+    let mut host = Host {
         script: script_lines::lines::begin(),
         walk: dfsc_memory::no_walk(),
         came: script_input::pieces::nothing(),
@@ -117,12 +117,12 @@ fn main(rt: HostRuntime) {
     };
     // nothing says that the input ends
     for _ in 0..u64::MAX {
-        if !script_input::line_order::goes_on(session.script) {
+        if !script_input::line_order::goes_on(host.script) {
             break;
         }
-        let due = session.take_up(&mut stdin);
-        session.call(&mut stdout, due);
-        let due = session.read();
-        session.call(&mut stdout, due);
+        let due = host.take_up(&mut stdin);
+        host.call(&mut stdout, due);
+        let due = host.read();
+        host.call(&mut stdout, due);
     }
 }

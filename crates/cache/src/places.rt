@@ -134,7 +134,7 @@ pub fn save_place(cache: &[u16], i: usize, saved: &mut [u16])
     ensures { saved.new ≡ place_at i cache.now }
 {
     let at = i * PLACE;
-    saved.copy_from_slice(&cache[at..at + PLACE]);
+    memory::copy_units(saved, 0, &cache[at..at + PLACE]);
 }
 
 pub fn put_place(cache: &mut [u16], i: usize, saved: &[u16])

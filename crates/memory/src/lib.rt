@@ -1,5 +1,5 @@
 // Writing units into lent memory: one unit, a piece, zeros, a text in its room. What lies outside the place that is named stays.
-// Each is a method of slices or two; their contracts say by `pasted` what it leaves of the whole memory, as the contracts above do.
+// Their contracts say by `pasted` what they leave of the whole memory, as the contracts above do.
 #![tactic(auto)]
 
 ghost use Rattle.std.specs.Prelude.{◌≡◌, [], ◌∷◌, ◌+◌, ◌≤◌, ◌<◌, length, replicate};
@@ -12,11 +12,14 @@ pub fn put_unit(dst: &mut [u16], at: usize, v: u16)
     dst[at] = v;
 }
 
+// Not the slice's copy_from_slice, which needs C's memmove: the library asks for memcpy and memset alone.
 pub fn copy_units(dst: &mut [u16], at: usize, src: &[u16])
     requires { at + length src.now ≤ length dst.old }
     ensures { dst.new ≡ pasted dst.old at src.now }
 {
-    dst[at..at + src.len()].copy_from_slice(src);
+    for (i, unit) in src.iter().enumerate() {
+        dst[at + i] = *unit;
+    }
 }
 
 pub fn clear_units(dst: &mut [u16], at: usize, count: usize)

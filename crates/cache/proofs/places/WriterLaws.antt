@@ -1,9 +1,10 @@
 -- Laws of the writers of a place: what each wrote is a change of that place alone.
 use mathlib.Core.Path.{◌≡◌, refl, ap, ◌∙◌}
-use mathlib.Core.List.{List, [], ◌∷◌, ◌++◌}
+use mathlib.Core.List.{List, [], ◌∷◌, ◌++◌, append-nil}
 use Prim.Native.Nat.{ℕ, ◌+◌, ◌-◌, ◌*◌, ◌/◌, ◌%◌, ◌≤◌, ◌<◌}
+use native.Mathlib.Nat.{zero-add}
 use native.Mathlib.Omega.{arith}
-use lib.ListN.{length, take, drop, replicate, length-replicate}
+use lib.ListN.{length, take, drop, replicate, drop_of_length-le, length-replicate}
 use Rattle.laws.specs.Lists.{pasted, roomed}
 use Rattle.laws.proofs.Pasting.{length_pasted, pasted_join, length_roomed}
 use Rattle.laws.proofs.Parts.{part_slice}
@@ -14,6 +15,12 @@ use Rattle.cache.proofs.places.LayoutLaws.{length_place, changed_pasted, changed
 pub length_put_unit : (j v : ℕ) (piece : List ℕ) → length piece ≡ 2336 → j < 2336 → length (put_unit j v piece) ≡ 2336
 unfolding put_unit
 length_put_unit j v piece e h = length_pasted piece j (v ∷ []) (omega arith) ∙ e
+
+-- a piece as long as what it is written over
+pasted_over : (d p : List ℕ) → length d ≡ length p → pasted d 0 p ≡ p
+unfolding pasted
+pasted_over d p h =
+    rw (zero-add (length p)) (ap (λ (x : List ℕ). p ++ x) (drop_of_length-le d {i = length p} (omega arith)) ∙ append-nil p)
 
 module _ (raw : List ℕ) (i : ℕ) (fits : i < place_count raw) where
   pub unit_put : (j v : ℕ) {m : List ℕ} → m ≡ pasted raw (i * 2336 + j) (v ∷ []) → j < 2336 → m ≡ changed i (put_unit j v) raw
@@ -40,6 +47,11 @@ module _ (raw : List ℕ) (i : ℕ) (fits : i < place_count raw) where
   pub slice_place : take (i * 2336 + 2336 - i * 2336) (drop (i * 2336) raw) ≡ place_at i raw
   unfolding place_at
   slice_place = part_slice (i * 2336) 2336 raw (i * 2336) (i * 2336 + 2336) refl refl
+
+  pub place_saved : (d : List ℕ) {m : List ℕ} → m ≡ pasted d 0 (take (i * 2336 + 2336 - i * 2336) (drop (i * 2336) raw)) → length d ≡ 2336 → m ≡ place_at i raw
+  place_saved d e h =
+      let l : length (place_at i raw) ≡ 2336 = length_place raw i fits in
+      e ∙ (ap (λ (p : List ℕ). pasted d 0 p) slice_place ∙ pasted_over d (place_at i raw) (omega arith))
 
   -- two pieces written into the place
   two_pieces : (j : ℕ) (p : List ℕ) (k : ℕ) (r : List ℕ) {m o : List ℕ} → m ≡ changed i (λ q. pasted q j p) raw → o ≡ changed i (λ q. pasted q k r) m

@@ -1,31 +1,46 @@
 -- Laws of a walk's texts: units copied within one list, the path tried put and taken, and what stands in the two rooms then.
 use Rattle.std.specs.Prelude.{Some, None}
 use mathlib.Core.Path.{◌≡◌, refl, sym, ap, ◌∙◌}
-use mathlib.Core.List.{List, [], ◌++◌, append-nil, append_assoc}
+use mathlib.Core.List.{List, [], ◌++◌, append-nil}
 use mathlib.Core.Logic.{◌⊎◌, inl, inr}
 use Prim.Native.Nat.{ℕ, ◌+◌, ◌-◌, ◌≤◌, ◌<◌}
 use native.Mathlib.Nat.{zero-add}
 use native.Mathlib.Omega.{arith}
-use lib.ListN.{length, take, drop, replicate, length-append, length-take, length-drop, length-replicate, drop_of_length-le}
+use lib.ListN.{length, get_or, take, drop, set, replicate, length-append, length-take, length-drop, length-replicate, drop_of_length-le}
 use lib.Seq.{take_all, take-append_seam, take-append-le, take_at, drop_at, drop-append-add, length-take-le}
 use borrow.Author.Tests.{le-leb, lt-leb}
-use Rattle.std.specs.List.{copy_within}
 use Rattle.laws.specs.Lists.{pasted, part, roomed}
 use Rattle.laws.proofs.Choices.{choose_yes, choose_no}
 use Rattle.laws.proofs.Orders.{lt_or_le}
-use Rattle.laws.proofs.Pasting.{length_part, part_pasted_low, pasted_join, pasted_room, pasted_whole, length_roomed}
+use Rattle.laws.proofs.Pasting.{get_d_pasted_low, get_d_pasted_high, get_d_part, length_part, copied_more, copied_all, part_pasted_low, pasted_join, pasted_room, pasted_whole, length_roomed}
 use Rattle.laws.proofs.Parts.{part_part}
 use Rattle.unc.specs.names.Paths.{replaced}
 use Rattle.unc.specs.names.Code.{written_within}
 use Rattle.walk_steps.specs.walk_texts.Texts.{texts_of}
 use Rattle.walk_steps.specs.walk_texts.Code.{with_tried, Standing}
 
--- units copied within one list, as a piece written over it
-pub copied : (d : List ℕ) (i j at : ℕ) → i ≤ j → j ≤ length d → copy_within d i j at ≡ pasted d at (part i (j - i) d)
-unfolding pasted part
-copied d i j at h k =
-    let l : length (take (j - i) (drop i d)) ≡ j - i = length-take-le (j - i) (drop i d) (simp length-drop (omega arith)) in
-    rw l (append_assoc (take at d) (take (j - i) (drop i d)) (drop (at + (j - i)) d))
+-- a loop that copies within one list: one unit more, and at its end
+module _ (d : List ℕ) (from at count : ℕ) where
+  pub within_more : (i : ℕ) {o : List ℕ} → o ≡ pasted d at (take i (part from count d)) → (from + count ≤ at) ⊎ (at + count ≤ from)
+      → i < count → from + count ≤ length d → at + count ≤ length d
+      → set o (at + i) (get_or o (from + i) 0) ≡ pasted d at (take (i + 1) (part from count d))
+  within_more i {o} e apart h u v =
+      let l : length (part from count d) ≡ count = length_part from count d u in
+      let m : length (take i (part from count d)) ≡ i = length-take-le i (part from count d) (omega arith) in
+      let f : at + length (take i (part from count d)) ≤ length d = omega arith in
+      ap (set o (at + i)) (ap (λ (x : List ℕ). get_or x (from + i) 0) e ∙ (stays m f apart ∙ sym (get_d_part from count d i 0 h)))
+      ∙ copied_more d at (part from count d) i e (omega arith) (omega arith)
+    where
+      stays : length (take i (part from count d)) ≡ i → at + length (take i (part from count d)) ≤ length d → (from + count ≤ at) ⊎ (at + count ≤ from)
+          → get_or (pasted d at (take i (part from count d))) (from + i) 0 ≡ get_or d (from + i) 0
+      stays m f (inl a) = get_d_pasted_low d at _ f (from + i) 0 (omega arith)
+      stays m f (inr a) = get_d_pasted_high d at _ f (from + i) 0 (omega arith)
+
+  pub within_all : (i : ℕ) {o : List ℕ} → o ≡ pasted d at (take i (part from count d)) → count ≤ i → from + count ≤ length d
+      → o ≡ pasted d at (part from count d)
+  within_all i e h u =
+      let l : length (part from count d) ≡ count = length_part from count d u in
+      copied_all d at (part from count d) i e (omega arith)
 
 -- the path, its first k units replaced by the target: its length, and the rest of the path as a part
 module _ (target d : List ℕ) (len k : ℕ) where

@@ -1,9 +1,8 @@
 // Units and names on lent units: document 01, "Paths".
-ghost use Rattle.std.specs.Prelude.{◌≡◌, true, ◌+◌, ◌≤◌, ◌<◌, length};
+ghost use Rattle.std.specs.Prelude.{◌≡◌, true, length};
 ghost use Rattle.unc.specs.names.Names.{folded, same_unit, same_name, plain, good_name};
-ghost use Rattle.unc.specs.names.Code.{SameWithin};
 
-use crate::text::{self, same_units};
+use crate::text::{self, same_blocks, same_units};
 
 pub const BACKSLASH: u16 = 92;
 
@@ -11,9 +10,7 @@ const SLASH: u16 = 47;
 
 pub const DOT: u16 = 46;
 
-// Units of a name that are compared at once, folded and as they stand.
-const BLOCK: usize = 8;
-
+// Units of a name that are compared at once as they stand.
 const LONG_BLOCK: usize = 16;
 
 // The most units of a name.
@@ -64,56 +61,17 @@ fn unlike(a: u16, b: u16) -> u16
 
 // The bits in which two units differ, folded or as they stand. Where there are none the units are equal; folded, equal units have none.
 #[tactic(auto, using(crate::proofs::names::UnitLaws::xor_same))]
-fn difference(a: u16, b: u16, folds: bool) -> u16
+pub(crate) fn difference(a: u16, b: u16, folds: bool) -> u16
     ensures { (result ≡ 0 → same_unit a b ≡ true) × (folds ≡ true → same_unit a b ≡ true → result ≡ 0) }
 {
     if folds { unlike(a, b) } else { a ^ b }
 }
 
-// Whether the n units from `at` on are equal, folded or as they stand. The loop has no exit, so that it runs over many units at a time.
-#[tactic(auto, using(crate::proofs::names::WithinLaws::block))]
-fn same_block(a: &[u16], b: &[u16], at: usize, n: usize, folds: bool) -> bool
-    requires { (at + n ≤ length a.now) × (at + n ≤ length b.now) }
-    ensures { (result ≡ true → SameWithin a.now b.now at (at + n)) × (folds ≡ true → SameWithin a.now b.now at (at + n) → result ≡ true) }
-{
-    let mut differ: u16 = 0;
-    for k in 0..n {
-        differ |= difference(a[at + k], b[at + k], folds);
-    }
-    differ == 0
-}
-
-// Whether two names of one length, of n units or more, are equal, folded or as they stand: n at a time from the last on, since paths of one namespace begin alike.
-#[tactic(auto, using(crate::proofs::names::WithinLaws::blocks))]
-fn same_blocks(a: &[u16], b: &[u16], n: usize, folds: bool) -> bool
-    requires { (length a.now ≡ length b.now) × ((0 < n) × (n ≤ length a.now)) }
-    ensures { (result ≡ true → same_name a.now b.now ≡ true) × (folds ≡ true → result ≡ same_name a.now b.now) }
-{
-    let mut left = a.len();
-    // the first block overlaps the second where n does not divide the length, so that every block has n units: no iterator of blocks has this
-    while 0 < left {
-        let at = left.saturating_sub(n);
-        if !same_block(a, b, at, n, folds) {
-            return false;
-        }
-        left = at;
-    }
-    true
-}
-
-// Equal names in memory, by blocks, which is faster than text::same_name.
-#[tactic(auto, using(crate::proofs::names::NameLaws::same_name_unlike))]
+// Equal names in memory.
 pub fn same_name(a: &[u16], b: &[u16]) -> bool
     ensures { result ≡ same_name a.now b.now }
 {
-    if a.len() != b.len() {
-        return false;
-    }
-    if a.len() < BLOCK {
-        same_units(a, b)
-    } else {
-        same_blocks(a, b, BLOCK, true)
-    }
+    text::same_name(a, b)
 }
 
 // same_name for names of one length that are likely to be the same: as they stand first, which needs no folding.
@@ -121,14 +79,7 @@ pub fn same_likely(a: &[u16], b: &[u16]) -> bool
     requires { length a.now ≡ length b.now }
     ensures { result ≡ same_name a.now b.now }
 {
-    if LONG_BLOCK <= a.len() && same_blocks(a, b, LONG_BLOCK, false) {
-        return true;
-    }
-    if BLOCK <= a.len() {
-        same_blocks(a, b, BLOCK, true)
-    } else {
-        same_units(a, b)
-    }
+    (LONG_BLOCK <= a.len() && same_blocks(a, b, LONG_BLOCK, false)) || same_units(a, b)
 }
 
 // Whether a unit may stand in a component.

@@ -30,7 +30,7 @@ pub fn first_end(s: &[u16], k: usize) -> usize
 pub fn matches(prefix: &[u16], path: &[u16]) -> bool
     ensures { result ≡ matches prefix.now path.now }
 {
-    // not text::matches: compared by blocks, which is faster for long names
+    // not text::matches: compared as it stands first, which is faster for long names that match
     text::ends_component(prefix, path) && same_likely(prefix, &path[..prefix.len()])
 }
 

@@ -1,10 +1,12 @@
 // Texts: units that stand in memory or elsewhere. The rules of names and paths are code over any text, written once.
 ghost use Rattle.std.specs.Prelude.{◌≡◌, true, false, ◌+◌, ◌-◌, ◌≤◌, ◌<◌, List, ℕ, length, get_or, take, drop, eqb};
 ghost use Rattle.unc.specs.names.Names.{same_name, backslash, nothing_or_dots, good_component, good_name};
-ghost use Rattle.unc.specs.names.Code.{plain_length, good_count, form_within};
+ghost use Rattle.unc.specs.names.Code.{SameWithin, plain_length, good_count, form_within};
 ghost use Rattle.unc.specs.names.Paths.{leads, without_trail, matches};
 
-use crate::names::{self, BACKSLASH, DOT, Form, NAME_UNITS, PathError, is_plain, same_unit};
+use crate::names::{
+    self, BACKSLASH, DOT, Form, NAME_UNITS, PathError, difference, is_plain, same_unit,
+};
 
 pub trait Text: Copy {
     ghost units: { Self → List ℕ };
@@ -39,7 +41,7 @@ impl Text for &[u16] {
     }
 }
 
-// A text that is compared with names in memory: where it stands in memory too, by blocks, which is faster.
+// A text that is compared with names in memory.
 pub trait Name: Text {
     fn equals(self, name: &[u16]) -> bool
         ensures { result ≡ same_name name.now (Self.units self) };
@@ -51,9 +53,43 @@ impl Name for &[u16] {
     }
 }
 
-// Whether two names of one length are equal, unit by unit from the last on, since paths of one namespace begin alike.
+// Units of a name that are compared at once, folded.
+const BLOCK: usize = 8;
+
+// Whether the n units from `at` on are equal, folded or as they stand. The loop has no exit, so that it runs over many units at a time.
+#[tactic(auto, using(crate::proofs::names::WithinLaws::block))]
+fn same_block<A: Text, B: Text>(a: A, b: B, at: usize, n: usize, folds: bool) -> bool
+    requires { (at + n < 18446744073709551616) × ((at + n ≤ length (A.units a)) × (at + n ≤ length (B.units b))) }
+    ensures { (result ≡ true → SameWithin (A.units a) (B.units b) at (at + n)) × (folds ≡ true → SameWithin (A.units a) (B.units b) at (at + n) → result ≡ true) }
+{
+    let mut differ: u16 = 0;
+    for k in 0..n {
+        differ |= difference(a.unit(at + k), b.unit(at + k), folds);
+    }
+    differ == 0
+}
+
+// Whether two names of one length, of n units or more, are equal, folded or as they stand: n at a time from the last on, since paths of one namespace begin alike.
+#[tactic(auto, using(crate::proofs::names::WithinLaws::blocks))]
+pub(crate) fn same_blocks<A: Text, B: Text>(a: A, b: B, n: usize, folds: bool) -> bool
+    requires { (length (A.units a) ≡ length (B.units b)) × ((0 < n) × (n ≤ length (A.units a))) }
+    ensures { (result ≡ true → same_name (A.units a) (B.units b) ≡ true) × (folds ≡ true → result ≡ same_name (A.units a) (B.units b)) }
+{
+    let mut left = a.len();
+    // the first block overlaps the second where n does not divide the length, so that every block has n units: no iterator of blocks has this
+    while 0 < left {
+        let at = left.saturating_sub(n);
+        if !same_block(a, b, at, n, folds) {
+            return false;
+        }
+        left = at;
+    }
+    true
+}
+
+// Whether two names of one length are equal, unit by unit from the last on.
 #[tactic(auto, using(crate::proofs::names::WithinLaws::one_by_one))]
-pub fn same_units<A: Text, B: Text>(a: A, b: B) -> bool
+fn same_short<A: Text, B: Text>(a: A, b: B) -> bool
     requires { length (A.units a) ≡ length (B.units b) }
     ensures { result ≡ same_name (A.units a) (B.units b) }
 {
@@ -66,6 +102,18 @@ pub fn same_units<A: Text, B: Text>(a: A, b: B) -> bool
         }
     }
     true
+}
+
+// Whether two names of one length are equal: by blocks where they have one, so that it takes little longer where they differ in their first units only.
+pub fn same_units<A: Text, B: Text>(a: A, b: B) -> bool
+    requires { length (A.units a) ≡ length (B.units b) }
+    ensures { result ≡ same_name (A.units a) (B.units b) }
+{
+    if a.len() < BLOCK {
+        same_short(a, b)
+    } else {
+        same_blocks(a, b, BLOCK, true)
+    }
 }
 
 #[tactic(auto, using(crate::proofs::names::NameLaws::same_name_unlike))]

@@ -2,10 +2,10 @@
 use Prim.Native.Nat.{◌≤◌}
 use lib.ListN.{length}
 use Rattle.unc.specs.names.Code.{SameWithin}
-use Rattle.unc.proofs.names.same_blocks.Given as goal
+use Rattle.unc.proofs.text.same_blocks.Given as goal
 
 abbrev pub invariant-loop-left : goal.invariant-loop-left
-invariant-loop-left l = (l.left ≤ length l.a) × SameWithin l.a l.b l.left (length l.a)
+invariant-loop-left g l = (l.left ≤ length (g.A.Text.units l.a)) × SameWithin (g.A.Text.units l.a) (g.B.Text.units l.b) l.left (length (g.A.Text.units l.a))
 
 abbrev pub decreases-loop-left : goal.decreases-loop-left
-decreases-loop-left l = l.left
+decreases-loop-left g l = l.left

@@ -54,6 +54,9 @@ module _ (p : List ℕ) where
     pub place_longer : {key : List ℕ} {r : Bool} → key ≡ text_at 0 p → n < length key → r ≡ matches key path → r ≡ longer_match path n (place_of referrals p)
     place_longer e h f = longer (text_at 0 p) path n (rw (← e) h) (f ∙ ap (λ (t : List ℕ). matches t path) e) ∙ sym (longer_place path n)
 
+    pub place_unmatched : {key : List ℕ} → key ≡ text_at 0 p → matches key path ≡ false → false ≡ longer_match path n (place_of referrals p)
+    place_unmatched e h = sym (longer_place path n ∙ and_no_right (ltb n (length (text_at 0 p))) (ap (λ (t : List ℕ). matches t path) (sym e) ∙ h))
+
     pub longer_units : longer_match path n (place_of referrals p) ≡ true → n < length (text_at 0 p)
     longer_units h = ltb-true n (length (text_at 0 p)) (and_left _ _ (sym (longer_place path n) ∙ h))
 

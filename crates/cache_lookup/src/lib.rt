@@ -90,7 +90,11 @@ fn longer_match(cache: &[u16], i: usize, path: &[u16], units: usize) -> bool
     ensures { result ≡ longer_match path.now units (place_of referrals (place_at i cache.now)) }
 {
     let prefix = cache::places::text(cache, i, 0);
-    units < prefix.len() && unc::prefix::matches(prefix, path)
+    // not unc::prefix::matches: where it ends is tested before its length, and its units last (docs/DECISIONS.md, 94)
+    if !unc::text::ends_component(prefix, path) {
+        return false;
+    }
+    units < prefix.len() && unc::names::same_likely(prefix, &path[..prefix.len()])
 }
 
 // The place of the entry whose prefix is the longest that matches the path.

@@ -1,10 +1,9 @@
 // How a call ends: the walk that its rest makes, with its texts and its request, or a refusal.
-ghost use Rattle.std.specs.Prelude.{◌≡◌, true, ◌≤◌, length, take, Err};
+ghost use Rattle.std.specs.Prelude.{◌≡◌, true, ◌≤◌, length, take};
 ghost use Rattle.laws.specs.Lists.{pasted};
 ghost use Rattle.walk_steps.specs.question_request.Questions.{with_request};
 ghost use Rattle.walk_steps.specs.question_request.Code.{next_units, named};
 ghost use Rattle.walk_form.specs.held.Walks.{in_form, boot_in};
-ghost use Rattle.walk_calls.specs.calls.Calls.{refusal_number};
 ghost use Rattle.walk_calls.specs.call_end.Code.{path_refusal, left, walk_with, closed_rest};
 
 use unc::names::PathError;
@@ -20,22 +19,6 @@ pub enum Refusal {
     NotInOrder,
     OutOfForm,
     ShortBuffer,
-}
-
-#[tactic(auto, unfolding(crate::specs::calls::Calls::refusal_number))]
-impl From<Refusal> for u32 {
-    ghost from_gives = { λ refusal n. n ≡ refusal_number (Err refusal) };
-
-    fn from(refusal: Refusal) -> u32 {
-        match refusal {
-            Refusal::BadPath => 1,
-            Refusal::LongPath => 2,
-            Refusal::BadSettings => 3,
-            Refusal::NotInOrder => 4,
-            Refusal::OutOfForm => 5,
-            Refusal::ShortBuffer => 10,
-        }
-    }
 }
 
 #[tactic(auto, unfolding(crate::specs::call_end::Code::path_refusal))]

@@ -1,12 +1,29 @@
 // The calls of a host: a start, and the answers to its questions.
-ghost use Rattle.std.specs.Prelude.{◌≡◌};
+ghost use Rattle.std.specs.Prelude.{◌≡◌, Err};
 ghost use Rattle.walk_calls.specs.call_end.Code.{left};
 ghost use Rattle.walk_calls.specs.calls.Code.{answered};
-ghost use Rattle.walk_calls.specs.calls.Calls.{start_call, io_call, referral_call};
+ghost use Rattle.walk_calls.specs.calls.Calls.{refusal_number, start_call, io_call, referral_call};
 
 use crate::call_end::Refusal;
 use crate::resting::{caches_in_order, question};
 use walk_form::held::Walk;
+
+// The number of a refusal.
+#[tactic(auto, unfolding(crate::specs::calls::Calls::refusal_number))]
+impl From<Refusal> for u32 {
+    ghost from_gives = { λ refusal n. n ≡ refusal_number (Err refusal) };
+
+    fn from(refusal: Refusal) -> u32 {
+        match refusal {
+            Refusal::BadPath => 1,
+            Refusal::LongPath => 2,
+            Refusal::BadSettings => 3,
+            Refusal::NotInOrder => 4,
+            Refusal::OutOfForm => 5,
+            Refusal::ShortBuffer => 10,
+        }
+    }
+}
 
 // A new walk. The texts may hold anything, and a refusal leaves them.
 pub fn start(

@@ -78,6 +78,8 @@ pub fn shown_result(shown: Result<u16, ShowError>) -> u32
 {
     match shown {
         Ok(n) => n as u32,
+        // an arm of its own, so that the edit out_of_form_is_length plants its mistake in this case alone
+        Err(ShowError::OutOfForm) => 65536 * u32::from(ShowError::OutOfForm),
         Err(error) => 65536 * u32::from(error),
     }
 }
@@ -88,6 +90,8 @@ pub fn list_result(answer: Result<usize, ListError>) -> u64
 {
     match answer {
         Ok(n) => n as u64,
+        // an arm of its own: see shown_result, and the edit list_refused_as_units
+        Err(ListError::NotInOrder) => 4294967296 * u64::from(u32::from(ListError::NotInOrder)),
         Err(error) => 4294967296 * u64::from(u32::from(error)),
     }
 }

@@ -102,7 +102,9 @@ fn put_party(
         Kind::Dc => put(boot, out),
         Kind::Root => put_root(doms, path, q.entry, q.party, out),
         Kind::Sysvol => put_dc(doms, path, q.party, out),
-        Kind::Link | Kind::Io => put_target(refs, &path[..q.entry as usize], q.party, out),
+        Kind::Link => put_target(refs, &path[..q.entry as usize], q.party, out),
+        // an arm of its own, so that the edit party_where_round_began can plant its mistake in the other
+        Kind::Io => put_target(refs, &path[..q.entry as usize], q.party, out),
     }
 }
 
